@@ -1,8 +1,7 @@
-//! A sensor hub of one's own on this library: a bus with a controller and a sensor, whose alarms are served as a policy
-//! says that is written here, and whose wire a tap counts that is written here too.
+//! A sensor hub on this library: a bus with a controller and a sensor. It serves alarms by a policy of its own, and counts
+//! the wire's symbols by a tap of its own.
 //!
-//! `alarm` is what the hub does, `policy` whose requests it accepts, `tap` what it hears of the wire, and `fault` why it
-//! gives up.
+//! `alarm` is the hub's work, `policy` decides on requests, `tap` counts symbols, and `fault` says why the hub gives up.
 #![tactic(auto)]
 
 mod alarm;
@@ -16,7 +15,7 @@ use crate::policy::Quota;
 use crate::tap::Count;
 use std::process::ExitCode;
 
-/// Prints what the alarm came to, or why there was none.
+/// Prints the alarm's result, or why there was none.
 fn main(rt: HostRuntime) -> ExitCode {
     match tell(&rt) {
         Ok(()) => ExitCode::SUCCESS,
@@ -27,7 +26,7 @@ fn main(rt: HostRuntime) -> ExitCode {
     }
 }
 
-/// Prints each record of the alarms, of which one is accepted, and how many symbols their wire had.
+/// Prints each record of the alarms, one of which is accepted, and the number of their wire's symbols.
 fn tell<R: Print + AllocGlobal>(rt: &R) -> Result<(), HubFault> {
     let (mut quota, mut wire) = (Quota::new(1), Count::default());
     let records = alarm(rt.alloc(), &mut quota, &mut wire)?;

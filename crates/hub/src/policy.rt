@@ -1,6 +1,6 @@
 use i3c_bus::{Policy, Request, Verdict};
 
-/// Accepts so many interrupts, and nothing else: no device may join by itself, or take the role over.
+/// Accepts this many interrupts, and no other request: no device may join by itself, or take the role over.
 #[derive(Clone, Copy, Debug)]
 pub struct Quota {
     /// How many interrupts it still accepts.
@@ -10,7 +10,7 @@ pub struct Quota {
 }
 
 impl Quota {
-    /// Accepts so many.
+    /// Accepts this many.
     pub fn new(left: u32) -> Quota {
         Quota { left, refused: 0 }
     }
@@ -18,8 +18,8 @@ impl Quota {
 
 // The trait asks for one `ghost` line: which verdict the policy may give to a request, and what it is afterwards. The bus's
 // contracts speak of a policy by this line alone. `⊤` says nothing of it, which is enough for most programs: the bus is
-// proved to be right whatever its policy decides. Who wants to prove something of the policy itself says it here, as in
-// `λ old request verdict new. new.left ≤ old.left`; the check then asks for a proof of it in `verdict`.
+// proved to be right whatever its policy decides. To prove something of the policy itself, say it here, as in `λ old request
+// verdict new. new.left ≤ old.left`; the check then asks for a proof of it in `verdict`.
 impl Policy for Quota {
     ghost use Rattle.std.specs.Prelude.{⊤};
 

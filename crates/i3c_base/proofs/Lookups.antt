@@ -1,4 +1,4 @@
--- What stands in a place after a change.
+-- What is in a place after a change.
 use Rattle.std.proofs.Common.{◌≡◌, ℕ, zero, suc, ◌+◌, ◌≤◌, ◌<◌, Bool, true, false, List, [], ◌∷◌, length, get_or, set, replicate, Option, Some, None, option_map, ◌==◌, if◌then◌else◌, ◌⊎◌, inl, inr, sym, refl, ap, ◌∙◌, arith, zero-add}
 use Rattle.std.proofs.lemmas.Bool.{cases_eq, cases_lt, cond-true, cond-false, eq-eqb, eqb-true, ne_eqb}
 use Rattle.std.proofs.lemmas.List.{get_or-set_other, get_or-set_same, get_or_past, set_past}
@@ -12,11 +12,11 @@ use Rattle.i3c_base.specs.Local.{attach, drop_off}
 use Rattle.i3c_base.specs.Cutting.{Lost}
 use Rattle.i3c_base.specs.Serve.{emptied}
 
--- who is on a bus with these devices
+-- the population of a bus with these devices
 pub population_is : (st : State) (devices : List (Option Device)) (active : ℕ) → HasDevices st devices active → population st ≡ with_active devices active
 population_is st devices active has = λ t. with_active (has.0 t) (has.1 t)
 
--- each device of such a bus changed
+-- each device of a bus with these devices, changed
 pub each_on : (f : ℕ → ℕ → Device → Device) (st : State) (devices more : List (Option Device)) (active : ℕ) → HasDevices st devices active → more ≡ each_in (f active) devices → record st { devices = more } ≡ each (f st.active) st
 each_on f st devices more active has e = λ t. record st { devices = (e ∙ (λ k. each_in (f (sym has.1 k)) (sym has.0 k))) t }
 
@@ -47,7 +47,7 @@ set_at xs i j v d = elim (cases_eq j i) [
   | inr n ↦ inr (get_or-set_other xs i j v d n)
 ]
 
--- what stands somewhere after it was put there or was there
+-- an element found after a write was written there, or was found before
 pub set_from : {A : Type 0} (xs : List (Option A)) (i j : ℕ) (v : Option A) (y : A) → get_or (set xs i v) j None ≡ Some y → ((j ≡ i) × (v ≡ Some y)) ⊎ (get_or xs j None ≡ Some y)
 set_from xs i j v y h = elim (set_at xs i j v None) [ inl e ↦ inl (e.0, sym e.1 ∙ h) | inr e ↦ inr (sym e ∙ h) ]
 
@@ -68,7 +68,7 @@ set_default xs i j v d past = elim (cases_lt i (length xs)) [
   ]
 ]
 
--- what stands in a mapped option came from what stood there
+-- an element of a mapped option is the image of an element of the option
 pub option_map_from : {A B : Type 0} (f : A → B) (o : Option A) (y : B) → option_map f o ≡ Some y → (x : A) × (o ≡ Some x) × (f x ≡ y)
 option_map_from f None y h = absurd (none-some y h)
 option_map_from f (Some x) y h = (x, refl, same_Some (f x) y h)
@@ -80,7 +80,6 @@ each_at f st s = changed_at (λ t place. option_map (f t) place) st.devices s No
 pub each_from : (f : ℕ → Device → Device) (st : State) (s : ℕ) (d : Device) → device_at (each f st) s ≡ Some d → (x : Device) × (device_at st s ≡ Some x) × (f s x ≡ d)
 each_from f st s d h = option_map_from (f s) (device_at st s) d (sym (each_at f st s) ∙ h)
 
--- one device changed
 pub change_at : (s : ℕ) (f : Device → Device) (st : State) (t : ℕ) → device_at (change s f st) t ≡ option_map (λ d. if t == s then f d else d) (device_at st t)
 change_at s f st t =
     set_default st.devices s t (option_map f (device_at st s)) None (λ l. ap (option_map f) (get_or_past st.devices s None l)) ∙ go (t == s) (λ e. eqb-true t s e) (device_at st t) refl
@@ -134,7 +133,7 @@ pub kept_of-unkept : (o : Option Entry) → kept_of (option_map unkept o) ≡ No
 kept_of-unkept None = refl
 kept_of-unkept (Some e) = refl
 
--- nothing stands in the start's places
+-- the places at the start are empty
 pub replicate_at : {A : Type 0} (n k : ℕ) (v d : A) → (get_or (replicate n v) k d ≡ v) ⊎ (get_or (replicate n v) k d ≡ d)
 replicate_at zero k v d = inr refl
 replicate_at (suc n) zero v d = inl refl

@@ -4,7 +4,7 @@ use Rattle.std.proofs.Math.ListN.{get_or-map}
 use Rattle.std.proofs.lemmas.Bool.{both_ways, cases_Bool, cases_lt, le-leb, leb-true, lt-leb}
 use Rattle.i3c_base.specs.Cutting.{CutList, counted_from, cut_of, is_by, lost_by}
 
--- whoever is lost by a bit is lost by a later one
+-- a device that is lost by a bit is lost by each later one
 is_by_later : (first last : ℕ) (cut : Option ℕ) → first ≤ last → is_by first cut ≡ true → is_by last cut ≡ true
 is_by_later first last None l h = h
 is_by_later first last (Some bit) l h = let early = leb-true bit first h in le-leb bit last (omega arith)
@@ -12,7 +12,7 @@ is_by_later first last (Some bit) l h = let early = leb-true bit first h in le-l
 pub lost_later : (cuts : CutList) (first last s : ℕ) → first ≤ last → lost_by cuts first s ≡ true → lost_by cuts last s ≡ true
 lost_later cuts first last s l h = is_by_later first last (cut_of cuts s) l h
 
--- and whoever isn't lost by a later one isn't lost by the first
+-- and a device that isn't lost by a later bit isn't lost by an earlier one
 pub left_before : (cuts : CutList) (first last s : ℕ) → first ≤ last → lost_by cuts last s ≡ false → lost_by cuts first s ≡ false
 left_before cuts first last s l h = elim (cases_Bool (lost_by cuts first s)) [
   | inl t ↦ absurd (both_ways (lost_by cuts last s) h (lost_later cuts first last s l t))

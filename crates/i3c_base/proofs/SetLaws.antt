@@ -49,7 +49,7 @@ in_all p (suc n) a k h low high =
 usable_at : (a : ℕ) → a < 128 → bit_at usable_set a ≡ (if is_usable a then 1 else 0)
 usable_at a l = eqb-true _ _ (in_all (λ a. bit_at usable_set a == (if is_usable a then 1 else 0)) 128 0 a usable_bits (omega arith) (omega arith))
 
--- ---- membership
+-- ---- members of a set
 
 pub in_from : (set a : ℕ) → bit_at set a ≡ 1 → is_in set a ≡ true
 in_from set a e = eq-eqb (bit_at set a) 1 e
@@ -134,7 +134,7 @@ less_below set k l has =
     let apart : less set k ≢ set = λ e. absurd (omega (arith, sym gone ∙ (ap (λ n. bit_at n k) e ∙ in_to set k has))) in
     omega (arith, apart, and_le_l set (bit_not w128 (1 * 2 ^ k % 2 ^ 128)))
 
--- that address alone
+-- the bit of one address is that of this address alone
 only_bit : (set k a : ℕ) → k < 128 → bit_at (bit_and set (1 * 2 ^ k % 2 ^ 128)) a ≡ min (bit_at set a) (bit_at (2 ^ k) a)
 only_bit set k a l = bit_at_and set (1 * 2 ^ k % 2 ^ 128) a ∙ ap (λ n. min (bit_at set a) (bit_at n a)) (one_shl k 128 l)
 
@@ -144,7 +144,6 @@ only_same set k l = ap (λ n. n == 1) (omega (arith, only_bit set k k l, bit_at-
 pub only_other : (set k a : ℕ) → k < 128 → a ≢ k → is_in (bit_and set (1 * 2 ^ k % 2 ^ 128)) a ≡ false
 only_other set k a l other = out_from _ a (omega (arith, only_bit set k a l, bit_at-pow_other k a other))
 
--- the lowest
 pub lowest : (set : ℕ) → set ≢ 0 → set < 2 ^ 128 → (trailing_zeros w128 set < 128) × IsLowest set (trailing_zeros w128 set)
 lowest set some fits =
     let lies = bit_at-trailing_zeros w128 set (omega arith) fits in

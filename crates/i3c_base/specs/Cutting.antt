@@ -1,4 +1,4 @@
--- Drop-offs inside a frame: the bits at which devices lose power, and whom a frame loses so.
+-- Drop-offs inside a frame: the bits at which devices lose power, and which devices a frame loses.
 use Rattle.std.specs.Prelude.{◌≡◌, ℕ, ◌-◌, Bool, false, nat_le, List, Option, Some, None, map, min, option_map, replicate, slice_index_or}
 use Rattle.i3c_base.specs.declared.range.TheConstants.{SLOTS}
 
@@ -14,7 +14,7 @@ cut_of cuts s = slice_index_or cuts s None
 abbrev pub IsUncut : CutList → Type 0
 IsUncut cuts = (s : ℕ) → cut_of cuts s ≡ None
 
--- no cuts
+-- the cuts of a frame in which no device loses power
 unfoldable pub no_cuts : CutList
 no_cuts = replicate SLOTS None
 

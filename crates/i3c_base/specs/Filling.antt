@@ -4,7 +4,7 @@ use Rattle.std.proofs.lemmas.List.{length-take-le}
 use Rattle.i3c_base.specs.declared.bytes.Bytes.TheInside.{Inside}
 use Rattle.i3c_base.specs.declared.device.TheConstants.{REGISTERS}
 
--- so many bytes: these, and then 00
+-- a list of n bytes: these, and then 00
 abbrev pub filled_up : ℕ → List ℕ → List ℕ
 filled_up n bytes = bytes ++ replicate (n - length bytes) 0
 

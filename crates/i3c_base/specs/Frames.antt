@@ -72,7 +72,7 @@ changed_kinds Disable kinds had = without_kinds had (kind_set kinds)
 abbrev pub rekinded_at : ℕ → Option ℕ → (KindSet → KindSet) → ℕ → Device → Device
 rekinded_at active to f s d = if reaches_at active to s d then record d { kinds = f d.kinds } else d
 
--- the kinds of whom the command reaches, changed by f
+-- the kinds of each device that the command reaches, changed by f
 abbrev pub rekinded : Option ℕ → (KindSet → KindSet) → State → State
 rekinded to f st = each (rekinded_at st.active to f) st
 
@@ -98,7 +98,7 @@ limited Direction.Read most d = record d { most_read = most }
 abbrev pub with_length_at : ℕ → Option ℕ → Direction → ℕ → ℕ → Device → Device
 with_length_at active to way most s d = if reaches_at active to s d then limited way most d else d
 
--- SETMWL and SETMRL: whom the command reaches has this maximum length
+-- SETMWL and SETMRL: each device that the command reaches has this maximum length
 abbrev pub with_length : Option ℕ → Direction → ℕ → State → State
 with_length to way most st = each (with_length_at st.active to way most) st
 
@@ -119,7 +119,7 @@ length_bits (Some a) _ = 36
 abbrev pub IsUnaddressedIn : Population → ℕ → ℕ → Device → Type 0
 IsUnaddressedIn all f s d = (device_in all s ≡ Some d) × (d.address ≡ None) × (d.fixed ≡ Some f) × (s ≢ all.active)
 
--- slot s of this bus holds such a device
+-- slot s of this bus holds the device d, which has the static address f and no dynamic one
 abbrev pub IsUnaddressedAt : State → ℕ → ℕ → Device → Type 0
 IsUnaddressedAt st f s d = IsUnaddressedIn (population st) f s d
 
@@ -135,7 +135,7 @@ AllUnaddressedLostAt st f lost = (s : ℕ) (d : Device) → IsUnaddressedAt st f
 abbrev pub SomeUnaddressedLeftIn : Population → ℕ → Lost → Type 0
 SomeUnaddressedLeftIn all f lost = (s : ℕ) × (d : Device) × IsUnaddressedIn all f s d × (lost s ≡ false)
 
--- some such device of this bus isn't lost
+-- some device of this bus with the static address f and no dynamic one isn't lost
 abbrev pub SomeUnaddressedLeftAt : State → ℕ → Lost → Type 0
 SomeUnaddressedLeftAt st f lost = SomeUnaddressedLeftIn (population st) f lost
 
@@ -156,7 +156,7 @@ settled declared i new given = slice_set (released_at (known_in given i) given) 
 abbrev pub with_static_at : ℕ → ℕ → ℕ → ℕ → Device → Device
 with_static_at active f new s d = if takes_static active f s d then winner new d else d
 
--- SETDASA: who takes it at the static address f of the identity i has the new address, which enters the table
+-- SETDASA: the devices that take it, at the static address f of the identity i, have the new address, which enters the table
 abbrev pub with_static : ℕ → Identity → ℕ → State → State
 with_static f i new st = record (each (with_static_at st.active f new) st) {
   given = settled st.declared i new st.given;
@@ -181,7 +181,7 @@ moved old new given = slice_set (slice_set given old None) new (entry_in given o
 abbrev pub with_new_at : ℕ → ℕ → ℕ → ℕ → Device → Device
 with_new_at active old new s d = if reaches_at active (Some old) s d then readdressed new d else d
 
--- SETNEWDA: all who have the address `old` have the new one, with the entry of the table
+-- SETNEWDA: each device with the address `old` has the new one, with the entry of the table
 abbrev pub with_new : ℕ → ℕ → State → State
 with_new old new st = record (each (with_new_at st.active old new) st) {
   given = moved old new st.given;
@@ -254,8 +254,8 @@ abbrev pub length_of : Direction → Device → ℕ
 length_of Direction.Write d = d.most_written
 length_of Direction.Read d = d.most_read
 
--- the least maximum length in these places, the first of which is slot s, among the devices at an address but the active
--- controller; no more than there are registers
+-- the least maximum length in these places, from slot s on, among the devices at an address except the active controller; at
+-- most the number of registers
 abbrev pub least_length_from : ℕ → Direction → ℕ → ℕ → List (Option Device) → ℕ
 least_length_from active way a s [] = REGISTERS
 least_length_from active way a s (None ∷ places) = least_length_from active way a (suc s) places
@@ -290,7 +290,7 @@ Reads a (Answer.NoAnswer b) lost mid done = (b ≡ a) × NobodyLeftAt mid a lost
 Reads a Answer.NoEnd lost mid done = NobodyLeftAt mid a lost × AnyAt mid a × (done ≡ mid)
 Reads a Answer.Done lost mid done = ⊥
 
--- the bits of a read of so many bytes: a header, and after its ACK a word for each
+-- the bits of a read of `count` bytes: a header, and after its ACK a word for each byte
 abbrev pub read_bits : ℕ → Answer → ℕ
 read_bits count (Answer.NoAnswer b) = 9
 read_bits count _ = 9 + 9 * count
@@ -335,7 +335,7 @@ abbrev pub pending : Device → ℕ
 pending d = if is_empty d.waiting then 0 else 1
 
 -- what a device tells of a datum: of a status no protocol error and activity mode 0, of its speed no limit, and of its
--- capabilities I3C Basic 1.1 and nothing else
+-- capabilities I3C Basic 1.1 alone
 abbrev pub told_bytes : Datum → Device → List ℕ
 told_bytes Datum.Pid d = pid_bytes d.identity.pid
 told_bytes Datum.Bcr d = d.identity.bcr.0 ∷ []
@@ -346,7 +346,7 @@ told_bytes Datum.ReadLength d = 0 ∷ d.most_read ∷ 1 ∷ []
 told_bytes Datum.Speed d = 0 ∷ 0 ∷ []
 told_bytes Datum.Capabilities d = 0 ∷ 1 ∷ []
 
--- how many bytes a controller reads of a datum, at an address of which its table has this entry
+-- how many bytes a controller reads of a datum at an address with this table entry
 abbrev pub told_length : Datum → Option Entry → ℕ
 told_length Datum.Pid entry = 6
 told_length Datum.Bcr entry = 1

@@ -7,7 +7,7 @@ use Rattle.i3c_base.specs.State.{Device, State, attached, change, fixed_of, rais
 abbrev pub attach : ℕ → Setup → State → State
 attach s setup st = record st { devices = slice_set st.devices s (Some (attached (fixed_of st.declared setup.identity) setup)) }
 
--- a slot becomes empty, and nothing else changes
+-- a slot becomes empty; the rest is unchanged
 abbrev pub drop_off : ℕ → State → State
 drop_off s st = record st { devices = slice_set st.devices s None }
 

@@ -21,7 +21,7 @@ abbrev pub renamed : {R S : Type 0} → (R → S) → Tests R → Tests S
 renamed name [] = []
 renamed name (test ∷ rest) = (test.0, name test.1) ∷ renamed name rest
 
--- a wish to join
+-- the refusals of a wish to join
 abbrev pub join_tests : Option Device → Tests JoinRefusal
 join_tests place =
     (is_none place, JoinRefusal.NoDevice) ∷ (in_slot (λ d. is_some d.address) place, JoinRefusal.HasAddress)

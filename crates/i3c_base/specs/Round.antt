@@ -47,7 +47,7 @@ IsBeatenByLost st lost = (s : ℕ) × (d : Device) × IsHearer st s d × (lost s
 abbrev pub IsWinner : State → Lost → Identity → Type 0
 IsWinner st lost i = IsContender st lost i × ((j : Identity) → IsContender st lost j → ¬ IsBelow j i)
 
--- the address of a winner: the one kept for its identity, else the pick
+-- the address of a winner: the one kept for its identity, or otherwise the pick
 abbrev pub IsAddressFor : State → Identity → ℕ → Type 0
 IsAddressFor st i a = IsKept st i a ⊎ (IsUnknown st i × IsPick st a)
 
@@ -74,7 +74,7 @@ assigned lost i a st = record (each (assigned_at lost i a) st) {
 abbrev pub AnyPickable : State → Type 0
 AnyPickable st = (a : ℕ) × IsPickable st a
 
--- One round. Its last bit is 0 where the header is NACKed, else 73.
+-- One round. Its last bit is 0 if the header is NACKed, and 73 otherwise.
 abbrev pub Rounds : State → CutList → RoundReply → State → Type 0
 Rounds old cuts RoundReply.NoAddress new = ((a : ℕ) → ¬ IsPickable old a) × (new ≡ old)
 Rounds old cuts RoundReply.Done new = AnyPickable old × AllHearersLost old (lost_by cuts 0) × (new ≡ emptied (lost_by cuts 0) old)

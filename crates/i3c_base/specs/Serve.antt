@@ -28,8 +28,8 @@ abbrev pub is_empty : List Waiting → Bool
 is_empty [] = true
 is_empty (w ∷ ws) = false
 
--- the device drives this request: a join without an address, else the role request before the interrupt,
--- its choice only while that kind is enabled
+-- the device drives this request: a join without an address, otherwise the role request before the interrupt, and its choice
+-- only while that kind is enabled
 abbrev pub asks : Device → Request → Bool
 asks d Join = is_none d.address && (d.join_wish && d.kinds.join)
 asks d (Role a) = has_address a d && (d.role_wish && d.kinds.role)
@@ -74,7 +74,7 @@ NobodyDrives all = (s : ℕ) (r : Request) → drives_in all r s ≡ false
 abbrev pub NoneAsks : State → Type 0
 NoneAsks st = NobodyDrives (population st)
 
--- the first request, if there is one
+-- the request that wins a frame's first header, or none if nobody drives one
 abbrev pub IsFirstRequest : State → Option Request → Type 0
 IsFirstRequest st first = MatchOption first (NoneAsks st) (λ r. IsFirst st r)
 
@@ -82,7 +82,7 @@ IsFirstRequest st first = MatchOption first (NoneAsks st) (λ r. IsFirst st r)
 abbrev pub IsLowestDriver : State → Request → ℕ → Type 0
 IsLowestDriver st r s = (drives st r s ≡ true) × ((t : ℕ) → t < s → drives st r t ≡ false)
 
--- w waits at the front of what is in a slot
+-- the device in a slot has w at the front of its waiting interrupts
 abbrev pub IsFrontOf : Option Device → Waiting → Type 0
 IsFrontOf place w = (d : Device) × (rest : List Waiting) × (place ≡ Some d) × (d.waiting ≡ w ∷ rest)
 
@@ -105,7 +105,7 @@ verdict st policy (Interrupt a) = if is_some (entry_at st a) then policy.interru
 abbrev pub refuse_all : Fixed
 refuse_all = record { join = Refuse; role = Refuse; interrupt = Refuse }
 
--- the policy that has the verdict which was given on what was served, and refuses else
+-- the policy with the verdict that was given on what was served, and with refusals otherwise
 abbrev pub given_for : Served → Fixed
 given_for Served.Joining = record refuse_all { join = Accept }
 given_for (Served.WantsRole a) = record refuse_all { role = Accept }
@@ -160,11 +160,11 @@ without Join d = without_join d
 without (Role a) d = without_role d
 without (Interrupt a) d = without_front d
 
--- a record more
+-- one more record is at the end of the log
 abbrev pub recorded : Record → State → State
 recorded r st = record st { records = st.records ++ r ∷ [] }
 
--- an accepted interrupt at the address `at`, of which the lowest driver's raise is recorded
+-- an accepted interrupt at the address `at`: the raise of its lowest driver is recorded
 pub record IsRecorded (st : State) (policy : Fixed) (lost : Lost) (place : ℕ) (new : State) : Type 0 where
   pub at : ℕ
   pub slot : ℕ

@@ -15,7 +15,7 @@ use Rattle.i3c_base.specs.declared.requests.Record.{Record}
 use Rattle.i3c_base.specs.Numbers.{KindSet, same_identity}
 use Rattle.i3c_base.specs.Places.{changed}
 
--- a device
+-- a device in its slot, as the abstract bus has it
 pub record Device : Type 0 where
   pub identity : Identity
   pub willing : Bool  -- it takes the controller role when it is offered
@@ -30,8 +30,8 @@ pub record Device : Type 0 where
   pub most_written : ℕ  -- how many bytes a private write to it may have
   pub most_read : ℕ  -- how many a private read of it has
 
--- what the table keeps of an address: the BCR and DCR of who got it, the identity that it is kept for, and the static
--- address that is declared for who got it
+-- what the table keeps of an address: the BCR and DCR of its holder, the identity that it is kept for, and the static address
+-- declared for its holder
 pub record Entry : Type 0 where
   pub bcr : Bcr
   pub dcr : Dcr
@@ -43,7 +43,7 @@ pub record Board : Type 0 where
   pub legacy : List (Option Lvr)
   pub declared : List (Option Identity)
 
--- the bus
+-- the abstract bus
 pub record State : Type 0 where
   pub devices : List (Option Device)  -- by slot
   pub raised : List ℕ  -- by slot: its accepted raises, over all its stays
@@ -55,7 +55,7 @@ pub record State : Type 0 where
   pub listed : Bool  -- the list of DEFTGTS is current
   pub records : List Record
 
--- who is on a bus: the devices in their slots, and the slot of the active controller
+-- the population of a bus: the devices in their slots, and the slot of the active controller
 pub record Population : Type 0 where
   pub devices : List (Option Device)
   pub active : ℕ
@@ -73,7 +73,7 @@ HasDevices st devices active = (st.devices ≡ devices) × (st.active ≡ active
 abbrev pub with_active : List (Option Device) → ℕ → Population
 with_active devices active = record { devices = devices; active = active }
 
--- who is on this bus
+-- the population of this bus
 abbrev pub population : State → Population
 population st = with_active st.devices st.active
 
@@ -154,7 +154,7 @@ is_usable a = nat_le 0x08 a && (nat_le a 0x77 && (not (a == 0x3E) && (not (a == 
 abbrev pub IsUsable : ℕ → Type 0
 IsUsable a = (0x08 ≤ a) × (a ≤ 0x77) × (a ≢ 0x3E) × (a ≢ 0x5E) × (a ≢ 0x6E) × (a ≢ 0x76)
 
--- nothing stands at the place
+-- the place is empty
 abbrev pub IsFree : {A : Type 0} → List (Option A) → ℕ → Type 0
 IsFree places a = slice_index_or places a None ≡ None
 
@@ -174,7 +174,7 @@ IsPickable st a = IsPickableIn st.given st.legacy st.declared a
 abbrev pub IsPick : State → ℕ → Type 0
 IsPick st a = IsPickIn st.given st.legacy st.declared a
 
--- the address is a
+-- the optional address is there and is a
 abbrev pub is_the : ℕ → Option ℕ → Bool
 is_the a None = false
 is_the a (Some b) = b == a
@@ -204,7 +204,7 @@ IsTargetIn all a s d = (device_in all s ≡ Some d) × (d.address ≡ Some a) ×
 abbrev pub IsTargetAt : State → ℕ → ℕ → Device → Type 0
 IsTargetAt st a s d = IsTargetIn (population st) a s d
 
--- who may answer to an address: the device in a slot, or the legacy target with a static address
+-- a party that may answer to an address: the device in a slot, or the legacy target with a static address
 pub data Party : Type 0 where
   in_slot_of : ℕ → Party
   legacy_at : ℕ → Party
@@ -251,12 +251,12 @@ abbrev pub has_fixed : ℕ → Option Entry → Bool
 has_fixed f None = false
 has_fixed f (Some entry) = is_the f entry.fixed
 
--- the least address of a table, but for the controller's own, whose entry has the static address f
+-- the least address of a table, except the controller's own, whose entry has the static address f
 abbrev pub home_in : List (Option Entry) → ℕ → ℕ → Option ℕ
 home_in given own f = find (λ a. not (a == own) && has_fixed f (entry_in given a)) (range_with_len 0 ADDRESSES)
 
--- whom a new controller at `own` keeps the address a for, which a list told it of: the identity that is declared at the
--- static address there, where a is the least such address
+-- the identity for which a new controller at `own` keeps the address a of a list that it read: the one declared at the
+-- entry's static address, if a is the least address with that one
 abbrev pub kept_again : List (Option Identity) → List (Option Entry) → ℕ → ℕ → Entry → Option Identity
 kept_again declared given own a entry = option_and_then (λ f. if is_the a (home_in given own f) then declared_in declared f else None) entry.fixed
 
@@ -323,15 +323,15 @@ pub record IsBoard (board : Board) : Type 0 where
   pub apart : (a : ℕ) (i : Identity) → declared_in board.declared a ≡ Some i → IsFree board.legacy a
   pub once : (a b : ℕ) (i : Identity) → declared_in board.declared a ≡ Some i → declared_in board.declared b ≡ Some i → a ≡ b
 
--- empty slots
+-- the devices of a bus without any
 unfoldable pub no_devices : List (Option Device)
 no_devices = replicate SLOTS None
 
--- no raises
+-- the raises of a bus at its start: none in any slot
 unfoldable pub no_raises : List ℕ
 no_raises = replicate SLOTS 0
 
--- no address given
+-- the table of a bus in which no address is given
 unfoldable pub no_entries : List (Option Entry)
 no_entries = replicate ADDRESSES None
 

@@ -30,7 +30,7 @@ impl Bytes {
     ghost use Rattle.std.specs.Prelude.{◌≡◌, ◌≤◌, length};
     ghost use Rattle.i3c_base.specs.declared.device.TheConstants.{REGISTERS as MOST};
 
-    /// These bytes, of which there are at most sixteen.
+    /// These bytes; there are at most sixteen.
     pub fn new(bytes: &[u8]) -> Bytes
         requires { length bytes.now ≤ MOST }
         ensures { result ≡ bytes.now }

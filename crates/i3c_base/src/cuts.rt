@@ -89,7 +89,7 @@ impl Cuts {
         }
     }
 
-    /// These cuts, of which none is left.
+    /// These cuts; none is left.
     pub fn take(&mut self) -> Cuts
         ensures taken { result ≡ self.old }
         ensures left { self.new ≡ no_cuts }

@@ -27,21 +27,21 @@ impl Bcr {
     ghost use Rattle.std.specs.Prelude.{◌≡◌};
     ghost use Rattle.i3c_base.specs.Numbers.{is_capable, can_interrupt, has_byte};
 
-    /// It can be a controller: bits 7:6 are `01`.
+    /// The device can be a controller: bits 7:6 are `01`.
     pub fn capable(self) -> bool
         ensures { result ≡ is_capable self }
     {
         self.0 / 64 == 1
     }
 
-    /// It can interrupt: bit 1.
+    /// The device can interrupt: bit 1.
     pub fn interrupts(self) -> bool
         ensures { result ≡ can_interrupt self }
     {
         self.0 / 2 % 2 == 1
     }
 
-    /// Its interrupts have a mandatory byte: bit 2.
+    /// The device's interrupts have a mandatory byte: bit 2.
     pub fn has_byte(self) -> bool
         ensures { result ≡ has_byte self }
     {

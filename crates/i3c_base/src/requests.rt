@@ -38,7 +38,7 @@ pub struct Fixed {
     pub interrupt: Verdict,
 }
 
-/// What became of a frame's first request.
+/// The result of a frame's first request.
 #[derive(Clone, Copy, Debug, PartialEq, Eq)]
 pub enum Served {
     /// Nobody asked.
@@ -64,6 +64,6 @@ pub struct Record {
     pub number: u64,
     /// The address that the device had in the frame.
     pub at: Addr7,
-    /// The mandatory byte that was read, where one is due.
+    /// The mandatory byte that was read, if the device sends one.
     pub byte: Option<u8>,
 }

@@ -1,4 +1,4 @@
--- GETPID and its like as frames: who answers is seen before serving, and what is told after it.
+-- GETPID and its like as frames: the answer is known before serving, and the bytes after it.
 use Rattle.std.proofs.Common.{◌≡◌, ℕ, ◌+◌, ◌++◌, false, List, [], ◌∷◌, None, Some, Option, arith, ap, refl, subst, ◌∙◌}
 use Rattle.i3c_base.specs.declared.answers.Answer.{Answer}
 use Rattle.i3c_base.specs.declared.datum.Datum.{Datum}
@@ -34,7 +34,7 @@ pub same_entry : (old mid : State) (cuts : CutList) (served : Served) (word a : 
 same_entry old mid cuts served word a begins =
     let settled = settled_served old (given_for served) (lost_by cuts (word + 0)) served mid (begins.serves 0) in ap (λ (given : List (Option Entry)). entry_in given a) settled.given
 
--- what is told leaves the bus as it was found, but for who is lost
+-- a datum that is told leaves the bus as it found it, except for the devices lost
 found : (what : Datum) (a bit : ℕ) (answer : Answer) (cuts : CutList) (mid new : State) → LeavesBy cuts bit (Gets what a answer) mid new → new ≡ emptied (lost_by cuts bit) mid
 found what a bit answer cuts mid new h =
     h.2 ∙ ap (emptied (lost_by cuts bit)) (gets_keep (λ st done. done ≡ st) (λ st. refl) what a answer (lost_by cuts bit) mid h.0 h.1)

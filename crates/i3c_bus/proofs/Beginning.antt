@@ -22,7 +22,7 @@ use Rattle.i3c_step.proofs.Drivers.{Drives-from}
 use Rattle.i3c_step.proofs.Maps.{same_device}
 use Rattle.i3c_step.proofs.Uniqueness.{first_unique}
 
--- on a sound bus each front has a mandatory byte exactly where the table says that one is due
+-- on a sound bus each front has a mandatory byte exactly if the table says that there is one
 pub fits_table : (st : State) → IsSound st → FitsTable st
 fits_table st sound a s w driven front =
     let d = Drives-from st a s driven in
@@ -73,7 +73,7 @@ bits_alike true false h = absurd (omega (arith, h))
 bits_alike false true h = absurd (omega (arith, h))
 bits_alike false false h = refl
 
--- the word of a recorded interrupt is sent where a byte is due
+-- the word of a recorded interrupt is sent if it has a mandatory byte
 due_is : (st : State) (r : Record) (place : ℕ) → IsFirst st (Interrupt r.at) → IsWordBits st (Served.Recorded place) (if is_some r.byte then 9 else 0) → is_some r.byte ≡ byte_due (entry_at st r.at)
 due_is st r place first word =
     let same : Interrupt word.0 ≡ Interrupt r.at = first_unique st (Interrupt word.0) (Interrupt r.at) word.1 first in

@@ -33,7 +33,7 @@ pub record IsWayTo {T : Type 0} (gives : T → Symbol → T → Type 0) (tap fir
   pub begun : Tells gives tap first (IsBegun old cuts served old)
   pub on : Tells gives first second (IsOn old cuts served word)
 
--- it isn't refused
+-- an offer that isn't refused
 pub offer_free : (st : State) (cuts : CutList) (to : ℕ) → st.in_session ≡ false → first_refusal ((cuts_active st cuts, Refusal.ActiveStays) ∷ hand_checks st to) ≡ None
     → first_refusal ((st.in_session, Refusal.SessionOpen) ∷ (cuts_active st cuts, Refusal.ActiveStays) ∷ hand_checks st to) ≡ None
 offer_free st cuts to closed free = ap (λ b. first_refusal ((b, Refusal.SessionOpen) ∷ (cuts_active st cuts, Refusal.ActiveStays) ∷ hand_checks st to)) closed ∙ free
@@ -69,7 +69,7 @@ handed_carried gives tap first second last old mid new to slot holder taker cuts
       room = record { enough = λ full e. cc; lasts = λ full none. same ∙ (kept ∙ full) };
     }
 
--- nobody took it
+-- an offer that nobody took
 keeps_of : (st : State) (a : ℕ) (lost : Lost) (offer : Offer) → IsUntaken offer → IsOffered st a lost offer → KeepsRole a lost st st × IsRefusedBits st a (offer_bits offer)
 keeps_of st a lost Nobody untaken h = h
 keeps_of st a lost (Torn byte) untaken h = h

@@ -1,4 +1,4 @@
--- Who acknowledges a broadcast.
+-- The devices that acknowledge a broadcast.
 use Rattle.std.proofs.lemmas.Bool.{false≢true}
 use Rattle.std.proofs.Common.{◌≡◌, ℕ, ◌+◌, Bool, true, false, List, [], ◌∷◌, Option, Some, None, Result, Ok, Err, IsOk, option_map, if◌then◌else◌, ◌↔◌, sym, ap, ◌∙◌, subst, refl}
 use Rattle.i3c_base.specs.declared.answers.Answer.{Answer}
@@ -17,7 +17,7 @@ use Rattle.i3c_frame.specs.declared.symbols.Symbol.{Symbol}
 use Rattle.i3c_frame.specs.declared.symbols.Symbol.TheVariants.{Header, Repeated}
 use Rattle.i3c_bus.specs.Wire.{IsAck, IsAnswered, IsOn}
 
--- a change of each device leaves who is there
+-- a change of each device leaves the devices that are there
 left_each : (f : ℕ → Device → Device) (st : State) (lost : Lost) → AnyLeft (each f st) lost ↔ AnyLeft st lost
 left_each f st lost = (
   λ l. let x = each_from f st l.0 l.1.0 l.1.1 in (l.0, (x.0, x.1), l.2, l.3),
@@ -33,7 +33,7 @@ left_serves st policy gone lost (WantsRole a) new h = subst (λ (x : State). Any
 left_serves st policy gone lost (Recorded place) new h = subst (λ (x : State). AnyLeft x lost ↔ AnyLeft st lost) (sym h.left) (left_each (λ s d. if drives st (Interrupt h.at) s then without_front d else d) st lost)
 left_serves st policy gone lost Torn new h = subst (λ (x : State). AnyLeft x lost ↔ AnyLeft st lost) (sym h.left) (left_each (λ s d. if drives st (Interrupt h.at) s then without_front d else d) st lost)
 
--- a change that leaves addresses leaves who is at one
+-- a change that keeps addresses leaves the devices at one
 address_if : (b : Bool) (d e : Device) → e.address ≡ d.address → (if b then e else d).address ≡ d.address
 address_if true d e h = h
 address_if false d e h = refl
@@ -66,7 +66,7 @@ answered_before st policy gone served new cuts (Some at) begun answer h a =
     let same = left_at_serves st policy gone (lost_by cuts (begun + 18)) at served new h in
     (λ e. same.0 (a.0 e), λ l. a.1 (same.1 l))
 
--- the answer to a command says who was left
+-- the answer to a command says which devices were left
 pub answered_by : (st : State) (cuts : CutList) (to : Option ℕ) (begun : ℕ) (heard : Result (Unit {0}) NoAnswer)
     → ((a : ℕ) → to ≡ Some a → IsOk heard ↔ SomeLeftAt st a (lost_by cuts (begun + 18))) → IsAnswered st cuts to begun (answer_of heard)
 answered_by st cuts None begun heard h = tt

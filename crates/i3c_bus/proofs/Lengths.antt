@@ -54,7 +54,6 @@ sound_with_length to way most st sound = record {
       subst IsFitting x.2 (fitting_if (reaches st to s x.0) (limited way most x.0) x.0 (limited_by IsFitting way most x.0 fits fits) fits);
 }
 
--- and whole
 whole_with_length : (table : Table) (list : List Entry) (to : Option ℕ) (way : Direction) (most : ℕ) (st : State) → IsWhole st table list → IsWhole (with_length to way most st) table list
 whole_with_length table list to way most st whole = record {
   sound = sound_with_length to way most st whole.sound;

@@ -108,7 +108,7 @@ list_before old mid words keeps h = (
 count_cons : {A : Type 0} (x : Option A) (xs : List (Option A)) → count_by is_some (x ∷ xs) ≡ cond (is_some x) 1 0 + count_by is_some xs
 count_cons x xs = sum_by-cons (λ o. cond (is_some o) 1 0) x xs
 
--- what is made of each entry is counted as the entry was
+-- each mapped entry is counted as the entry was
 pub count_mapped : {A B : Type 0} (f : A → B) (xs : List (Option A)) → count_by is_some (map (option_map f) xs) ≡ count_by is_some xs
 count_mapped f [] = refl
 count_mapped f (None ∷ xs) = count_cons None (map (option_map f) xs) ∙ (ap (λ n. 0 + n) (count_mapped f xs) ∙ sym (count_cons None xs))

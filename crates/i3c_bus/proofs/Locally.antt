@@ -15,7 +15,7 @@ use Rattle.i3c_step.specs.Step.{first_refusal}
 use Rattle.i3c_step.proofs.Acting.{acting}
 use Rattle.i3c_step.proofs.Soundness.{sound_role_wishes, sound_step, sound_wishes}
 
--- what a lookup gave is what stands there
+-- the result of a lookup is the value at the place
 pub none_there : {A : Type 0} (o : Option A) → is_some o ≡ false → o ≡ None
 none_there None h = refl
 none_there (Some x) h = absurd (true≢false h)

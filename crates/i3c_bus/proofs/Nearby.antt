@@ -19,7 +19,6 @@ use Rattle.i3c_bus.proofs.Owning.{KeepsList, copied_still, keeps_change}
 near_same : (s : ℕ) (st : State) → IsNear s st st
 near_same s st = record { devices = set-get_or st.devices s None; raised = set-get_or st.raised s 0; rest = refl; own = λ a. refl }
 
--- a raise
 near_raise : (s : ℕ) (byte : Option ℕ) (st : State) → IsNear s st (raise s byte st)
 near_raise s byte st = record {
   devices = set-set st.devices s _ _ ∙ set-get_or st.devices s None;

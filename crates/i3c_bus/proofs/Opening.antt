@@ -39,7 +39,7 @@ tells_parts gives tap first second new old cuts served word after IsOwn sent beg
   (begun.0, word, on.0, own.0, begun.2, sent, on.2, own.2, refl),
 )
 
--- the requests are turned down, those without an address hear the session, and who was cut is gone
+-- the requests are turned down, the devices without an address hear the session, and cut devices are gone
 pub opening_carried : {T : Type 0} (gives : T → Symbol → T → Type 0) (tap first second last : T) (old mid new : Held) (cuts : CutList) (served : Served) (word bits holder : ℕ)
     → HandFits (Hand.Role holder) old.state → cuts_active old.state cuts ≡ false → ((lost : Lost) → Serves old.state refuse_all lost served old.state) → IsWordBits old.state served word
     → place_of served ≡ None → bits ≡ word + header_bits served

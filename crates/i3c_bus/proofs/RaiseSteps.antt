@@ -51,7 +51,7 @@ raise_free st s byte d there other none =
     table : Option Device → Bool → Checks
     table o active = (is_none o, NoDevice) ∷ (active, IsActive) ∷ renamed raise_refusal (raise_faults byte (is_uncounted (raised_at st s)) o)
 
--- what stands there, where something does
+-- the value at a place that holds one
 pub given_there : {A : Type 0} (o : Option A) → is_some o ≡ true → (a : A) × (o ≡ Some a)
 given_there None h = absurd (true≢false (sym h))
 given_there (Some a) h = (a, refl)

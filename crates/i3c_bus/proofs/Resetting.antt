@@ -19,7 +19,7 @@ reset_at active s place = option_map (λ d. if s == active then without_role d e
 abbrev hears_reset : ℕ → ℕ → Option Device → Option Device
 hears_reset active s place = heard_at active None Code.Rstdaa [] s place
 
--- who hears it, and the active controller's own wish
+-- the devices that hear it, and the active controller's own wish
 other_place : (b : Bool) (o : Option Device) → b ≡ false → option_map (λ d. if not b then unaddressed_device d else d) o ≡ option_map (λ d. if b then without_role d else unaddressed_device d) o
 other_place b None e = refl
 other_place b (Some d) e = ap (λ c. Some (if not c then unaddressed_device d else d)) e ∙ sym (ap (λ c. Some (if c then without_role d else unaddressed_device d)) e)

@@ -55,7 +55,7 @@ pub acknowledged : (st new : State) (answer : RoundReply) → st.in_session ≡ 
 acknowledged st new answer opened step e =
     uncut_is_acknowledged st no_cuts new none_uncut (subst (λ a. Rounds st no_cuts a new) e (answered st new answer opened step))
 
--- and who gets an address hears no more
+-- and a device that gets an address hears no more
 pub fewer_hear : (st new : State) (answer : RoundReply) → st.in_session ≡ true → Step st (Event.Round no_cuts) (Reply.Round answer) new → (a : ℕ) (i : Identity) → answer ≡ RoundReply.Assigned a i
     → hearers new.devices < hearers st.devices
 fewer_hear st new answer opened step a i e = one_fewer st no_cuts a i new (subst (λ r. Rounds st no_cuts r new) e (answered st new answer opened step))
@@ -74,7 +74,6 @@ sends_of gives first second st new cuts result answer is none step told =
     (subst (λ r. Tells gives first second (IsWire st (Event.Round cuts) (rounded_reply r) new)) is told) in
     (sent.0, sent.1, (step_of st new cuts result answer is none step, sent.2))
 
--- a round more
 rounds_more : (old : State) (answers : List RoundReply) (wire : List Symbol) (mid : State) (answer : RoundReply) (more : List Symbol) (new : State) → AreRounds old answers wire mid
     → Sends mid (Event.Round no_cuts) (Reply.Round answer) more new → AreRounds old (answers ++ answer ∷ []) (wire ++ more) new
 rounds_more old [] wire mid answer more new none sends =
@@ -82,7 +81,6 @@ rounds_more old [] wire mid answer more new none sends =
 rounds_more old (first ∷ later) wire mid answer more new are sends =
     (are.0, are.1, are.2 ++ more, are.3, rounds_more are.0 later are.2 mid answer more new are.4 sends, ap (λ w. w ++ more) are.5 ∙ append_assoc are.1 are.2 more)
 
--- and its wire
 pub told_more : {T : Type 0} (gives : T → Symbol → T → Type 0) (first second third : T) (old mid new : State) (answers : List RoundReply) (answer : RoundReply)
     → Tells gives first second (λ wire. AreRounds old answers wire mid) → Tells gives second third (λ wire. Sends mid (Event.Round no_cuts) (Reply.Round answer) wire new)
     → Tells gives first third (λ wire. AreRounds old (answers ++ answer ∷ []) wire new)

@@ -1,4 +1,4 @@
--- SETDASA and SETNEWDA as frames: who answers is seen before serving, and what they leave is a whole bus.
+-- SETDASA and SETNEWDA as frames: the answer is known before serving, and the result is a whole bus.
 use Rattle.std.proofs.Common.{◌≡◌, ℕ, ◌+◌, ◌++◌, ◌&&◌, ◌||◌, Bool, true, false, not, List, [], ◌∷◌, Option, Some, None, Result, Ok, Err, IsOk, MatchResult, is_none, is_some, option_map, if◌then◌else◌, ◌↔◌, inl, inr, sym, ap, ◌∙◌, subst, refl, get_or}
 use Rattle.std.proofs.lemmas.Bool.{false≢true}
 use Rattle.i3c_base.specs.declared.answers.Answer.{Answer}
@@ -23,7 +23,7 @@ use Rattle.i3c_bus.specs.Wire.{IsNewPart, IsStaticPart}
 use Rattle.i3c_bus.proofs.Heard.{answered_before}
 use Rattle.i3c_bus.proofs.Transfers.{Leaves}
 
--- a change that leaves both addresses leaves who is at a static one
+-- a change that keeps both addresses leaves the devices at a static one
 same_if : (b : Bool) (d e : Device) → e.address ≡ d.address → e.fixed ≡ d.fixed → ((if b then e else d).address ≡ d.address) × ((if b then e else d).fixed ≡ d.fixed)
 same_if true d e h k = (h, k)
 same_if false d e h k = (refl, refl)
@@ -78,7 +78,7 @@ no_target_or st a h = go (is_none (entry_at st a)) refl h
     go true e k = absurd (false≢true (sym k))
     go false e k = (e, k)
 
--- who is a target before serving is one after it
+-- a target before serving is a target after it
 pub target_same : (old mid : State) (a : ℕ) → IsSettled old mid → is_no_target old a ≡ false → is_no_target mid a ≡ false
 target_same old mid a s h =
     let parts = no_target_or old a h in

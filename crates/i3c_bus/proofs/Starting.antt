@@ -28,7 +28,7 @@ either None (Some w) h = omega arith
 either (Some v) None h = omega arith
 either (Some v) (Some w) h = omega arith
 
--- what stands at neither of two places is counted in neither
+-- two empty places add nothing to either count
 both_counted : {A B : Type 0} (xs : List (Option A)) (ys : List (Option B)) (low n : ℕ) → ((k : ℕ) → low ≤ k → k < low + n → (get_or xs k None ≡ None → get_or ys k None ≡ None → ⊥))
     → n ≤ count_by is_some xs + count_by is_some ys
 both_counted xs ys low zero h = omega arith

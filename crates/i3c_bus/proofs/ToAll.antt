@@ -25,7 +25,8 @@ pub begun_uncut : (old mid : State) (cuts : CutList) (served : Served) (word : �
 begun_uncut old mid cuts served word begins left =
     ap (λ s. is_some (cut_of cuts s)) (Stands-serves old (given_for served) _ served mid (begins.serves 0)).0 ∙ left
 
--- such an event: its tests are a frame's, and it does what the frame announces, which leaves records, active controller and session
+-- an announced event: its tests are a frame's, and it does what the frame announces, which leaves records, active controller
+-- and session
 pub record IsAnnounced (event : Event) (cuts : CutList) (old : State) (bits : ℕ) (f : State → State) (served : Served) (new : State) (IsOwn : List Symbol → Type 0) : Type 0 where
   pub tests : checks old event ≡ frame_checks old cuts
   pub acts : Announces old bits f (given_for served) cuts (Reply.Framed (record { served = served; answer = Answer.Done })) new → Acts old event (Reply.Framed (record { served = served; answer = Answer.Done })) new

@@ -10,7 +10,7 @@ use Rattle.i3c_base.specs.State.{Device, has_address, is_the}
 use Rattle.i3c_device.specs.Hearing.{enabled}
 use Rattle.i3c_device.specs.Wishing.{choice_of}
 
--- a request is driven by a device of this address and these wishes, of which each kind is enabled
+-- a device with this address and these wishes drives the request, and its kind is enabled
 abbrev is_driven : Option ℕ → Bool → Bool → Bool → Request → Bool
 is_driven address join role empty Join = is_none address && join
 is_driven address join role empty (Role a) = is_the a address && role

@@ -1,4 +1,4 @@
--- What becomes of a policy that a frame is lent.
+-- What a frame asks of the policy that it is lent.
 use Rattle.std.specs.Prelude.{◌≡◌, MatchOption}
 use Rattle.i3c_base.specs.declared.requests.Request.{Request}
 use Rattle.i3c_base.specs.declared.requests.Verdict.{Verdict}

@@ -10,7 +10,7 @@ use Rattle.i3c_ibi.specs.declared.serving.Reading.{Reading}
 use Rattle.i3c_ibi.specs.declared.serving.Reading.TheVariants.{Quiet, Refused, Joined, WantsRole, Due, Torn}
 use Rattle.i3c_bus.specs.Wire.{IsBegun, IsOn}
 
--- the records after what was read: one that is due is appended
+-- the records after a reading: its record is appended, if it has one
 abbrev pub kept_in : Reading → List Record → List Record
 kept_in (Due r) records = records ++ r ∷ []
 kept_in Quiet records = records

@@ -15,7 +15,7 @@ abbrev pub holder_of : Hand → ℕ
 holder_of (Role holder) = holder
 holder_of (Session holder) = holder
 
--- it is a session
+-- the hand has a session
 abbrev pub is_session : Hand → Bool
 is_session (Role holder) = false
 is_session (Session holder) = true
@@ -47,7 +47,7 @@ abbrev pub handed_reply : Result (ℕ × Served) (ℕ × Served × HandFault) �
 handed_reply (Ok handed) = Reply.Handed handed.1
 handed_reply (Err kept) = unhanded kept.1 kept.2
 
--- the hand after it
+-- the hand after `hand_over`
 abbrev pub handed_hand : Result (ℕ × Served) (ℕ × Served × HandFault) → Hand
 handed_hand (Ok handed) = Hand.Role handed.0
 handed_hand (Err kept) = Hand.Role kept.0

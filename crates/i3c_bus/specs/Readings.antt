@@ -8,12 +8,12 @@ use Rattle.i3c_base.specs.State.{Device, State, device_at, in_slot, population}
 use Rattle.i3c_device.specs.declared.slot_set.SlotSet.{SlotSet}
 use Rattle.i3c_device.specs.Walks.{AreDrivers}
 
--- its address, if there is a device and it has one
+-- the address of the device in a slot, if it has one
 abbrev pub address_of : Option Device → Option ℕ
 address_of None = None
 address_of (Some d) = d.address
 
--- what it is
+-- the identity of the device in a slot
 abbrev pub identity_of : Option Device → Option Identity
 identity_of None = None
 identity_of (Some d) = Some d.identity
@@ -23,7 +23,8 @@ abbrev pub waiting_of : Option Device → ℕ
 waiting_of None = 0
 waiting_of (Some d) = length d.waiting
 
--- it keeps a copy of the list: the list is current, and it isn't the active controller's, has an address and can be a controller
+-- the device in slot s keeps a copy of the list: the list is current, and the device isn't the active controller, has an
+-- address and can be a controller
 abbrev pub keeps_copy : State → ℕ → Bool
 keeps_copy st s = st.listed && (not (s == st.active) && in_slot (λ d. is_some d.address && is_capable d.identity.bcr) (device_at st s))
 

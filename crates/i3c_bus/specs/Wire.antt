@@ -1,4 +1,4 @@
--- What an event puts on the wire, for whoever taps it. An ACK depends on who is left at its bit.
+-- The symbols that an event puts on the wire, for a tap. An ACK depends on the devices left at its bit.
 use Rattle.std.specs.Prelude.{◌≡◌, ◌↔◌, ℕ, ◌+◌, Bool, true, false, List, [], ◌∷◌, ◌++◌, map, Option, Some, None, is_some, IfSome, MatchOption, ⊤}
 use Rattle.i3c_base.specs.declared.answers.Answer.{Answer}
 use Rattle.i3c_base.specs.declared.answers.RoundReply.{RoundReply}
@@ -45,8 +45,8 @@ use Rattle.i3c_bus.specs.Whole.{the_table}
 abbrev pub IsAck : State → CutList → ℕ → Bool → Type 0
 IsAck st cuts bit ack = (ack ≡ true) ↔ AnyLeft st (lost_by cuts bit)
 
--- an accepted interrupt: its header, and the mandatory byte where one is due, as the new record says: the byte that its
--- drivers put on the lines, which one of them that isn't lost by its T ended
+-- an accepted interrupt: its header, and the mandatory byte if it has one, as the new record says: the byte that its drivers
+-- put on the lines, ended by a driver that isn't lost by its T
 abbrev pub IsRecordedWire : State → CutList → State → List Symbol → Type 0
 IsRecordedWire old cuts new wire =
     (r : Record) × (new.records ≡ old.records ++ r ∷ []) × (is_some r.byte ≡ byte_due (entry_at old r.at))
@@ -62,7 +62,7 @@ IsTornWire old cuts wire =
     × IsByteRead old cuts a byte
     × (wire ≡ Start ∷ request_header (Interrupt a) true ∷ Symbol.Word (record { byte = byte; t = true }) ∷ [])
 
--- the beginning of a frame by what it served: START, the header of the broadcast or of who won it, and what was read
+-- the beginning of a frame by what it served: START, the header of the broadcast or of the winner, and the byte that was read
 abbrev pub IsBegun : State → CutList → Served → State → List Symbol → Type 0
 IsBegun old cuts Served.Quiet new wire = (ack : Bool) × IsAck old cuts 0 ack × (wire ≡ Start ∷ Header 0x7E false ack ∷ [])
 IsBegun old cuts Served.Refused new wire = (r : Request) × IsFirst old r × (wire ≡ Start ∷ request_header r false ∷ [])
@@ -71,13 +71,13 @@ IsBegun old cuts (Served.WantsRole a) new wire = wire ≡ Start ∷ request_head
 IsBegun old cuts (Served.Recorded place) new wire = IsRecordedWire old cuts new wire
 IsBegun old cuts Served.Torn new wire = IsTornWire old cuts wire
 
--- how a frame goes on to its own part: at once where nobody asked, else after a repeated START and the broadcast header,
--- whose ninth bit comes nine bits after the mandatory word
+-- how a frame goes on to its own part: at once without a request, and otherwise after a repeated START and the broadcast
+-- header, whose ninth bit comes nine bits after the mandatory word
 abbrev pub IsOn : State → CutList → Served → ℕ → List Symbol → Type 0
 IsOn old cuts Served.Quiet word wire = wire ≡ []
 IsOn old cuts _ word wire = (ack : Bool) × IsAck old cuts (word + 9) ack × (wire ≡ Repeated ∷ Header 0x7E false ack ∷ [])
 
--- a frame: its beginning, the way to its own part, and its own part, which comes after so many bits
+-- a frame: its beginning, the way to its own part, and its own part, given the number of the bits before it
 abbrev pub IsFrameWire : State → CutList → Served → State → (ℕ → List Symbol → Type 0) → List Symbol → Type 0
 IsFrameWire old cuts served new IsOwn wire =
     (begun : List Symbol) × (word : ℕ) × (on : List Symbol) × (own : List Symbol)
@@ -88,20 +88,20 @@ abbrev pub IsAnswered : State → CutList → Option ℕ → ℕ → Answer → 
 IsAnswered st cuts None begun answer = ⊤
 IsAnswered st cuts (Some a) begun answer = (answer ≡ Answer.Done) ↔ SomeLeftAt st a (lost_by cuts (begun + 18))
 
--- ENEC or DISEC after so many bits
+-- ENEC or DISEC, with `begun` bits of the frame before it
 abbrev pub IsKindsPart : State → CutList → Change → Option ℕ → Kinds → Answer → ℕ → List Symbol → Type 0
 IsKindsPart old cuts change to kinds answer begun wire = IsKindsWire change to kinds answer wire × IsAnswered old cuts to begun answer
 
--- SETDASA, the code 87, after so many bits: acknowledged exactly where somebody without a dynamic address is left at the static one by the
--- ninth bit of its header
+-- SETDASA, the code 87, with `begun` bits of the frame before it: acknowledged exactly if a device without a dynamic address
+-- is left at the static one by the ninth bit of its header
 abbrev pub IsStaticPart : State → CutList → ℕ → ℕ → Answer → ℕ → List Symbol → Type 0
 IsStaticPart old cuts f to answer begun wire = IsSettingWire 0x87 f to answer wire × ((answer ≡ Answer.Done) ↔ SomeUnaddressedLeftAt old f (lost_by cuts (begun + 18)))
 
--- SETNEWDA, the code 88, after so many bits
+-- SETNEWDA, the code 88, with `begun` bits of the frame before it
 abbrev pub IsNewPart : State → CutList → ℕ → ℕ → Answer → ℕ → List Symbol → Type 0
 IsNewPart old cuts a to answer begun wire = IsSettingWire 0x88 a to answer wire × IsAnswered old cuts (Some a) begun answer
 
--- SETMWL or SETMRL after so many bits
+-- SETMWL or SETMRL, with `begun` bits of the frame before it
 abbrev pub IsLengthPart : State → CutList → Direction → Option ℕ → ℕ → Answer → ℕ → List Symbol → Type 0
 IsLengthPart old cuts way to most answer begun wire = IsLengthWire way to most answer wire × IsAnswered old cuts to begun answer
 
@@ -130,8 +130,8 @@ IsListOf st words =
 abbrev pub IsListPart : State → List Symbol → Type 0
 IsListPart st wire = (words : List Word) × IsListOf st words × IsListWire words wire
 
--- a private read after so many bits: acknowledged where a legacy target stands or a device is left at its header's ninth bit,
--- and its bytes as those there drive them
+-- a private read, with `begun` bits of the frame before it: acknowledged if a legacy target is there or a device is left at
+-- its header's ninth bit, and its bytes as those there drive them
 abbrev pub IsReadPart : State → CutList → ℕ → Answer → ℕ → List Symbol → Type 0
 IsReadPart old cuts a answer begun wire =
     (read : Read) × (read_answer a read ≡ answer) × ((is_read_acknowledged read ≡ true) ↔ AnyAnswers old a (lost_by cuts (begun + 9))) × IsDataAs old a cuts (begun + 10) read × IsReadWire a read wire
@@ -141,13 +141,13 @@ abbrev pub IsWritePart : State → CutList → ℕ → List ℕ → Answer → �
 IsWritePart old cuts a bytes answer begun wire =
     (write : Write) × (write_answer a write ≡ answer) × ((is_write_acknowledged write ≡ true) ↔ AnyAnswers old a (lost_by cuts (begun + 9))) × IsWrittenBy old a write × IsWriteWire a bytes write wire
 
--- the bus as a frame's own part finds it, which loses these devices by its last bit and leaves the bus so: its first request
--- is served, and who is lost is still there
+-- the bus as a frame's own part finds it, if the frame loses these devices by its last bit and leaves the bus `new`: the
+-- first request is served, and the lost devices are still there
 abbrev pub IsFound : State → Lost → State → State → Type 0
 IsFound old lost new mid = (served : Served) × Serves old (given_for served) lost served mid × (new ≡ emptied lost mid)
 
--- a datum that is asked for after so many bits: acknowledged where a device is left at its header's ninth bit, and its bytes
--- as those there drive them
+-- a read of a datum, with `begun` bits of the frame before it: acknowledged if a device is left at its header's ninth bit,
+-- and its bytes as the devices there drive them
 abbrev pub IsToldPart : State → CutList → Datum → ℕ → Answer → ℕ → List Symbol → Type 0
 IsToldPart mid cuts what a answer begun wire =
     (get : Told) × (get_answer a get ≡ answer) × ((is_get_acknowledged get ≡ true) ↔ SomeLeftAt mid a (lost_by cuts (begun + 18)))
@@ -166,14 +166,14 @@ IsUntaken Offer.Nobody = ⊤
 IsUntaken (Offer.Torn byte) = ⊤
 IsUntaken (Offer.Taken s) = ⊥
 
--- an offer that nobody took, after so many bits: acknowledged where a willing device is left at its header's ninth bit, and
--- its byte as it is read then. Who is cut by its last bit is gone, and nobody else
+-- an offer that nobody took, with `begun` bits of the frame before it: acknowledged if a willing device is left at its
+-- header's ninth bit, and its byte as it is read then. The devices cut by its last bit are gone, and no others
 abbrev pub IsDeclinedPart : State → CutList → ℕ → State → ℕ → List Symbol → Type 0
 IsDeclinedPart old cuts to new begun wire =
     (offer : Offer) × IsUntaken offer × ((is_acknowledged offer ≡ true) ↔ SomeTakes old to (lost_by cuts (begun + 18))) × IsReadAs old to cuts (begun + 19) offer
     × (new ≡ emptied (lost_by cuts (begun + offer_bits offer)) old) × IsOfferWire to offer wire
 
--- one that the new active controller took
+-- the wire of an offer that the new active controller took
 abbrev pub IsHandedWire : State → Event → List Symbol → Type 0
 IsHandedWire new (HandOver to cuts) wire = IsOfferWire to (Offer.Taken new.active) wire
 IsHandedWire new _ wire = ⊥
@@ -201,8 +201,8 @@ IsOpenWire wire = (code : Word) × IsWord 0x07 code × (wire ≡ Symbol.Word cod
 abbrev pub IsServeWire : State → CutList → Served → State → List Symbol → Type 0
 IsServeWire old cuts served new wire = (begun : List Symbol) × IsBegun old cuts served new begun × (wire ≡ begun ++ Stop ∷ [])
 
--- the wire of a round with this answer, whose bits are those that the contest of the hearers' numbers reads, and whose ACKs
--- are those of who hears and is left
+-- the wire of a round with this answer: its bits are those that the contest of the hearers' numbers reads, and its ACKs are
+-- those of the hearers that are left
 abbrev pub IsRoundWireOf : State → CutList → RoundReply → List Symbol → Type 0
 IsRoundWireOf st cuts answer wire = (round : Round) × (reply_of round ≡ answer) × IsRead st cuts round × IsAcknowledged st cuts round × IsRoundWire round wire
 

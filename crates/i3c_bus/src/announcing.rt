@@ -22,7 +22,7 @@ impl Bus {
     ghost use Rattle.i3c_step.specs.Replies.{announced_reply};
 
     /// Clears each address but the active controller's, what is kept for identities, and wishes for the role (RSTDAA, I3C
-    /// Basic 5.1.9.3.3). It serves the first request before.
+    /// Basic 5.1.9.3.3). It serves the first request first.
     #[inline(always)]
     pub fn reset<P: Policy, T: Tap>(
         &mut self,
@@ -50,8 +50,8 @@ impl Bus {
         })
     }
 
-    /// Tells the devices of all addresses (DEFTGTS, I3C Basic 5.1.9.3.7): whoever can be a controller and has an address
-    /// keeps the list. It serves the first request before.
+    /// Tells the devices of all addresses (DEFTGTS, I3C Basic 5.1.9.3.7): each device that can be a controller and has an
+    /// address keeps the list. The first request is served before it.
     #[inline(always)]
     pub fn list<P: Policy, T: Tap>(
         &mut self,
@@ -78,7 +78,7 @@ impl Bus {
         })
     }
 
-    /// The addresses are cleared, but for the active controller's.
+    /// The addresses are cleared, except the active controller's.
     fn clear(&mut self)
         ensures state { self.new.state ≡ reset self.old.state }
         ensures room { self.new.room ≡ self.old.room }

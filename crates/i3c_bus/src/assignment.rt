@@ -9,7 +9,7 @@ use i3c_step::ActiveStays;
 /// What a whole assignment came to.
 #[derive(Clone, Debug, PartialEq, Eq, Drop)]
 pub struct Assignment {
-    /// What became of the first request, which the opening frame turns down.
+    /// The result of the first request, which the opening frame turns down.
     pub served: Served,
     /// The addresses that were given, in order, each with the identity that has it.
     pub given: ArrayVec<(Addr7, Identity), SLOTS>,

@@ -198,7 +198,7 @@ impl Bus {
     }
 
     /// The request that a slot's device would drive if each kind of its events was enabled, if it would drive one: a join
-    /// without an address, else the role request before the interrupt (I3C Basic 5.1.6).
+    /// without an address, otherwise the role request before the interrupt (I3C Basic 5.1.6).
     pub fn wish(&self, slot: Slot) -> Option<Request>
         ensures { result ≡ wish_of (device_at self.now.state slot) }
     {
@@ -212,7 +212,7 @@ impl Bus {
         self.records.as_slice()
     }
 
-    /// Lets the oldest records go, as many as these, or all where there are fewer. Nothing else changes, and room stays.
+    /// Lets the oldest `count` records go, or all if there are fewer. The rest is unchanged, and room stays.
     ///
     /// A reply counts the records that are left: the next one is at the place behind them.
     pub fn forget(&mut self, count: usize)
@@ -301,8 +301,8 @@ impl Bus {
         Ok(())
     }
 
-    /// The slot's device raises an interrupt, with its mandatory byte where one is due (I3C Basic 5.1.6.2). It answers
-    /// the raise's number: each slot has a count of its own, which begins with 1 and never goes back.
+    /// The slot's device raises an interrupt, with its mandatory byte if it sends one (I3C Basic 5.1.6.2). It answers the
+    /// raise's number: each slot has a count of its own, which begins with 1 and never goes back.
     pub fn raise(&mut self, slot: Slot, byte: Option<u8>) -> Result<u64, RaiseRefusal>
         ensures step { Step self.old.state (Event.Raise slot byte) (raised_reply result) self.new.state }
         ensures around { StaysAround self.old self.new }
@@ -336,9 +336,8 @@ impl Bus {
         i3c_handoff::ask(&mut self.devices, active, slot)
     }
 
-    /// What a slot's device keeps of the list that was sent last, while that is current: one that has an address and can
-    /// be a controller, and isn't the active one (I3C Basic 5.1.9.3.7). It is what its table is made of where it takes the
-    /// role.
+    /// The copy that a slot's device keeps of the last list, while that is current: a device keeps it that has an address and
+    /// can be a controller, and isn't the active one (I3C Basic 5.1.9.3.7). The copy becomes its table if it takes the role.
     pub fn copy(&self, slot: Slot) -> Option<&List>
         ensures { MatchOption result (keeps_copy self.now.state slot ≡ false) (λ list. (keeps_copy self.now.state slot ≡ true) × IsCopyOf self.now.state list.now) }
     {

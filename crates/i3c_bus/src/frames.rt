@@ -45,8 +45,8 @@ impl Bus {
     ghost use Rattle.i3c_step.specs.declared.events.Event.{Event};
     ghost use Rattle.i3c_bus.specs.declared.hand.Hand.{Hand};
 
-    /// Serves the first request, and nothing else (I3C Basic 5.1.6.2): the policy decides on it, unless its address has
-    /// no row. There must be room for a record, or it is made before the first bit: `OutOfMemory` changes nothing.
+    /// Serves the first request, and does no more (I3C Basic 5.1.6.2): the policy decides on it, unless its address has no
+    /// row. There must be room for a record, or it is made before the first bit: `OutOfMemory` changes nothing.
     pub fn serve<P: Policy, T: Tap>(
         &mut self,
         role: &Role,
@@ -71,8 +71,8 @@ impl Bus {
     }
 
     /// Enables kinds of events (ENEC, I3C Basic 5.1.9.3.1): of the devices at an address, or without one of all but the
-    /// active controller. It serves the first request before. It answers `NoAnswer` without a frame where the table has
-    /// no row at the address or it is the active controller's own.
+    /// active controller. It serves the first request first. It answers `NoAnswer`, without a frame, if the table has no row
+    /// at the address or it is the active controller's own.
     pub fn enec<P: Policy, T: Tap>(
         &mut self,
         role: &Role,
@@ -204,7 +204,8 @@ impl Bus {
         })
     }
 
-    /// The own part of ENEC and DISEC, after so many bits of the frame: whom it reaches hears it, and who is cut is gone.
+    /// The own part of ENEC and DISEC, with `begun` bits of the frame before it: each device that it reaches hears it, and
+    /// cut devices are gone.
     fn command_kinds<T: Tap>(
         &mut self,
         change: Change,
@@ -339,7 +340,7 @@ impl Bus {
     }
 }
 
-/// Appends the record that is due, if one is, and answers what the frame served.
+/// Appends the record of the reading, if it has one, and answers what the frame served.
 fn record_due(records: &mut Vec<Record>, reading: &Reading) -> Served
     requires { vec_len records.old < vec_capacity records.old }
     ensures served { result ≡ served_as (length records.old.items) reading.now }

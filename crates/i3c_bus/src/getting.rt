@@ -23,8 +23,8 @@ impl Bus {
     ghost use Rattle.i3c_bus.specs.declared.hand.Hand.{Hand};
 
     /// Asks the devices at an address for a datum (GETPID and its like, I3C Basic 5.1.9.3). It serves the first request
-    /// before. It answers `NoAnswer` without a frame where the table has no row at the address or it is the active
-    /// controller's own.
+    /// first. It answers `NoAnswer`, without a frame, if the table has no row at the address or it is the active controller's
+    /// own.
     #[inline(always)]
     pub fn get<P: Policy, T: Tap>(
         &mut self,
@@ -55,7 +55,8 @@ impl Bus {
         })
     }
 
-    /// The own part of GETPID and its like, after so many bits of the frame: the datum is told, and who is cut is gone.
+    /// The own part of GETPID and its like, with `begun` bits of the frame before it: the datum is told, and cut devices are
+    /// gone.
     fn get_part<T: Tap>(
         &mut self,
         what: Datum,

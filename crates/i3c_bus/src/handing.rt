@@ -17,10 +17,10 @@ impl Bus {
     ghost use Rattle.i3c_bus.specs.Hands.{HandFits, hand_refusal, handed_hand, handed_reply};
     ghost use Rattle.i3c_bus.specs.declared.hand.Hand.{Hand};
 
-    /// Offers the role to the device at an address (GETACCCR, I3C Basic 5.1.9.3.16), and turns requests down. Where a
-    /// willing device there acknowledges and its byte is read whole, it is the active controller, with its copy of the
-    /// list as its table, and the role comes back as its own. Where the offer is refused, or nobody takes it, the role
-    /// comes back with the same holder; what a frame that nobody answered has served and cut stands.
+    /// Offers the role to the device at an address (GETACCCR, I3C Basic 5.1.9.3.16), and turns requests down. Where a willing
+    /// device there acknowledges and its byte is read whole, it is the active controller, with its copy of the list as its
+    /// table, and the role comes back as its own. If the offer is refused, or nobody takes it, the role comes back with the
+    /// same holder. A frame that nobody answered has still served a request and lost the devices cut in it.
     pub fn hand_over<T: Tap>(
         &mut self,
         role: Role,

@@ -13,8 +13,8 @@ mod getting;
 mod hand;
 mod handing;
 mod limiting;
+mod outcome;
 mod replying;
-mod runs;
 mod sessions;
 mod setting;
 mod still;
@@ -35,5 +35,5 @@ pub use i3c_step::{
     ActiveStays, Command, DropRefusal, Event, FrameFault, Framed, OutOfMemory, Refusal, Reply,
     RunFault, SetFault, SlotTaken, StartFault, TRANSFER, TargetFault, WRITE_KEPT, WriteFault,
 };
-pub use runs::{Outcome, run_events};
+pub use outcome::{Outcome, run_events};
 pub use still::Still;

@@ -18,7 +18,7 @@ impl Bus {
     ghost use Rattle.i3c_bus.specs.Hands.{HandFits};
     ghost use Rattle.i3c_bus.specs.declared.hand.Hand.{Hand};
 
-    /// A frame that serves the first request and does nothing else, and its reply.
+    /// A frame that serves the first request and does no more, and its reply.
     #[inline(never)]
     pub(crate) fn serve_reply<P: Policy, T: Tap>(
         &mut self,
@@ -89,7 +89,7 @@ impl Bus {
         *reply = Reply::from(self.list(role, policy, tap, cuts));
     }
 
-    /// A read, and its reply.
+    /// A private read, and its reply.
     #[inline(never)]
     pub(crate) fn read_reply<P: Policy, T: Tap>(
         &mut self,

@@ -45,7 +45,7 @@ impl Bus {
         Ok((Session { role }, served))
     }
 
-    /// A session is open, and whoever has no address hears it.
+    /// Opens a session: each device without an address hears it.
     fn open(&mut self)
         ensures state { self.new.state ≡ opened self.old.state }
         ensures room { self.new.room ≡ self.old.room }
@@ -88,8 +88,8 @@ impl Session {
     ghost use Rattle.i3c_step.specs.declared.replies.Reply.{Reply};
     ghost use Rattle.i3c_bus.specs.declared.hand.Hand.{Hand};
 
-    /// One round: the least identity of those who hear gets its address (I3C Basic 5.1.4.2). Where the active controller
-    /// is cut, it is refused.
+    /// One round: the least identity of the hearers gets its address (I3C Basic 5.1.4.2). It is refused if the active
+    /// controller is cut.
     pub fn round<T: Tap>(
         &self,
         bus: &mut Bus,

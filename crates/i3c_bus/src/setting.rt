@@ -30,8 +30,8 @@ impl Bus {
     ghost use Rattle.i3c_bus.specs.declared.hand.Hand.{Hand};
 
     /// Gives the device at a static address, while it has no dynamic one, this dynamic address (SETDASA, I3C Basic
-    /// 5.1.9.3.10). It serves the first request before. Without a frame it answers `NoAnswer` where no identity is declared
-    /// at the static address, and `BadAddress` where the new one may not be picked and isn't kept for that identity.
+    /// 5.1.9.3.10). It serves the first request first. It sends no frame and answers `NoAnswer` if no identity is declared at
+    /// the static address, and `BadAddress` if the new one may not be picked and isn't kept for that identity.
     #[inline(always)]
     pub fn set_static<P: Policy, T: Tap>(
         &mut self,
@@ -66,8 +66,8 @@ impl Bus {
     }
 
     /// Gives the device at a dynamic address another one in its place (SETNEWDA, I3C Basic 5.1.9.3.11). It serves the first
-    /// request before. Without a frame it answers `NoAnswer` where the table has no row at the old address or it is the
-    /// active controller's own, and `BadAddress` where the new one may not be picked.
+    /// request first. It sends no frame and answers `NoAnswer` if the table has no row at the old address or it is the active
+    /// controller's own, and `BadAddress` if the new one may not be picked.
     #[inline(always)]
     pub fn set_new<P: Policy, T: Tap>(
         &mut self,
@@ -101,7 +101,8 @@ impl Bus {
         })
     }
 
-    /// The own part of SETDASA, after so many bits of the frame: who takes it has the new address, and who is cut is gone.
+    /// The own part of SETDASA, with `begun` bits of the frame before it: the devices that take it have the new address, and
+    /// cut devices are gone.
     #[inline(always)]
     fn static_part<T: Tap>(
         &mut self,
@@ -129,7 +130,7 @@ impl Bus {
         answer
     }
 
-    /// Where the static address is acknowledged, who takes SETDASA there has the new address, and so has the table.
+    /// If the static address is acknowledged, the devices that take SETDASA there have the new address, and so has the table.
     #[inline(always)]
     fn give_static(
         &mut self,
@@ -160,8 +161,8 @@ impl Bus {
         }
     }
 
-    /// The own part of SETNEWDA, after so many bits of the frame: who acknowledges has the new address, and who is cut is
-    /// gone.
+    /// The own part of SETNEWDA, with `begun` bits of the frame before it: the devices that acknowledge have the new address,
+    /// and cut devices are gone.
     fn new_part<T: Tap>(
         &mut self,
         old: Addr7,
@@ -186,7 +187,7 @@ impl Bus {
         answer
     }
 
-    /// Where the old address is acknowledged, who has it has the new one, and the table's row moves there.
+    /// If the old address is acknowledged, its devices have the new one, and the table's row moves there.
     fn give_new(&mut self, old: Addr7, new: Addr7, cuts: &Cuts, begun: u16) -> Result<(), NoAnswer>
         requires few { begun ≤ 18 }
         requires there { is_no_target self.old.state old ≡ false }

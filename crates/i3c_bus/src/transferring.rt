@@ -24,10 +24,10 @@ impl Bus {
     ghost use Rattle.i3c_bus.specs.Wire.{IsReadPart, IsWritePart};
     ghost use Rattle.i3c_bus.specs.declared.hand.Hand.{Hand};
 
-    /// Reads the first registers of the devices, as many as their maximum lengths allow, or all of the legacy target, at an
-    /// address (private read, I3C Basic 5.1.2.2, 5.1.9.3.6). It serves the first request before. It answers `NoAnswer`
-    /// without a frame where the table has no row at the address or it is the active controller's own, and no legacy target
-    /// stands there.
+    /// Reads at an address: the first registers of its devices, as many as their maximum lengths allow, or all registers of
+    /// its legacy target (private read, I3C Basic 5.1.2.2, 5.1.9.3.6). The first request is served before it. Without a
+    /// legacy target there, it answers `NoAnswer` and sends no frame if the table has no row at the address or it is the
+    /// active controller's own.
     #[inline(always)]
     pub fn read<P: Policy, T: Tap>(
         &mut self,
@@ -58,8 +58,8 @@ impl Bus {
     }
 
     /// Writes bytes into the first registers of the devices, as many as their maximum lengths allow, or up to sixteen of the
-    /// legacy target, at an address (private write, I3C Basic 5.1.2.2, 5.1.9.3.5). It serves the first request before. More
-    /// bytes are `TooLong`; `NoAnswer` without a frame is as for `read`.
+    /// legacy target, at an address (private write, I3C Basic 5.1.2.2, 5.1.9.3.5). It serves the first request first. It
+    /// answers `TooLong` for more bytes, and `NoAnswer` as `read` does.
     pub fn write<P: Policy, T: Tap>(
         &mut self,
         role: &Role,
@@ -71,7 +71,7 @@ impl Bus {
     ) -> Result<Framed, WriteFault>
         requires fits { HandFits (Hand.Role role.now) self.old.state }
         ensures asks { Asks P.verdict_gives policy.old policy.new self.old.state (wrote_reply result) }
-        // the event keeps so many bytes of a write that is too long
+        // the event keeps the first `WRITE_KEPT` bytes of a write that is too long
         ensures carried { Carries self.old self.new (Event.WriteTo to (record { items = take WRITE_KEPT bytes.now }) (given_by (wrote_reply result)) cuts.now) (wrote_reply result) (Hand.Role role.now) (Tells T.note_gives tap.old tap.new) }
     {
         if self.cuts_active(cuts) {
@@ -113,7 +113,7 @@ impl Bus {
         *reply = Reply::from(self.write(role, to, bytes.as_slice(), policy, tap, cuts));
     }
 
-    /// The own part of a read, after so many bits of the frame: the bytes are read, and who is cut is gone.
+    /// The own part of a read, with `begun` bits of the frame before it: the bytes are read, and cut devices are gone.
     fn read_part<T: Tap>(&mut self, from: Addr7, tap: &mut T, cuts: &Cuts, begun: u16) -> Answer
         requires few { begun ≤ 18 }
         requires left { cuts_active self.old.state cuts.now ≡ false }
@@ -129,8 +129,8 @@ impl Bus {
         answer
     }
 
-    /// The own part of a write, after so many bits of the frame: whoever acknowledges takes the bytes, and who is cut is
-    /// gone.
+    /// The own part of a write, with `begun` bits of the frame before it: each party that acknowledges takes the bytes, and
+    /// cut devices are gone.
     fn write_part<T: Tap>(
         &mut self,
         to: Addr7,

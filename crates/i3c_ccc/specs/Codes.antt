@@ -16,7 +16,7 @@ byte_of_datum Datum.Status = 0x90
 byte_of_datum Datum.Speed = 0x94
 byte_of_datum Datum.Capabilities = 0x95
 
--- the byte of a code
+-- the byte that stands for a command code on the wire
 abbrev pub byte_of_code : Code → ℕ
 byte_of_code Enec = 0x00
 byte_of_code Disec = 0x01
@@ -41,7 +41,7 @@ IsUnnamed b =
     (b ≢ 0x00) × (b ≢ 0x01) × (b ≢ 0x06) × (b ≢ 0x07) × (b ≢ 0x08) × (b ≢ 0x09) × (b ≢ 0x0A) × (b ≢ 0x80) × (b ≢ 0x81) × (b ≢ 0x87) × (b ≢ 0x88)
     × (b ≢ 0x89) × (b ≢ 0x8A) × (b ≢ 0x8B) × (b ≢ 0x8C) × (b ≢ 0x8D) × (b ≢ 0x8E) × (b ≢ 0x8F) × (b ≢ 0x90) × (b ≢ 0x91) × (b ≢ 0x94) × (b ≢ 0x95)
 
--- `Other` stands for unnamed bytes alone
+-- `Other` has only bytes without a name
 abbrev pub IsNamedWhereKnown : Code → Type 0
 IsNamedWhereKnown (Other byte) = IsUnnamed byte
 IsNamedWhereKnown Enec = Unit {0}

@@ -20,7 +20,7 @@ wanted (word ∷ rest) = if takes_kinds word.byte then 2 else 1
 abbrev pub has_good_t : Word → Bool
 has_good_t word = (count_ones word.byte + bit_of word.t) % 2 == 1
 
--- of the words that a command has, the first one that lacks or has a wrong T; the first of them is word n
+-- the first of a command's words that is missing or has a wrong T; the words begin with number n
 abbrev pub first_fault : ℕ → ℕ → List Word → Option CccFault
 first_fault n zero words = None
 first_fault n (suc more) [] = Some (Truncated n)

@@ -29,7 +29,7 @@ has_twice (entry ∷ rest) = is_among (address_of entry) rest || has_twice rest
 abbrev pub HaveOwnAddresses : List Entry → Type 0
 HaveOwnAddresses entries = has_twice entries ≡ false
 
--- marks at the addresses of the entries, each of which has its own
+-- marks at the addresses of the entries, whose addresses are distinct
 pub record AreMarked (marks : List Bool) (entries : List Entry) : Type 0 where
   pub long : length marks ≡ ADDRESSES
   pub marked : (a : ℕ) → a < ADDRESSES → slice_index_or marks a false ≡ is_among a entries
@@ -44,13 +44,13 @@ device_at a given = Device a given.dcr given.bcr given.fixed
 abbrev pub legacy_at : ℕ → Lvr → Entry
 legacy_at a lvr = Legacy a lvr
 
--- the entries of what stands at addresses, by address upwards, where a is the first
+-- one entry for each place that holds something, by address upwards, where a is the address of the first place
 abbrev pub upwards : {A : Type 0} → (ℕ → A → Entry) → ℕ → List (Option A) → List Entry
 upwards entry a [] = []
 upwards entry a (None ∷ rest) = upwards entry (suc a) rest
 upwards entry a (Some x ∷ rest) = entry a x ∷ upwards entry (suc a) rest
 
--- the own entry, if there is one
+-- the entry of the active controller's own address, if it is given
 abbrev pub own_entry : Table → ℕ → List Entry
 own_entry table own = option_to_list (option_map (device_at own) (entry_in table.given own))
 

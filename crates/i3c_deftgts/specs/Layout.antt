@@ -20,7 +20,7 @@ bytes_of (Legacy address lvr) = 0x00 ∷ lvr.0 ∷ 0x00 ∷ (2 * address) ∷ []
 abbrev pub list_bytes : List Entry → List ℕ
 list_bytes entries = (length entries - 1) ∷ flat_map bytes_of entries
 
--- the bytes of words
+-- the bytes that words carry
 abbrev pub bytes : List Word → List ℕ
 bytes words = map (λ word. word.byte) words
 

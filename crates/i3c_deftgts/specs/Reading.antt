@@ -14,7 +14,7 @@ use Rattle.i3c_deftgts.specs.Layout.{bytes}
 abbrev pub address_in : ℕ → Option ℕ
 address_in byte = if byte / 2 == 0 then None else Some (byte / 2)
 
--- the static address in the fourth byte of the first entry, where 7E stands for none
+-- the static address in the fourth byte of the first entry; 7E means none
 abbrev pub first_static : ℕ → Option ℕ
 first_static byte = if byte / 2 == 0x7E then None else address_in byte
 
@@ -46,15 +46,15 @@ entries_in _ = []
 abbrev pub has_wrong_t : Word → Bool
 has_wrong_t word = not ((count_ones word.byte + bit_of word.t) % 2 == 1)
 
--- so many words have no count, or no entry, or an entry of fewer than four words
+-- this number of words has no count, or no entry, or an entry of fewer than four words
 abbrev pub is_cut_short : ℕ → Bool
 is_cut_short words = nat_lt words 5 || not ((words - 1) % 4 == 0)
 
--- a count is that of so many entries, the first one counted or not
+-- a count fits this number of entries, with the first one counted or not
 abbrev pub is_count : ℕ → ℕ → Bool
 is_count count entries = (count == entries) || (count + 1 == entries)
 
--- the first byte is no count of so many entries
+-- the first byte is no count of `entries` entries
 abbrev pub is_miscounted : List ℕ → ℕ → Bool
 is_miscounted [] entries = false
 is_miscounted (count ∷ rest) entries = not (is_count count entries)

@@ -7,7 +7,7 @@ abbrev pub IsDynamic : Option ℕ → Type 0
 IsDynamic None = Unit {0}
 IsDynamic (Some a) = 0x08 ≤ a
 
--- what stands in a slot has none below
+-- the device in a slot, if any, has no address below 8
 abbrev pub IsDynamicIn : Option Device → Type 0
 IsDynamicIn None = Unit {0}
 IsDynamicIn (Some d) = IsDynamic d.address

@@ -5,11 +5,11 @@ use Rattle.i3c_device.specs.declared.answering.Answering.{Answering}
 use Rattle.i3c_device.specs.declared.slot_set.SlotSet.{SlotSet}
 use Rattle.i3c_device.specs.Sets.{has}
 
--- the set that stands at an address
+-- the set of slots at an address
 abbrev pub set_at : List SlotSet → ℕ → SlotSet
 set_at sets a = slice_index_or sets a (record { bits = 0 })
 
--- the slots that stand at an address are those that have it
+-- the set kept for an address has just the slots with that address
 pub record AreFound (kept : Answering) : Type 0 where
   pub every : length kept.addresses ≡ SLOTS
   pub all : length kept.slots ≡ ADDRESSES

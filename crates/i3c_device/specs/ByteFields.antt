@@ -6,7 +6,7 @@ use Rattle.i3c_base.specs.State.{Device}
 abbrev pub is_one : ℕ → Bool
 is_one byte = byte == 1
 
--- 1 for a truth, and 0 else
+-- 1 for true, and 0 for false
 abbrev pub bit_of : Bool → ℕ
 bit_of is_so = if is_so then 1 else 0
 
@@ -14,12 +14,12 @@ bit_of is_so = if is_so then 1 else 0
 abbrev pub address_of : ℕ → Option ℕ
 address_of byte = if byte == 128 then None else Some byte
 
--- the byte that stands for an address or none
+-- the byte for an address or for none
 abbrev pub byte_of : Option ℕ → ℕ
 byte_of None = 128
 byte_of (Some a) = a
 
--- it has seven bits, if it is an address
+-- an optional address has seven bits
 abbrev pub IsSmall : Option ℕ → Type 0
 IsSmall None = Unit {0}
 IsSmall (Some a) = a < 128

@@ -19,7 +19,7 @@ kinds_of kinds = record { interrupt = kinds.interrupt; role = kinds.role; join =
 abbrev pub kinds_in : Enabled → ℕ → KindSet
 kinds_in enabled s = record { interrupt = has enabled.interrupts s; role = has enabled.roles s; join = has enabled.joins s }
 
--- what stands in a slot, with its kinds
+-- the device in a slot, with its kinds
 abbrev pub seen_in : Enabled → ℕ → Option Device → Option Device
 seen_in enabled s place = option_map (under (kinds_in enabled s)) place
 

@@ -9,7 +9,7 @@ use Rattle.i3c_device.specs.Sets.{has}
 abbrev pub within : SlotSet → (ℕ → Option Device → Option Device) → ℕ → Option Device → Option Device
 within among f s place = if has among s then f s place else place
 
--- what stands in each of these slots fails the test
+-- the device in each of these slots, if any, fails the test
 abbrev pub IsNowhere : (ℕ → Option Device → Bool) → SlotSet → List (Option Device) → Type 0
 IsNowhere test among places = (s : ℕ) → s < SLOTS → has among s ≡ true → test s (slice_index_or places s None) ≡ false
 

@@ -1,4 +1,4 @@
--- What is asked of whatever stands in a slot.
+-- Properties of the device in a slot, if any.
 use Rattle.std.specs.Prelude.{ℕ, length, Option, Some, None, slice_get}
 use Rattle.i3c_base.specs.declared.datum.Direction.{Direction}
 use Rattle.i3c_base.specs.declared.device.TheConstants.{REGISTERS}
@@ -8,17 +8,17 @@ use Rattle.i3c_base.specs.Frames.{length_of}
 use Rattle.i3c_base.specs.State.{Device}
 use Rattle.i3c_device.specs.Raising.{front_byte}
 
--- its identity
+-- the identity of the device in a slot
 abbrev pub identity_in : Option Device → Option Identity
 identity_in None = None
 identity_in (Some d) = Some d.identity
 
--- its dynamic address
+-- the dynamic address of the device in a slot
 abbrev pub address_in : Option Device → Option ℕ
 address_in None = None
 address_in (Some d) = d.address
 
--- its maximum length of writes or reads; as many bytes as there are registers where nothing stands
+-- the maximum length of writes or reads of the device in a slot; for an empty slot the number of registers
 abbrev pub length_in : Direction → Option Device → ℕ
 length_in way None = REGISTERS
 length_in way (Some d) = length_of way d

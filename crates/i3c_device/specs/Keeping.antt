@@ -3,6 +3,6 @@ use Rattle.std.specs.Prelude.{List, Option, None, slice_index_or}
 use Rattle.i3c_base.specs.Places.{changed}
 use Rattle.i3c_base.specs.State.{Device, no_devices}
 
--- in each slot what is kept for it, and nobody where nothing is
+-- each slot with the device that is kept for it, or empty
 abbrev pub unpacked : List (Option Device) → List (Option Device)
 unpacked kept = changed (λ slot empty. slice_index_or kept slot None) no_devices

@@ -1,4 +1,4 @@
--- Who has the least identity of those who hear the open session.
+-- The least identity of the devices that hear the open session.
 use Rattle.std.specs.Prelude.{◌≡◌, ℕ, ◌<◌, ◌≤◌, true, false, List, Option, Some, None, slice_index_or}
 use Rattle.i3c_base.specs.declared.range.TheConstants.{SLOTS}
 use Rattle.i3c_base.specs.Numbers.{IsInRange, number_of}
@@ -11,7 +11,7 @@ use Rattle.i3c_device.specs.Walks.{hears_as}
 abbrev pub NobodyHears : List (Option Device) → Type 0
 NobodyHears devices = (s : ℕ) (d : Device) → slice_index_or devices s None ≡ Some d → d.hearing ≡ false
 
--- of those who hear these slots have the identity of this number, and nobody has a lower one
+-- the hearers in these slots have the identity of this number, and no hearer has a lower one
 pub record IsLeastHeard (devices : List (Option Device)) (least : ℕ × SlotSet) : Type 0 where
   pub slots : (s : ℕ) → s < SLOTS → has least.1 s ≡ hears_as least.0 (slice_index_or devices s None)
   pub some : (s : ℕ) × (s < SLOTS) × (has least.1 s ≡ true)

@@ -1,4 +1,4 @@
--- The least maximum length of what stands in some slots.
+-- The least maximum length of the devices in some slots.
 use Rattle.std.specs.Prelude.{◌≡◌, ℕ, ◌<◌, ◌≤◌, ◌⊎◌, true, List, Option, None, slice_index_or}
 use Rattle.i3c_base.specs.declared.datum.Direction.{Direction}
 use Rattle.i3c_base.specs.declared.device.TheConstants.{REGISTERS}

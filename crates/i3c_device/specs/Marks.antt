@@ -19,18 +19,18 @@ use Rattle.i3c_device.specs.Wishing.{key_of, wishes_interrupt, wishes_join, wish
 abbrev pub IsSetOf : (Device → Bool) → SlotSet → List (Option Device) → Type 0
 IsSetOf test slots places = (s : ℕ) → s < SLOTS → has slots s ≡ in_slot test (slice_index_or places s None)
 
--- the key of the request that whatever stands in a slot drives when it drives one
+-- the key of the request that the device in a slot drives when it drives one
 abbrev pub key_in : Option Device → ℕ
 key_in None = 0
 key_in (Some d) = key_of d.address d.role_wish
 
--- the address at which a device with these two answers: its dynamic one, else its static one
+-- the address at which a device with these two answers: its dynamic one, or otherwise its static one
 abbrev pub answer_of : Option ℕ → Option ℕ → ℕ
 answer_of (Some a) fixed = a
 answer_of None (Some f) = f
 answer_of None None = NOWHERE
 
--- the address at which whatever stands in a slot answers
+-- the address at which the device in a slot answers
 abbrev pub answer_in : Option Device → ℕ
 answer_in None = NOWHERE
 answer_in (Some d) = answer_of d.address d.fixed

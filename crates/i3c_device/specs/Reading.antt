@@ -18,15 +18,15 @@ IsDrivenFrom own cut at byte = (j : ℕ) → j < 8 → bit_at byte (7 - j) ≡ (
 abbrev pub Driving : Type 0
 Driving = Device → List ℕ
 
--- its registers
+-- a device drives its registers when it is read
 abbrev pub registers_of : Driving
 registers_of d = d.registers
 
--- what stands in a slot has 0 in this bit of byte k
+-- the device in a slot has 0 in this bit of byte k
 abbrev pub has_zero : Driving → ℕ → ℕ → Option Device → Bool
 has_zero own k bit place = in_slot (λ d. bit_at (slice_index (own d) k) bit == 0) place
 
--- byte k as whatever stands in a slot drives it from bit `at` on: it pulls the bits low that are 0, until it is cut
+-- byte k as the device in a slot drives it from bit `at` on: until it is cut it pulls the bits low that are 0
 abbrev pub IsByteFrom : Driving → Option Device → ℕ → Option ℕ → ℕ → ℕ → Type 0
 IsByteFrom own place k cut at byte = (j : ℕ) → j < 8 → bit_at byte (7 - j) ≡ (if not (is_by (at + j) cut) && has_zero own k (7 - j) place then 0 else 1)
 
@@ -42,8 +42,8 @@ IsByteOf own among k cuts at devices byte = (j : ℕ) → j < 8 → (bit_at byte
 abbrev pub PullsLow : Driving → Population → ℕ → Lost → ℕ → ℕ → Type 0
 PullsLow own all a lost k bit = (s : ℕ) × (d : Device) × IsTargetIn all a s d × (lost s ≡ false) × (bit_at (slice_index (own d) k) bit ≡ 0)
 
--- so many bytes as they are read from an address, the first bit of all at bit `first` of the frame: eight bits of each
--- and a T. A bit is 0 exactly where a device there pulls the line low
+-- `count` bytes as they are read from an address, the first bit of all at bit `first` of the frame: eight bits of each and a
+-- T. A bit is 0 exactly if a device there pulls the line low
 abbrev pub AreBytesOf : Driving → ℕ → Population → ℕ → CutList → ℕ → List ℕ → Type 0
 AreBytesOf own count all a cuts first bytes = (k j : ℕ) → k < count → j < 8 → (bit_at (slice_index bytes k) (7 - j) ≡ 0) ↔ PullsLow own all a (lost_by cuts (first + 9 * k + j)) k (7 - j)
 

@@ -1,4 +1,5 @@
--- What a request, a command, a session or a drop-off does to whatever stands in a slot. `active` is the active controller's slot.
+-- The effect of a request, a command, a session or a drop-off on the device in a slot. `active` is the active controller's
+-- slot.
 use Rattle.std.specs.Prelude.{◌≡◌, ℕ, ◌<◌, Bool, ◌&&◌, ◌==◌, List, Option, Some, None, option_map, if◌then◌else◌, slice_index_or}
 use Rattle.i3c_base.specs.declared.range.TheConstants.{SLOTS}
 use Rattle.i3c_base.specs.declared.requests.Request.{Request}
@@ -22,11 +23,11 @@ AreReached active to slots devices = (s : ℕ) → s < SLOTS → has slots s ≡
 abbrev pub AreTakers : ℕ → ℕ → SlotSet → List (Option Device) → Type 0
 AreTakers active f slots devices = (s : ℕ) → s < SLOTS → has slots s ≡ in_slot (takes_static active f s) (slice_index_or devices s None)
 
--- it is a willing device at this address, other than the active controller
+-- the device in a slot is a willing device at this address, other than the active controller
 abbrev pub willing_at : ℕ → ℕ → ℕ → Option Device → Bool
 willing_at active a s place = in_slot (λ d. reaches_at active (Some a) s d && d.willing) place
 
--- it after a command and its words
+-- the device in a slot after a command and its words
 abbrev pub heard_at : ℕ → Option ℕ → Code → List Word → ℕ → Option Device → Option Device
 heard_at active to code words s place = option_map (λ d. if reaches_at active to s d then heard code words d else d) place
 
@@ -34,12 +35,12 @@ heard_at active to code words s place = option_map (λ d. if reaches_at active t
 abbrev pub AreDrivers : Population → Request → SlotSet → Type 0
 AreDrivers all r slots = (s : ℕ) → s < SLOTS → has slots s ≡ drives_in all r s
 
--- of the requests that these devices drive this is the first, and these slots drive it
+-- the first of the requests that these devices drive, and the slots that drive it
 pub record IsFirstDriven (all : Population) (first : Request × SlotSet) : Type 0 where
   pub drivers : AreDrivers all first.0 first.1
   pub comes_first : IsFirstIn all first.0
 
--- it without what an accepted request takes from a device that drives it
+-- the device in a slot without what an accepted request takes from its driver
 abbrev pub taken_from : Request → Option Device → Option Device
 taken_from r place = option_map (without r) place
 
@@ -47,11 +48,11 @@ taken_from r place = option_map (without r) place
 abbrev pub AreHearers : SlotSet → List (Option Device) → Type 0
 AreHearers slots devices = (s : ℕ) → s < SLOTS → has slots s ≡ in_slot (λ d. d.hearing) (slice_index_or devices s None)
 
--- it hears the open session, and this is the number of its identity
+-- the device in a slot hears the open session, and this is the number of its identity
 abbrev pub hears_as : ℕ → Option Device → Bool
 hears_as number place = in_slot (λ d. d.hearing && number_of d.identity == number) place
 
--- it after the devices in these slots took this address
+-- the device in a slot after the devices in these slots took this address
 abbrev pub taken_at : SlotSet → ℕ → ℕ → Option Device → Option Device
 taken_at winners a s place = if has winners s then option_map (winner a) place else place
 
@@ -59,6 +60,6 @@ taken_at winners a s place = if has winners s then option_map (winner a) place e
 abbrev pub limited_at : SlotSet → Direction → ℕ → ℕ → Option Device → Option Device
 limited_at slots way most s place = if has slots s then option_map (limited way most) place else place
 
--- it after the devices in these slots got another dynamic address
+-- the device in a slot after the devices in these slots got another dynamic address
 abbrev pub readdressed_at : SlotSet → ℕ → ℕ → Option Device → Option Device
 readdressed_at slots a s place = if has slots s then option_map (readdressed a) place else place

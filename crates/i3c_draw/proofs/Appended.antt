@@ -1,7 +1,7 @@
 -- Texts that are appended one after another.
 use Rattle.std.proofs.Common.{◌≡◌, ◌∙◌, ◌++◌, ℕ, List, OnOk, Result, ap, append_assoc, subst, sym}
 
--- of a whole text that is to stand, a part more was appended
+-- one more part was appended of a whole text
 pub one_part : (whole before after part rest : List ℕ) → whole ≡ before ++ (part ++ rest) → after ≡ before ++ part → whole ≡ after ++ rest
 one_part whole before after part rest is grown = is ∙ sym (append_assoc before part rest) ∙ ap (λ text. text ++ rest) (sym grown)
 

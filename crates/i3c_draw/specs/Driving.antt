@@ -1,4 +1,4 @@
--- Who drives SDA during a symbol.
+-- The driver of SDA during a symbol.
 use Rattle.std.specs.Prelude.{ℕ, ◌==◌, Bool, true, false, not, ◌&&◌, Option, Some, None, if◌then◌else◌}
 use Rattle.i3c_frame.specs.declared.symbols.Symbol.{Symbol}
 use Rattle.i3c_frame.specs.declared.symbols.Symbol.TheVariants.{Start, Header, Word, Identity, AddressByte, LegacyWord}
@@ -14,11 +14,12 @@ is_request turn address = turn.arbitrable && not (address == 126)
 abbrev pub sender : Turn → Driver
 sender turn = if turn.reading then Target else Controller
 
--- whoever hears such words
+-- the hearer of these words
 abbrev pub hearer : Turn → Driver
 hearer turn = if turn.reading then Controller else Target
 
--- who drives the bits of a symbol before its answer, or all of them if it has none: for a request the controller and the target that wins
+-- the driver of the bits of a symbol before its answer, or of all of them if it has none: for a request the controller and
+-- the target that wins
 abbrev pub bits_by : Turn → Symbol → Driver
 bits_by turn (Header address read ack) = if is_request turn address then Both else Controller
 bits_by turn (Word word) = sender turn
@@ -31,7 +32,7 @@ abbrev pub answered_by : Driver → Bool → Driver
 answered_by driver true = driver
 answered_by driver false = Nobody
 
--- who drives the answer of a symbol, if it has one: the controller answers a request
+-- the driver of the answer of a symbol, if it has one: the controller answers a request
 abbrev pub answer_by : Turn → Symbol → Option Driver
 answer_by turn (Header address read ack) = Some (answered_by (if is_request turn address then Controller else Target) ack)
 answer_by turn (AddressByte byte ack) = Some (answered_by Target ack)

@@ -14,6 +14,6 @@ printed_byte byte = if byte == 38 then codes "&amp;" else (if byte == 60 then co
 abbrev pub escaped_byte : ℕ → List ℕ
 escaped_byte byte = if nat_lt byte 32 then control_text byte else (if nat_lt 126 byte then codes "&#xFFFD;" else printed_byte byte)
 
--- a text
+-- a text with its special bytes escaped
 abbrev pub escaped : List ℕ → List ℕ
 escaped text = flat_map escaped_byte text

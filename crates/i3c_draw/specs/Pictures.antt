@@ -20,7 +20,7 @@ line_room (symbol ∷ rest) = 216
 abbrev pub row_text : Pen → Drawn → List ℕ
 row_text pen drawn = line_text pen.y (line_room drawn.wire) drawn.line ++ (printed_text pen.y drawn.printed ++ wire_text pen drawn.wire)
 
--- where the next row begins: below each part of this one, the wire of which goes on from this pen
+-- the top of the next row: below each part of this one, whose wire goes on from this pen
 abbrev pub row_end : ℕ → Pen → List ℕ → ℕ
 row_end y behind printed = max (farther y 20) (max (farther (below_printed y printed) 6) (below_wire behind))
 

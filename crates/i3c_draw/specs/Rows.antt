@@ -60,16 +60,16 @@ behind pen symbol = record pen { x = farther pen.x (symbol_width symbol); turn =
 abbrev pub symbol_text : Pen → Symbol → List ℕ
 symbol_text pen symbol = placed (at_symbol pen symbol) (drawn (at_symbol pen symbol) symbol)
 
--- the pen after it
+-- the pen after a symbol
 abbrev pub after_symbol : Pen → Symbol → Pen
 after_symbol pen symbol = behind (at_symbol pen symbol) symbol
 
--- symbols, one after another
+-- the drawing of symbols, one after another
 abbrev pub wire_text : Pen → List Symbol → List ℕ
 wire_text pen [] = []
 wire_text pen (symbol ∷ rest) = symbol_text pen symbol ++ wire_text (after_symbol pen symbol) rest
 
--- the pen after them
+-- the pen after symbols
 abbrev pub after_wire : Pen → List Symbol → Pen
 after_wire pen [] = pen
 after_wire pen (symbol ∷ rest) = after_wire (after_symbol pen symbol) rest
@@ -87,11 +87,11 @@ abbrev pub line_text : ℕ → ℕ → List ℕ → List ℕ
 line_text y width line =
     codes "<svg x='8' y='" ++ (decimal y ++ (codes "' width='" ++ (decimal width ++ (codes "' height='16'>" ++ (title_text line ++ (codes "<text y='12'>" ++ (escaped line ++ (codes "</text></svg>" ++ 10 ∷ []))))))))
 
--- a byte of what was printed: a line feed ends a line
+-- a byte of the output: a line feed ends a line
 abbrev pub printed_part : ℕ → List ℕ
 printed_part byte = if byte == 10 then codes "</tspan>" else escaped_byte byte
 
--- what is before a byte that begins a line, or doesn't
+-- the markup before a byte, which begins a line or doesn't
 abbrev pub before_byte : Bool → List ℕ
 before_byte true = codes "<tspan x='0' dy='14'>"
 before_byte false = []
@@ -106,7 +106,7 @@ abbrev pub printed_lines : Bool → List ℕ → List ℕ
 printed_lines begins [] = behind_bytes begins
 printed_lines begins (byte ∷ rest) = before_byte begins ++ (printed_part byte ++ printed_lines (byte == 10) rest)
 
--- what a line printed
+-- the drawing of a line's output
 abbrev pub printed_text : ℕ → List ℕ → List ℕ
 printed_text y printed =
     codes "<text transform='translate(940," ++ (decimal y ++ (codes ")' y='-2'>" ++ (title_text printed ++ (printed_lines true printed ++ (codes "</text>" ++ 10 ∷ [])))))

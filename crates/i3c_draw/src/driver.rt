@@ -6,7 +6,7 @@ use i3c_frame::Symbol;
 /// The address that every I3C device hears (I3C Basic 5.1.2.2.1).
 const BROADCAST: u8 = 0x7E;
 
-/// Who drives SDA (I3C Basic 5.1.2).
+/// The driver of SDA (I3C Basic 5.1.2).
 #[derive(Clone, Copy, Debug, PartialEq, Eq)]
 pub enum Driver {
     /// The active controller.
@@ -19,7 +19,7 @@ pub enum Driver {
     Nobody,
 }
 
-/// What a frame's symbols before the next one say of who drives it.
+/// The part of a frame before its next symbol, as far as it decides the driver.
 #[derive(Clone, Copy, Debug, PartialEq, Eq)]
 pub struct Turn {
     /// The header that comes is the one behind a START, in which targets may contend (I3C Basic 5.1.2.2.2).
@@ -31,7 +31,7 @@ pub struct Turn {
 impl Turn {
     ghost use Rattle.i3c_draw.specs.Driving.{hearer, sender};
 
-    /// Who drives the bits of a symbol before its answer.
+    /// The driver of the bits of a symbol before its answer.
     pub fn bits_by(self, symbol: &Symbol) -> Driver
         ensures { result ≡ bits_by self symbol.now }
     {
@@ -43,7 +43,7 @@ impl Turn {
         }
     }
 
-    /// Who drives the answer of a symbol, if it has one.
+    /// The driver of the answer of a symbol, if it has one.
     pub fn answer_by(self, symbol: &Symbol) -> Option<Driver>
         ensures { result ≡ answer_by self symbol.now }
     {
@@ -82,7 +82,7 @@ impl Turn {
         self.arbitrable && address != BROADCAST
     }
 
-    /// Who sends words.
+    /// The sender of words.
     fn sender(self) -> Driver
         ensures { result ≡ sender self }
     {
@@ -93,7 +93,7 @@ impl Turn {
         }
     }
 
-    /// Who hears words.
+    /// The hearer of words.
     fn hearer(self) -> Driver
         ensures { result ≡ hearer self }
     {
@@ -105,7 +105,7 @@ impl Turn {
     }
 }
 
-/// Who drives an answer, which is an ACK or a NACK.
+/// The driver of an answer, which is an ACK or a NACK.
 fn answered_by(driver: Driver, ack: bool) -> Driver
     ensures { result ≡ answered_by driver ack }
 {

@@ -4,8 +4,8 @@ ghost use Rattle.i3c_draw.specs.Escaped.{control_text, escaped, escaped_byte, pr
 use i3c_text::Text;
 use std::alloc::AllocError;
 
-/// Appends a text as XML has it. What is appended is printed ASCII, in which `<` and `>` don't stand, and `&` only begins the
-/// name or the number of a character.
+/// Appends a text as XML has it. The appended text is printed ASCII without `<` and `>`, and each `&` in it begins the name
+/// or the number of a character.
 pub fn push_escaped(bytes: &[u8], text: &mut Text) -> Result<(), AllocError>
     ensures { OnOk result (text.new ≡ text.old ++ escaped bytes.now) }
 {

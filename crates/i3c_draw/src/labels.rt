@@ -11,7 +11,7 @@ const PRINTED: u64 = 14;
 /// What ends a line.
 const LINE_FEED: u8 = b'\n';
 
-/// Appends a script's line, so far down. It is cut at this width.
+/// Appends a script's line at height `y`, cut at this width.
 pub(crate) fn push_line(y: u64, width: u64, line: &[u8], text: &mut Text) -> Result<(), AllocError>
     ensures { OnOk result (text.new ≡ text.old ++ line_text y width line.now) }
 {
@@ -26,7 +26,7 @@ pub(crate) fn push_line(y: u64, width: u64, line: &[u8], text: &mut Text) -> Res
     text.push(b"</text></svg>\n")
 }
 
-/// Appends what a line printed, so far down.
+/// Appends a line's output, from height `y` on.
 pub(crate) fn push_printed(y: u64, printed: &[u8], text: &mut Text) -> Result<(), AllocError>
     ensures { OnOk result (text.new ≡ text.old ++ printed_text y printed.now) }
 {
@@ -80,7 +80,7 @@ fn behind_bytes(begins: bool) -> &'static [u8]
     if begins { b"" } else { b"</tspan>" }
 }
 
-/// Appends a byte of what was printed.
+/// Appends a byte of the output.
 fn push_part(byte: u8, text: &mut Text) -> Result<(), AllocError>
     ensures { OnOk result (text.new ≡ text.old ++ printed_part byte) }
 {

@@ -1,7 +1,7 @@
-//! A picture of a script's wire, as an SVG: a row for each line, with the symbols that it sent, in the colours of who drives
-//! them, and SCL and SDA.
+//! A picture of a script's wire, as an SVG: a row for each line, with the symbols that it sent, in the colours of their
+//! drivers, and SCL and SDA.
 //!
-//! `driver` says who drives SDA during a symbol, `traces` draws the two lines, and `pen` the symbols one after another.
+//! `driver` gives the driver of SDA during a symbol, `traces` draws the two lines, and `pen` the symbols one after another.
 //! `labels` writes the script's line and what it printed, by `escaped`. `picture` gathers the rows.
 #![tactic(auto)]
 

@@ -31,7 +31,7 @@ pub struct Pen {
 impl Pen {
     ghost use Rattle.i3c_draw.specs.Rows.{after_symbol, after_wire, at_symbol, behind, below_wire, drawn, next_band, pen_at, placed, symbol_text, wire_text};
 
-    /// The beginning of a row so far down: the bus is free.
+    /// The pen at the beginning of a row at height `y`: the bus is free.
     pub fn at(y: u64) -> Pen
         ensures { result ≡ pen_at y }
     {

@@ -104,7 +104,7 @@ fn line_room(wire: &[Symbol]) -> u64
     if wire.is_empty() { ALONE } else { BESIDE }
 }
 
-/// The pen of the next row, behind a row so far down.
+/// The pen of the next row, behind a row at height `y`.
 fn next_row(y: u64, behind: Pen, printed: &[u8]) -> Pen
     ensures { result ≡ next_row y behind printed.now }
 {

@@ -1,4 +1,4 @@
--- What driven lines come to: those that are read as they stand, and those that are read in capitals.
+-- The results of driven lines: of those that are read as they come, and of those that are read in capitals.
 use Rattle.std.proofs.Common.{◌≡◌, ◌∙◌, ◌<◌, ◌≤◌, ℕ, List, [], ◌∷◌, ◌++◌, length, arith, Option, Some, None, Result, Err, append-nil, inl, inr, refl, sym}
 use Rattle.i3c_drive.specs.Answers.{DrivenDoes}
 use Rattle.i3c_drive.specs.Steps.{Reads}

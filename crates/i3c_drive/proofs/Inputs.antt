@@ -72,7 +72,7 @@ piece_read left now next old mid new so_far none consumed line =
       };
     }
 
--- the line in hand came to its feed
+-- the line in hand reached its feed
 pub line_came : (left now : Option (List ℕ)) (old mid new : Input) → HasBegun left now old mid → EndsFront mid new true → (line : List ℕ) × IsInHand new line × Takes left now old new (line ++ 10 ∷ [])
 line_came left now old mid new so_far (front, one, same, line) =
     let begun = so_far.begun in

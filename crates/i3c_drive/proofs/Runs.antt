@@ -78,7 +78,7 @@ length_more : (lines : List LineRun) (run : LineRun) → length (lines ++ run �
 length_more [] run = omega arith
 length_more (one ∷ lines) run = omega (arith, length_more lines run)
 
--- the lines that were run so far, of which the next has this number, and what was read beside them
+-- the lines that were run so far, the number of the next one, and the bytes that were read beside them
 pub record DrivenSoFar (form : Form) (known now before after : Option (List ℕ)) (input : Input) (old new : Driver) (at : ℕ) : Type 0 where
   pub lines : List LineRun
   pub answers : List ℕ
@@ -273,7 +273,7 @@ last_fails form ScriptFault.Write known now next before mid after input further 
 last_fails form ScriptFault.Read known now next before mid after input further old from to number line so_far hand takes none end is = absurd is
 last_fails form ScriptFault.TooLarge known now next before mid after input further old from to number line so_far hand takes none end is = absurd is
 
--- what the last line comes to is what the run comes to
+-- the result of the last line is the result of the run
 pub last_tells : (form : Form) (known now next before mid after : Option (List ℕ)) (input further : Input) (old from to : Driver) (number : ℕ) (line : List ℕ) (result : Result (Unit {0}) ScriptFault)
     → DrivenSoFar form known now before mid input old from number → IsInHand further line → line ≢ [] → Takes now next input further line → pending further ≡ [] → IsAtEnd next
     → Tells form number (gathered further.line) mid after from to result → RunsAll form known before after old to result

@@ -51,7 +51,7 @@ Asks state told = AsksAt state.stage state.names told
 abbrev pub IsNews : List ℕ → List ℕ → Option (List ℕ) → Type 0
 IsNews before after news = ((before ≡ after) × (news ≡ None)) ⊎ ((before ≢ after) × (news ≡ Some after))
 
--- what a line changed about who asks
+-- how a line changed the devices that ask
 pub record IsChange (old new : ScriptState) (news : Option (List ℕ)) : Type 0 where
   pub before : List ℕ
   pub after : List ℕ
@@ -64,13 +64,14 @@ abbrev pub news_text : Option (List ℕ) → List ℕ
 news_text None = []
 news_text (Some names) = codes "asking" ++ (names ++ 10 ∷ [])
 
--- the first of the records that a line added behind so many, with its number
+-- the first of the records that a line added behind the first `count`, with its number
 abbrev pub first_added : ℕ → List Record → Option (ℕ × Record)
 first_added count [] = None
 first_added count (added ∷ more) = Some (suc count, added)
 
--- an answer in its form: what the line prints, the records that it added behind so many, who asks, where that has changed, and
--- what it came to. As lines these follow one another, and the last line has the line's number. As an object they are its fields
+-- an answer in its form: what the line prints, the records that it added behind the first `count`, the devices that ask, if
+-- they have changed, and its result. As lines these follow one another, and the last line has the line's number. As an object
+-- they are its fields
 abbrev pub IsWritten : Form → ℕ → List ℕ → ℕ → List Record → Option (List ℕ) → Option Refusal → List ℕ → Type 0
 IsWritten Form.Lines number said count added news refused answer = answer ≡ said ++ (numbered_text (suc count) added ++ (news_text news ++ last_line number refused))
 IsWritten Form.Json number said count added news refused answer = IsLineOf (answer_data number refused said (first_added count added) news) answer
@@ -104,7 +105,7 @@ AreAnswered form number old (run ∷ rest) new answers = (mid : ScriptState) × 
 abbrev pub LacksFeed : List ℕ → Type 0
 LacksFeed input = (front : List ℕ) × (last : ℕ) × (input ≡ front ++ last ∷ []) × (last ≢ 10)
 
--- these are the lines of an input: each ends in a line feed, but for the last one, which may lack it
+-- these are the lines of an input: each ends in a line feed, except the last one, which may lack it
 abbrev pub AreLinesOf : List ℕ → List LineRun → Type 0
 AreLinesOf input lines = (lines_bytes lines ≡ input) ⊎ (LacksFeed input × (lines_bytes lines ≡ input ++ 10 ∷ []))
 
@@ -143,11 +144,11 @@ pub record IsDrivenPart (form : Form) (known old new : Option (List ℕ)) (fault
 abbrev pub AnswersGoOut : Form → Option (List ℕ) → Option (List ℕ) → Option (List ℕ) → Result Tally ScriptFault → Type 0
 AnswersGoOut form known old new result = MatchResult result (IsDriven form known old new) (IsDrivenPart form known old new)
 
--- these lines of a script are those that driven lines stand for, and come to the same
+-- these lines of a script are the ones that driven lines mean, and have the same results
 abbrev pub StandFor : List LineRun → List LineRun → Type 0
 StandFor [] script = script ≡ []
 StandFor (run ∷ rest) script = (one : LineRun) × (more : List LineRun) × (script ≡ one ∷ more) × StandsFor run.line one.line × (one.said ≡ run.said) × (one.refused ≡ run.refused) × StandFor rest more
 
--- Lines that are answered do what the lines that they stand for do in a script
+-- Answered lines have the effect of the script's lines that they mean
 abbrev pub AnsweredLinesLead : Type 0
 AnsweredLinesLead = (form : Form) (number : ℕ) (old : ScriptState) (lines : List LineRun) (new : ScriptState) (answers : List ℕ) → AreAnswered form number old lines new answers → (script : List LineRun) × StandFor lines script × Lead old script new

@@ -10,7 +10,7 @@ use Rattle.i3c_scenario.specs.Outcomes.{HasNoFeed}
 abbrev pub pending : Input → List ℕ
 pending input = take (input.end - input.next) (drop input.next input.piece.items)
 
--- what is pending and what is read begin with a text that was taken; the rest is pending then
+-- the pending bytes and the next ones begin with a text that was taken; the rest is pending then
 pub record Takes (left now : Option (List ℕ)) (old new : Input) (text : List ℕ) : Type 0 where
   pub read : List ℕ
   pub consumed : Consumes left now read

@@ -15,11 +15,11 @@ use Rattle.i3c_text.specs.declared.stop.Stop.{Stop}
 abbrev pub state : Driver → ScriptState
 state driver = script driver.stage driver.names
 
--- what a line comes to, with what is printed before and after it: a mark has no form here
+-- the result of a line, with the output before and after it: a mark has no form here
 abbrev pub Reads : ScriptState → List ℕ → List ℕ → List ℕ → Result (Unit {0}) (Stop Refusal) → ScriptState → Type 0
 Reads old line before after result new = Prints (λ said refused. DrivenDoes old line said refused new) before after result
 
--- the driver knows who asks
+-- the driver knows the devices that ask
 abbrev pub Knows : Driver → Type 0
 Knows driver = Asks (state driver) driver.asked
 
@@ -32,16 +32,16 @@ pub record IsAnswer (form : Form) (number : ℕ) (line : List ℕ) (old new : Dr
   pub knows : Knows new
   pub count : new.refused ≡ min (old.refused + refusals_of refused) 18446744073709551615
 
--- the names of those who ask, if they have changed
+-- the names of the devices that ask, if they have changed
 abbrev pub news_of : Bool → List ℕ → Option (List ℕ)
 news_of true names = Some names
 news_of false names = None
 
--- the driver knows who asks now, and whether that has changed
+-- the driver knows the devices that ask now, and whether they have changed
 abbrev pub Asked : Driver → Driver → Bool → Type 0
 Asked old new changed = Asks (state old) new.asked × IsNews old.asked new.asked (news_of changed new.asked)
 
--- the answer is whole, of which there was what the line printed
+-- the answer is whole, which had the line's output so far
 pub record Closes (form : Form) (number count : ℕ) (refused : Option Refusal) (old new : Driver) : Type 0 where
   pub news : Option (List ℕ)
   pub told : IsWritten form number old.answer (forgotten_of (state old) + count) (drop count (log_of (state old))) news refused new.answer
@@ -67,7 +67,7 @@ Fails form ScriptFault.Write number line before after old new = IsCut form numbe
 Fails form ScriptFault.Read number line before after old new = ⊥
 Fails form ScriptFault.TooLarge number line before after old new = ⊥
 
--- what a line comes to
+-- the result of a line
 abbrev pub Tells : Form → ℕ → List ℕ → Option (List ℕ) → Option (List ℕ) → Driver → Driver → Result (Unit {0}) ScriptFault → Type 0
 Tells form number line before after old new result = MatchResult result (λ _. IsTold form number line before after old new) (λ fault. Fails form fault number line before after old new)
 
@@ -90,6 +90,6 @@ pub record RunsPart (form : Form) (known before after : Option (List ℕ)) (old 
   pub first : IfSome known (λ input. lines_bytes lines ++ rest ≡ input ++ 10 ∷ [])
   pub out : WentBefore fault before after answers
 
--- what a driver's run over an input comes to
+-- the result of a driver's run over an input
 abbrev pub RunsAll : Form → Option (List ℕ) → Option (List ℕ) → Option (List ℕ) → Driver → Driver → Result (Unit {0}) ScriptFault → Type 0
 RunsAll form known before after old new result = MatchResult result (λ _. RunsWhole form known before after old new) (RunsPart form known before after old)

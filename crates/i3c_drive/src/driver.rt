@@ -72,7 +72,7 @@ pub(crate) struct Driver {
     // the last that was read
     command: Command,
     answer: Text,
-    // the names of those who asked before, and who ask now
+    // the names of the devices that asked before, and of those that ask now
     asked: Text,
     asks: Text,
     // a line without a form, in capitals
@@ -81,7 +81,7 @@ pub(crate) struct Driver {
 }
 
 impl Driver {
-    /// A driver of which nothing was asked.
+    /// A driver before its first line.
     fn new(alloc: Global) -> Driver
         ensures begun { IsBegun (state result) }
         ensures refused { result.refused ≡ 0 }
@@ -127,7 +127,7 @@ impl Driver {
                 },
             }
         }
-        // no input has so many lines
+        // no input has that many lines
         Err(ScriptFault::TooLarge)
     }
 
@@ -170,7 +170,7 @@ impl Driver {
         }
     }
 
-    /// Makes the answer of what a line printed, and counts its refusal.
+    /// Makes the answer of a line's output, and counts its refusal.
     fn close(
         &mut self,
         form: Form,
@@ -190,7 +190,8 @@ impl Driver {
         }
     }
 
-    /// Appends to what a line printed: the records behind the first `count`, who asks, if that has changed, and the last line.
+    /// Appends to a line's output: the records behind the first `count`, the devices that ask, if that has changed, and the
+    /// last line.
     fn push_lines(
         &mut self,
         number: u64,
@@ -208,8 +209,8 @@ impl Driver {
         push_last(number, refused, &mut self.answer)
     }
 
-    /// Makes an object of what a line printed, the first record behind the first `count`, who asks, if that has changed, and
-    /// what the line came to.
+    /// Makes an object of a line's output, the first record behind the first `count`, the devices that ask, if that has
+    /// changed, and the line's result.
     fn make_object(
         &mut self,
         number: u64,
@@ -257,7 +258,7 @@ impl Driver {
         }
     }
 
-    /// Obeys a line that has no form as it stands by its form in capitals, if it has one.
+    /// Obeys a line without a form by its form in capitals, if it has one.
     #[cold]
     #[inline(never)]
     fn obey_in_capitals(&mut self, line: &[u8]) -> Result<(), Stop<Refusal>>
@@ -321,7 +322,7 @@ impl Driver {
         }
     }
 
-    /// Looks who asks now, and tells whether that has changed.
+    /// Looks which devices ask now, and tells whether they have changed.
     fn ask(&mut self) -> Result<bool, AllocError>
         ensures asked { IfOk result (Asked self.old self.new) }
         ensures state { state self.new ≡ state self.old }
@@ -368,14 +369,14 @@ fn push_askers(stage: &Stage, names: &Names, text: &mut Text) -> Result<(), Allo
     }
 }
 
-/// The names of those who ask, if they have changed.
+/// The names of the devices that ask, if they have changed.
 fn news(changed: bool, asks: &[u8]) -> Option<&[u8]>
     ensures { option_map (λ names. names.now) result ≡ news_of changed asks.now }
 {
     if changed { Some(asks) } else { None }
 }
 
-/// Appends the line of those who ask, if they have changed.
+/// Appends the line of the devices that ask, if they have changed.
 fn push_news(changed: bool, asks: &[u8], answer: &mut Text) -> Result<(), AllocError>
     ensures { OnOk result (answer.new ≡ answer.old ++ news_text (news_of changed asks.now)) }
 {

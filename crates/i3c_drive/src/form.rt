@@ -1,7 +1,7 @@
 /// How an answer is written.
 #[derive(Clone, Copy, Debug, PartialEq, Eq)]
 pub enum Form {
-    /// As lines, the last of which is `ok` or `refused`.
+    /// As lines; the last is `ok` or `refused`.
     Lines,
     /// As a JSON object on one line.
     Json,

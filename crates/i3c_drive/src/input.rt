@@ -8,7 +8,7 @@ use std::io::Read;
 /// How many bytes are read at once.
 const PIECE: usize = 8192;
 
-/// What came of the next line.
+/// The result of reading the next line.
 #[derive(Clone, Copy, Debug, PartialEq, Eq)]
 pub(crate) enum Next {
     /// It came with its line feed.
@@ -39,7 +39,7 @@ impl Input {
     ghost use Rattle.i3c_lines.specs.Gathering.{gathered};
     ghost use Rattle.i3c_drive.specs.Inputs.{EndsFront, Gives, HasFront, pending};
 
-    /// An input of which nothing was read.
+    /// An input before its first byte.
     pub(crate) fn new(alloc: Global) -> Result<Input, AllocError>
         ensures { IfOk result (λ input. pending input ≡ []) }
     {
@@ -79,8 +79,7 @@ impl Input {
         Err(ScriptFault::Read)
     }
 
-    /// Puts what is left of the piece behind the line in hand, up to the line's feed. It answers `true` where the feed was
-    /// there.
+    /// Puts the rest of the piece behind the line in hand, up to the line's feed. It answers `true` if the feed was there.
     fn take_front(&mut self) -> bool
         ensures { EndsFront self.old self.new result }
     {

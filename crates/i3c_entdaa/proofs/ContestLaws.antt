@@ -1,4 +1,4 @@
--- What the contest of a round says of the hearers: who wins, and why nobody does.
+-- The contest of a round, over the hearers: its winner, or the reason that it has none.
 use Rattle.std.proofs.Common.{◌≡◌, ℕ, ◌<◌, ◌≤◌, ◌^◌, ◌==◌, Bool, true, false, not, ◌&&◌, ◌⊎◌, inl, inr, List, [], ◌∷◌, get_or, Option, None, Some, refl, ap, sym, subst, ◌∙◌, arith}
 use Rattle.std.specs.List.{All, Contains, list_all, list_any}
 use Rattle.std.proofs.lemmas.Bool.{and_from, and_parts, and_right, both_ways, cases_Bool, cases_eq, eq-eqb, eqb-true, not-true, not-false, true_from_ne_false}
@@ -42,11 +42,11 @@ in_range_of st cuts keys bits s d read hears =
     let same : k.device ≡ d = same_Some k.device d (sym k.there ∙ hears.0) in
     subst (λ (x : Device). IsInRange x.identity) same k.in_range
 
--- whoever isn't lost in a round isn't in its contest
+-- a device that isn't lost in a round isn't lost in its contest
 in_contest : (cuts : CutList) (s n : ℕ) → lost_by cuts 73 s ≡ false → is_lost (counted_from 1 cuts) 64 (s, n) ≡ false
 in_contest cuts s n left = lost_counted cuts 1 63 s ∙ left_before cuts 64 73 s (omega arith) left
 
--- and whoever is lost in the contest is in the round
+-- and a device that is lost in the contest is lost in the round
 in_round : (cuts : CutList) (e : ℕ × ℕ) → is_lost (counted_from 1 cuts) 64 e ≡ true → lost_by cuts 73 e.0 ≡ true
 in_round cuts e h = lost_later cuts 64 73 e.0 (omega arith) (sym (lost_counted cuts 1 63 e.0) ∙ h)
 
@@ -167,14 +167,14 @@ contest_of st devices cuts counted keys winners bits acknowledged same shift exa
     none : acknowledged ≡ false → NoneLeft cuts keys bits
     none is = ap (list_any (λ s. not (lost_by cuts 73 s))) (sym held) ∙ (sym ack ∙ is)
 
--- ---- who acknowledges the address
+-- ---- the devices that acknowledge the address
 
 same_truth : (a b : Bool) → (a ≡ true → b ≡ true) → (b ≡ true → a ≡ true) → a ≡ b
 same_truth true b there back = sym (there refl)
 same_truth false true there back = back refl
 same_truth false false there back = refl
 
--- of those who aren't lost, the winners are the hearers whose number was read
+-- the winners, among the contenders that aren't lost, are the hearers whose number was read
 pub takers_of : (devices : List (Option Device)) (cuts counted : CutList) (keys : List (ℕ × ℕ)) (winners : List ℕ) (bits : ℕ) (slots takers : SlotSet) → counted ≡ counted_from 1 cuts → All (IsContenderKey devices) keys
     → ((s : ℕ) (d : Device) → get_or devices s None ≡ Some d → d.hearing ≡ true → Contains keys (s, number_of d.identity)) → winners ≡ holders counted keys 64 bits
     → ((s : ℕ) → s < SLOTS → has slots s ≡ list_any (λ t. t == s) winners) → ((s : ℕ) → s < SLOTS → has takers s ≡ (has slots s && not (lost_by cuts 73 s))) → AreTakers cuts devices bits takers

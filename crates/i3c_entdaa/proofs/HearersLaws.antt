@@ -97,7 +97,7 @@ contenders_skip devices first upto keys sized l low silent h =
     let same : first + (upto - first) ≡ upto = omega arith in
     subst (λ k. ContendersSoFar devices k keys) same (skip_by (upto - first) devices first keys sized (omega arith) (λ t m n. silent t m (omega arith)) h)
 
--- all places
+-- all places were entered
 pub contenders_exact : (devices : List (Option Device)) (keys : List (ℕ × ℕ)) → length devices ≡ SLOTS → ContendersSoFar devices SLOTS keys → keys ≡ contenders_from 0 devices
 contenders_exact devices keys sized h = h.exact ∙ ap (contenders_from 0) (take_all SLOTS devices (omega (arith, sized)))
 
@@ -146,7 +146,7 @@ pub none_from : (devices : List (Option Device)) (first : ℕ) (left : SlotSet) 
     → in_slot (λ d. d.hearing) (get_or devices t None) ≡ false
 none_from devices first left are none t above l = sym (are t l ∙ ap (λ b. b && in_slot (λ d. d.hearing) (get_or devices t None)) (le-leb first t above)) ∙ none t l
 
--- whoever hears, as whom
+-- a slot that hears with the number n holds a device that hears and has this number
 pub as_whom : (n : ℕ) (o : Option Device) → hears_as n o ≡ true → (d : Device) × (o ≡ Some d) × (d.hearing ≡ true) × (number_of d.identity ≡ n)
 as_whom n None h = absurd (both_ways _ refl h)
 as_whom n (Some d) h = let parts = and_parts d.hearing (number_of d.identity == n) h in (d, refl, parts.0, eqb-true (number_of d.identity) n parts.1)

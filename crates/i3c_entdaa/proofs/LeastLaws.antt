@@ -1,4 +1,4 @@
--- A round in which no device is cut: the least identity of those who hear is read, and whoever has it acknowledges the address.
+-- A round in which no device is cut: the least identity of the hearers is read, and its device acknowledges the address.
 use Rattle.std.proofs.Common.{◌≡◌, ℕ, zero, suc, ◌+◌, ◌-◌, ◌*◌, ◌/◌, ◌%◌, ◌^◌, ◌<◌, ◌≤◌, Bool, true, false, not, ◌&&◌, cond, List, [], ◌∷◌, ◌++◌, length, get_or, Option, None, Some, option_map, refl, ap, sym, subst, ◌∙◌, arith, inl, inr, length-append}
 use Rattle.std.proofs.Math.ListN.{get_or-map}
 use Rattle.std.proofs.Math.Bool.{and-true}
@@ -64,7 +64,8 @@ one_fails p q keys e has kept fails = elim (cases_Bool (list_all p (filter q key
   | inr none ↦ none
 ]
 
--- without cuts each bit of the least key is the AND of what those drive who are still in: the least key itself is one of them
+-- without cuts each bit of the least key is the AND of what the contenders still in drive: the least key itself is one of
+-- them
 each_least : (cuts : CutList) (keys : List (ℕ × ℕ)) (width least s : ℕ) → IsUncut cuts → All (λ e. least ≤ e.1) keys → Contains keys (s, least) → EachBit cuts keys width least
 each_least cuts keys width least s uncut low has left l = elim (cases_Bool (is_one left least)) [
   | inl one ↦ one ∙ sym (all_pass (drives_one left) drives keys (recursion_from_All (λ e. drives e ≡ true → drives_one left e ≡ true) keys (driven one)))
@@ -110,7 +111,7 @@ contenders_all devices sized ranged =
     let all = contenders_upto devices SLOTS sized ranged (omega arith) in
     subst (ContendersSoFar devices SLOTS) (contenders_exact devices all.0 sized all.1) all.1
 
--- ---- who has the least identity
+-- ---- the hearers with the least identity
 
 -- the device in this slot hears, and its identity has this number
 record HearsAs (devices : List (Option Device)) (bits s : ℕ) (d : Device) : Type 0 where

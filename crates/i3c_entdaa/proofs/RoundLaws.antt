@@ -65,7 +65,7 @@ assigned_here st table after lost i a devices taken left same is e f put =
     let listed : after.listed ≡ false = ap (λ (t : Table). t.listed) put in
     λ t. record st { devices = gone t; given = given t; listed = listed t }
 
--- those who acknowledge take the address: the hearers with the identity that aren't lost
+-- the hearers that acknowledge take the address: those with the identity that aren't lost
 same_test : (i j : Identity) (bits : ℕ) → IsInRange i → IsInRange j → number_of j ≡ bits → (number_of i == bits) ≡ same_identity i j
 same_test i j bits a b is = elim (cases_eq (number_of i) bits) [
   | inl e ↦ eq-eqb (number_of i) bits e ∙ sym (same_parts i j (same_number i j a b (e ∙ sym is)))

@@ -1,4 +1,4 @@
--- Who contends in a round, and with which number.
+-- The contenders of a round, and their numbers.
 use Rattle.std.specs.Prelude.{ℕ, suc, ◌≡◌, true, List, [], ◌∷◌, ◌++◌, Option, None, Some, if◌then◌else◌, slice_index_or}
 use Rattle.i3c_base.specs.Numbers.{IsInRange, number_of}
 use Rattle.i3c_base.specs.State.{Device}
@@ -8,7 +8,7 @@ abbrev pub contender : ℕ → Option Device → List (ℕ × ℕ)
 contender slot None = []
 contender slot (Some d) = if d.hearing then (slot, number_of d.identity) ∷ [] else []
 
--- those who hear among the places from this slot on, each with its number
+-- the hearers among the places from this slot on, each with its number
 unfoldable pub contenders_from : ℕ → List (Option Device) → List (ℕ × ℕ)
 contenders_from slot [] = []
 contenders_from slot (place ∷ places) = contender slot place ++ contenders_from (suc slot) places

@@ -12,7 +12,7 @@ use Rattle.i3c_device.specs.Sets.{has}
 use Rattle.i3c_device.specs.Walks.{hears_as}
 use Rattle.i3c_entdaa.specs.Rounds.{IsContested, IsHeard, IsTaken}
 
--- the address that a table has for an identity: the one kept for it, else the pick
+-- the address that a table has for an identity: the one kept for it, or otherwise the pick
 abbrev pub IsAddressIn : Table → Identity → ℕ → Type 0
 IsAddressIn table i a = IsKeptIn table.given i a ⊎ (IsUnknownIn table.given i × IsPickIn table.given table.legacy table.declared a)
 

@@ -12,8 +12,8 @@ use Rattle.i3c_entdaa.specs.declared.outcome.Round.{Round}
 use Rattle.i3c_entdaa.specs.declared.outcome.Round.TheVariants.{NoAddress, Done, Nobody, Assigned}
 use Rattle.i3c_entdaa.specs.Hearers.{contenders_from}
 
--- the 64 bits that are read where all who hear drive their numbers at once: each is the AND of what those drive there
--- who have read their own bits so far and aren't cut. The contest's first bit is bit 1 of the round
+-- the 64 bits that are read while all hearers drive their numbers at once: each is the AND of what the hearers drive that
+-- have read their own bits so far and aren't cut. The contest's first bit is bit 1 of the round
 abbrev pub IsContested : CutList → List (Option Device) → ℕ → Type 0
 IsContested cuts devices bits = (bits < 2 ^ 64) × EachBit (counted_from 1 cuts) (contenders_from 0 devices) 64 bits
 
@@ -25,11 +25,11 @@ IsHeard st cuts = (i : Identity) × IsContender st (lost_by cuts 0) i
 abbrev pub IsTaken : State → CutList → ℕ → Type 0
 IsTaken st cuts bits = (i : Identity) × IsContender st (lost_by cuts 73) i × (number_of i ≡ bits)
 
--- the address that is sent after these bits: the one kept for the identity that they are, else the pick
+-- the address that is sent after these bits: the one kept for the identity that they are, or otherwise the pick
 abbrev pub IsSent : State → ℕ → ℕ → Type 0
 IsSent st bits a = (i : Identity) × IsInRange i × (number_of i ≡ bits) × IsAddressFor st i a
 
--- the bits that a round read and the address that it sent; the identity that is assigned is that of the bits
+-- the bits that a round read, the address that it sent, and the identity that these bits give
 abbrev pub IsRead : State → CutList → Round → Type 0
 IsRead st cuts NoAddress = ⊤
 IsRead st cuts Done = ⊤

@@ -23,7 +23,7 @@ fn enter(keys: &mut ArrayVec<(Slot, u64), SLOTS>, devices: &Devices, slot: Slot)
     keys.push((slot, identity.number()));
 }
 
-/// Enters those who hear into an empty list, each with the number of its identity.
+/// Enters the hearers into an empty list, each with the number of its identity.
 // the list is the caller's, since it is large to hand back
 pub(crate) fn contend(keys: &mut ArrayVec<(Slot, u64), SLOTS>, devices: &Devices)
     requires { keys.old.items ≡ [] }

@@ -13,19 +13,19 @@ use i3c_base::{Cuts, SLOTS, Slot};
 use i3c_device::{Devices, SlotSet};
 use i3c_wires::contest;
 
-/// The ninth bit of `7E`/R, where those who hear acknowledge: a round's first bit.
+/// The ninth bit of `7E`/R, where the hearers acknowledge: a round's first bit.
 pub(crate) const HEADER_ACK: u16 = 0;
 
-/// The first bit of the identities.
+/// The bit of a round at which its identities begin.
 const FIRST_IDENTITY_BIT: u16 = 1;
 
-/// The bits of an identity.
+/// An identity is a PID, a BCR and a DCR.
 const IDENTITY_BITS: u32 = 64;
 
 /// The ninth bit after the address byte, where the winners acknowledge: a round's last bit.
 pub(crate) const ADDRESS_ACK: u16 = 73;
 
-/// What is read of those who contend, and who acknowledges the address that is sent then.
+/// The bits read of the contenders, and the one that acknowledges the address sent next.
 #[derive(Clone, Copy)]
 pub(crate) struct Contested {
     pub bits: u64,
@@ -47,7 +47,7 @@ fn is_left(slots: &[Slot], cuts: &Cuts, last: u16) -> bool
     slots.iter().any(|slot| !cuts.is_lost(*slot, last))
 }
 
-/// Whether nobody hears.
+/// Whether no device hears the session.
 fn nobody_hears(devices: &Devices) -> bool
     ensures silent { IsTrue result → NobodyHears devices.now }
     ensures slots { length devices.now ≡ SLOT_COUNT }
@@ -55,10 +55,10 @@ fn nobody_hears(devices: &Devices) -> bool
     devices.hearers().lowest().is_none()
 }
 
-/// The contest of a round: all who hear drive their identities at once. `None` where nobody acknowledges the header.
+/// The contest of a round: all hearers drive their identities at once. `None` if nobody acknowledges the header.
 ///
-/// Where nobody is cut, they contend by the words that the devices keep of each bit, and those who have the identity that was
-/// read acknowledge the address.
+/// Without cuts they contend by the words that the devices keep of each bit, and those with the identity that was read
+/// acknowledge the address.
 pub(crate) fn read_identity(devices: &Devices, cuts: &Cuts) -> Option<Contested>
     ensures contest { (st : State) → st.devices ≡ devices.now → MatchOption result (AllHearersLost st (lost_by cuts.now 0)) (λ read. IsContest st cuts.now read.bits read.acknowledged) }
     ensures takers { IfSome result (λ read. AreTakers cuts.now devices.now read.bits read.takers) }
@@ -78,7 +78,7 @@ pub(crate) fn read_identity(devices: &Devices, cuts: &Cuts) -> Option<Contested>
     })
 }
 
-/// The same, where somebody may be cut: the keys of those who hear contend bit by bit.
+/// The same with cuts: the keys of the hearers contend bit by bit.
 // out of line, since most rounds have no cuts; one that nobody hears, as each session's last, makes no room for keys
 #[inline(never)]
 fn read_cut(devices: &Devices, cuts: &Cuts) -> Option<Contested>
@@ -93,7 +93,7 @@ fn read_cut(devices: &Devices, cuts: &Cuts) -> Option<Contested>
     read_contest(devices, cuts)
 }
 
-/// The same, where somebody may hear.
+/// The same with at least one hearer.
 fn read_contest(devices: &Devices, cuts: &Cuts) -> Option<Contested>
     ensures contest { (st : State) → st.devices ≡ devices.now → MatchOption result (AllHearersLost st (lost_by cuts.now 0)) (λ read. IsContest st cuts.now read.bits read.acknowledged) }
     ensures takers { IfSome result (λ read. AreTakers cuts.now devices.now read.bits read.takers) }

@@ -12,7 +12,7 @@ pub enum Round {
         bits: u64,
         address: Addr7,
     },
-    /// These bits were read, those of this identity, and whoever sent them took this address.
+    /// These bits were read, those of this identity, and the device that sent them took this address.
     Assigned {
         bits: u64,
         address: Addr7,

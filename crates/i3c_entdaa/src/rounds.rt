@@ -14,7 +14,7 @@ use i3c_device::{Devices, SlotSet};
 use i3c_picker::pick;
 use i3c_table::{Row, Table};
 
-/// The address that the controller sends to this identity: the one kept for it, else the one that it picked.
+/// The address that the controller sends to this identity: the one kept for it, or otherwise the one that it picked.
 fn address_for(table: &Table, identity: &Identity, picked: Addr7) -> Addr7
     requires { IsPickIn table.now.given table.now.legacy table.now.declared picked }
     ensures chosen { IsAddressIn table.now identity.now result }
@@ -49,12 +49,12 @@ fn give(
     });
 }
 
-/// One round of an open session, in which these devices are cut (I3C Basic 5.1.4.2): `7E`/R, the identities of those who
-/// hear, the address and its ACK. Cuts count from the ninth bit of `7E`/R, which is bit 0. The identities are its bits 1
-/// to 64, the address byte bits 65 to 72, and its ACK is bit 73.
+/// One round of an open session, in which these devices are cut (I3C Basic 5.1.4.2): `7E`/R, the identities of the hearers,
+/// the address and its ACK. Cuts count from the ninth bit of `7E`/R, which is bit 0. The identities are its bits 1 to 64, the
+/// address byte bits 65 to 72, and its ACK is bit 73.
 ///
-/// The least identity that isn't beaten by one that is lost wins. It takes the address kept for it, else the least that
-/// may be picked; without a pickable address nothing is sent. Nobody wins where each winner is lost by the ACK. Then the
+/// The least identity that isn't beaten by one that is lost wins. It takes the address kept for it, or otherwise the least
+/// that may be picked; without a pickable address nothing is sent. Nobody wins where each winner is lost by the ACK. Then the
 /// table gets no row, and the address stays free.
 pub fn round(devices: &mut Devices, table: &mut Table, cuts: &Cuts) -> Round
     ensures rounds { (st : State) → st.devices ≡ devices.old → IsTable st table.old

@@ -1,4 +1,4 @@
--- Who hears the command, and what it leaves.
+-- The devices that hear the command, and the state that it leaves.
 use Rattle.std.proofs.Common.{◌≡◌, ℕ, Bool, true, false, List, Option, Some, None, inl, inr, refl, sym, subst}
 use Rattle.i3c_base.specs.declared.answers.Answer.{Answer}
 use Rattle.i3c_base.specs.declared.datum.Direction.{Direction}

@@ -29,7 +29,7 @@ bit_of_test zero l = refl
 bit_of_test (suc zero) l = refl
 bit_of_test (suc (suc b)) l = absurd (omega (arith, l))
 
--- the bits of the byte: four, of which the third is 0
+-- the four bits of the byte: the third is 0
 abbrev BitsOf : KindSet → Type 0
 BitsOf kinds =
     (kinds_byte kinds < 16) × (bit_at (kinds_byte kinds) 0 ≡ bit_of kinds.interrupt) × (bit_at (kinds_byte kinds) 1 ≡ bit_of kinds.role)

@@ -5,7 +5,7 @@ use Rattle.i3c_base.specs.Numbers.{KindSet}
 use Rattle.i3c_word.specs.Parity.{bit_of}
 use Rattle.i3c_ccc.specs.declared.codes.Code.{Code}
 use Rattle.i3c_ccc.specs.declared.codes.Code.TheVariants.{Enec, Disec, EnecDirect, DisecDirect}
-use Rattle.i3c_events.specs.declared.words.Setting.{Setting}
+use Rattle.i3c_events.specs.declared.setting.Setting.{Setting}
 use Rattle.i3c_base.specs.declared.kinds.Change.{Change}
 use Rattle.i3c_base.specs.declared.kinds.Change.TheVariants.{Enable, Disable}
 
@@ -16,7 +16,7 @@ command Disable None = Disec
 command Enable (Some a) = EnecDirect
 command Disable (Some a) = DisecDirect
 
--- the byte of that code
+-- the byte of the command's code, broadcast or to one address
 abbrev pub code_byte : Change → Option ℕ → ℕ
 code_byte Enable None = 0x00
 code_byte Disable None = 0x01

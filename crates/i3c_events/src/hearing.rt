@@ -17,9 +17,9 @@ pub(crate) const ACK_BITS: u16 = WORD_BITS + HEADER_BITS;
 #[error("no device answers at the address")]
 pub struct NoAnswer(pub Addr7);
 
-/// ENEC or DISEC, after so many bits of its frame in which these devices are cut: those whom it reaches hear it, all but
-/// the active controller, or those of them at one address (I3C Basic 5.1.9.3.1). Where none of those is left at the
-/// acknowledgement, nothing changes.
+/// ENEC or DISEC: each device that it reaches hears it, that is, all but the active controller, or those of them at one
+/// address (I3C Basic 5.1.9.3.1). `begun` bits of the frame come before it, and `cuts` are the devices cut in the frame. If
+/// no device is left at the acknowledgement, nothing changes.
 #[inline(always)]
 pub fn hear_kinds(
     devices: &mut Devices,
@@ -45,9 +45,9 @@ pub fn hear_kinds(
     Ok(())
 }
 
-/// SETMWL or SETMRL, after so many bits of its frame in which these devices are cut: those whom it reaches have this maximum
-/// length, all but the active controller, or those of them at one address (I3C Basic 5.1.9.3.5, 5.1.9.3.6). Where none of
-/// those is left at the acknowledgement, nothing changes.
+/// SETMWL or SETMRL: each device that it reaches has this maximum length, that is, all but the active controller, or those of
+/// them at one address (I3C Basic 5.1.9.3.5, 5.1.9.3.6). `begun` bits of the frame come before it, and `cuts` are the devices
+/// cut in the frame. If no device is left at the acknowledgement, nothing changes.
 pub fn hear_length(
     devices: &mut Devices,
     active: Slot,

@@ -1,6 +1,6 @@
 //! Commands to devices that one frame carries: ENEC and DISEC, which enable and disable kinds of events, SETDASA and
-//! SETNEWDA, which set dynamic addresses, and SETMWL and SETMRL, which set the maximum lengths of transfers. Each has its
-//! words, what the devices that hear it do, and how it is told.
+//! SETNEWDA, which set dynamic addresses, and SETMWL and SETMRL, which set the maximum lengths of transfers. For each there
+//! are its words, its effect on the devices, and its symbols.
 #![tactic(auto)]
 
 mod hearing;
@@ -10,8 +10,6 @@ mod words;
 
 pub use hearing::{NoAnswer, answer_of, hear_kinds, hear_length, kinds_bits, length_bits};
 pub use i3c_base::{Answer, Change, Kinds};
-pub use setting::{hear_new, hear_static};
+pub use setting::{Setting, hear_new, hear_static};
 pub use wire::{tell_kinds, tell_length, tell_setting};
-pub use words::{
-    Setting, address_word, code_word, kinds_word, length_code, length_word, setting_word,
-};
+pub use words::{address_word, code_word, kinds_word, length_code, length_word, setting_word};

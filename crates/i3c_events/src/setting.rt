@@ -7,9 +7,18 @@ use crate::hearing::{ACK_BITS, NoAnswer};
 use i3c_base::{Addr7, Cuts, Slot};
 use i3c_device::Devices;
 
-/// SETDASA, after so many bits of its frame in which these devices are cut: who has the static address and no dynamic one
-/// takes the new address, but the active controller (I3C Basic 5.1.9.3.10). Where none of those is left at the
-/// acknowledgement, nothing changes. No dynamic address is below `08`.
+/// A command that sets the dynamic address of a device.
+#[derive(Clone, Copy, Debug, PartialEq, Eq)]
+pub enum Setting {
+    /// SETDASA, to a static address (I3C Basic 5.1.9.3.10).
+    Static,
+    /// SETNEWDA, to a dynamic address (I3C Basic 5.1.9.3.11).
+    New,
+}
+
+/// SETDASA: each device with the static address and no dynamic one takes the new address, except the active controller (I3C
+/// Basic 5.1.9.3.10). `begun` bits of the frame come before it, and `cuts` are the devices cut in the frame. If no device is
+/// left at the acknowledgement, nothing changes. No dynamic address is below `08`.
 #[inline(always)]
 pub fn hear_static(
     devices: &mut Devices,
@@ -34,9 +43,9 @@ pub fn hear_static(
     Ok(())
 }
 
-/// SETNEWDA, after so many bits of its frame in which these devices are cut: all who have the old address have the new one,
-/// but the active controller (I3C Basic 5.1.9.3.11). Where none of those is left at the acknowledgement, nothing changes.
-/// No dynamic address is below `08`.
+/// SETNEWDA: each device with the old address has the new one, except the active controller (I3C Basic 5.1.9.3.11). `begun`
+/// bits of the frame come before it, and `cuts` are the devices cut in the frame. If no device is left at the
+/// acknowledgement, nothing changes. No dynamic address is below `08`.
 pub fn hear_new(
     devices: &mut Devices,
     active: Slot,

@@ -6,9 +6,8 @@ ghost use Rattle.i3c_events.specs.Words.{setting_byte};
 ghost use Rattle.i3c_frame.specs.Taps.{Tells};
 
 use crate::hearing::NoAnswer;
-use crate::words::{
-    Setting, address_word, code_word, kinds_word, length_code, length_word, setting_word,
-};
+use crate::setting::Setting;
+use crate::words::{address_word, code_word, kinds_word, length_code, length_word, setting_word};
 use i3c_base::{Addr7, Change, Direction, Kinds, Length};
 use i3c_frame::{Symbol, Tap};
 use i3c_word::write_word;

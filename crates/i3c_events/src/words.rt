@@ -4,6 +4,7 @@ ghost use Rattle.i3c_word.specs.Parity.{HasOddParity};
 ghost use Rattle.i3c_device.specs.Hearing.{named_kinds};
 ghost use Rattle.i3c_events.specs.Words.{code_byte, command, kinds_byte, length_code_byte, setting_byte};
 
+use crate::setting::Setting;
 use bitflags::Flags;
 use i3c_base::{Addr7, Change, Direction, Kinds, Length};
 use i3c_ccc::{Code, byte_of};
@@ -11,15 +12,6 @@ use i3c_word::{Word, write_word};
 
 /// The bits that stand for kinds: interrupts, role requests and Hot-Join.
 const NAMED: u8 = 0b1011;
-
-/// A command that sets the dynamic address of a device.
-#[derive(Clone, Copy, Debug, PartialEq, Eq)]
-pub enum Setting {
-    /// SETDASA, to a static address (I3C Basic 5.1.9.3.10).
-    Static,
-    /// SETNEWDA, to a dynamic address (I3C Basic 5.1.9.3.11).
-    New,
-}
 
 /// The command's code: broadcast, or direct to one address.
 pub(crate) fn code_for(change: Change, to: Option<Addr7>) -> Code

@@ -31,7 +31,7 @@ IsCourse blocks (order ∷ before) = IsCourse blocks before × (length before < 
 abbrev pub IsWhole : {L : Type 0} → List (Vec (Vec L)) → List (List Turn) → Type 0
 IsWhole blocks course = IsCourse blocks course × (length course ≡ length blocks)
 
--- the beginning of a course: the newest order can be one of which only the beginning has run
+-- the beginning of a course: the newest order may have run only in part
 abbrev pub IsBegun : {L : Type 0} → List (Vec (Vec L)) → List (List Turn) → Type 0
 IsBegun blocks [] = Unit {0}
 IsBegun blocks (order ∷ before) = IsCourse blocks before × (length before < length blocks) × IsPrefix (block blocks (length before)) order

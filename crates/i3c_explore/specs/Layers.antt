@@ -16,7 +16,7 @@ Has {S} layer places state = (n : Node S) × Contains layer n × (n.places.items
 abbrev pub Keeps : {S : Type 0} → List (Node S) → List (Node S) → Type 0
 Keeps {S} old new = (places : List ℕ) (state : S) → Has old places state → Has new places state
 
--- two nodes are equal but for the numbers of their orders
+-- two nodes are equal except for the numbers of their orders
 abbrev pub IsLike : {S : Type 0} → Node S → Node S → Type 0
 IsLike one other = (one.state ≡ other.state) × (one.places.items ≡ other.places.items) × (one.order.items ≡ other.order.items)
 
@@ -89,7 +89,7 @@ pub record IsBreak {S L : Type 0} (breaks : S → L → ℕ → Type 0) (lines :
 abbrev pub IsTracked : {S L : Type 0} → (S → L → ℕ → S → Type 0) → (ℕ → List L) → ℕ → Node S → List (Node S) → Type 0
 IsTracked {S} {L} steps lines t node layer = (line : L) → IsNextAt lines node.places.items t line → (way : ℕ) → (new : S) × steps node.state line way new × Has layer (advanced t node.places.items) new
 
--- and of each track below a number
+-- the layer has what the next lines of the tracks below a number lead to
 abbrev pub IsExpanded : {S L : Type 0} → (S → L → ℕ → S → Type 0) → (ℕ → List L) → ℕ → Node S → List (Node S) → Type 0
 IsExpanded steps lines count node layer = (t : ℕ) → t < count → IsTracked steps lines t node layer
 
@@ -106,7 +106,7 @@ abbrev pub Holds : {S L : Type 0} → (S → L → ℕ → S → Type 0) → Lis
 Holds {S} steps tracks start layer order =
     (n : Node S) × Contains layer n × ((t : ℕ) → turns_of t order ≡ slice_index n.places.items t) × Leads steps tracks start order n.state
 
--- a layer begins a block: the same states, none of whose lines has run
+-- a layer begins a block: the same states, with no line of it run
 abbrev pub IsRestarted : {S : Type 0} → ℕ → Node S → Node S → Type 0
 IsRestarted count old new = (new.state ≡ old.state) × (new.order.items ≡ old.order.items) × (new.orders ≡ old.orders) × ((t : ℕ) → slice_index new.places.items t ≡ 0) × (length new.places.items ≡ count)
 

@@ -16,7 +16,7 @@ pub record IsSharedIn {S L : Type 0} (Fits : Node S → List ℕ × List (List �
   pub each : (k : ℕ) → k < last → first ≤ k → (n : Node S) (o : List ℕ × List (List ℕ)) → slice_get layer k ≡ Some n → Contains (by_tracks (ran k) n.places.items count (share k)) o → (j : ℕ) × Contains (now j) o
   pub from : (j : ℕ) (o : List ℕ × List (List ℕ)) → Contains (now j) o → (k : ℕ) × (k < last) × (first ≤ k) × ((n : Node S) × (slice_get layer k ≡ Some n) × Contains (by_tracks (ran k) n.places.items count (share k)) o)
 
--- and this for each way to share them out
+-- the orders of the nodes are shared out to the next ones, for each way to share them
 abbrev pub SharesIn : {S L : Type 0} → (S → L → ℕ → S → Type 0) → List (Vec L) → (ℕ → ℕ → List L) → ℕ → List (Node S) → ℕ → ℕ → List (Node S) → Type 0
 SharesIn {S} {L} steps tracks ran count layer first last next = (starts : List (Node S)) (past : ℕ → List (List (List ℕ))) (share : ℕ → List (List ℕ × List (List ℕ))) → IsShared layer share
     → IsMeant (IsLed steps tracks starts past) layer share → IsSharedIn (IsLed steps tracks starts past) ran count layer first last next share
@@ -43,6 +43,6 @@ ArePlaced {S} layer tracks = (n : Node S) → Contains layer n → length n.plac
 abbrev pub FollowsAll : {S L : Type 0} → (S → L → ℕ → S → Type 0) → List (Vec L) → Part → List (Node S) → List (Node S) → Type 0
 FollowsAll steps tracks part layer next = IsNextOf steps tracks (opening part tracks) (λ _. opening part tracks) layer 0 (length layer) next
 
--- one more line of such a track breaks an expectation behind a node of a layer, in this order
+-- one more line of this track breaks an expectation behind a node of a layer, in this order
 abbrev pub BreaksNext : {S L : Type 0} → (S → L → ℕ → Type 0) → List (Vec L) → Part → List (Node S) → List Turn → Type 0
 BreaksNext {S} breaks tracks part layer order = (old : Node S) × Contains layer old × IsBreak breaks (opening part tracks) old order

@@ -6,7 +6,7 @@ abbrev pub number : Option ℕ → ℕ
 number None = 0
 number (Some job) = job
 
--- the job that runs the next line of a track from a node, where each node has so many tracks
+-- the job that runs the next line of a track from a node, where each node has `tracks` tracks
 abbrev pub owner : List ℕ → ℕ → ℕ → ℕ → ℕ
 owner jobs tracks node track = number (slice_get jobs (node * tracks + track))
 
@@ -14,7 +14,7 @@ owner jobs tracks node track = number (slice_get jobs (node * tracks + track))
 abbrev pub takes : List ℕ → ℕ → ℕ → ℕ → ℕ → Bool
 takes jobs tracks job node track = owner jobs tracks node track == job
 
--- each job that is noted is one of so many
+-- each job that is noted is below `count`
 abbrev pub AreOwned : List ℕ → ℕ → Type 0
 AreOwned jobs count = (k job : ℕ) → slice_get jobs k ≡ Some job → job < count
 
@@ -22,6 +22,6 @@ AreOwned jobs count = (k job : ℕ) → slice_get jobs k ≡ Some job → job < 
 abbrev pub own : {L : Type 0} → List ℕ → ℕ → ℕ → (ℕ → List L) → ℕ → ℕ → List L
 own jobs tracks job lines node track = if takes jobs tracks job node track then lines track else []
 
--- and those that the jobs below a number run
+-- the lines that the jobs below a number run from a node
 abbrev pub own_below : {L : Type 0} → List ℕ → ℕ → ℕ → (ℕ → List L) → ℕ → ℕ → List L
 own_below jobs tracks count lines node track = if nat_le (suc (owner jobs tracks node track)) count then lines track else []

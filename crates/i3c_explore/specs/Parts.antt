@@ -5,7 +5,7 @@ use Rattle.i3c_explore.specs.declared.turn.Turn.{Turn}
 use Rattle.i3c_explore.specs.Orders.{track}
 use Rattle.i3c_explore.specs.Splits.{IsInPart}
 
--- one of so many parts, counted from 0
+-- one of several parts, counted from 0
 pub record Part : Type 0 where
   pub index : ℕ
   pub of : ℕ

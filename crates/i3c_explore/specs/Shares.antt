@@ -53,7 +53,7 @@ longer t order = (t ∷ order.0, order.1)
 abbrev pub by_turn : Turn → List (List ℕ × List (List ℕ)) → List (List ℕ × List (List ℕ))
 by_turn turn own = if turn.way == 0 then map (longer turn.track) own else []
 
--- the orders that so many ways of a track's line lead on
+-- the orders of a state, each longer by a track's line, if that line goes at least one way
 abbrev pub by_ways : ℕ → ℕ → List (List ℕ × List (List ℕ)) → List (List ℕ × List (List ℕ))
 by_ways zero t own = []
 by_ways (suc ways) t own = map (longer t) own

@@ -17,7 +17,7 @@ after_first t way order = order ++ record { track = t; way = way } ∷ []
 abbrev pub OrdersSplit : {L : Type 0} → List (Vec L) → Type 0
 OrdersSplit {L} tracks = (t : ℕ) (line : L) (rest : List (Vec L)) → IsWithout tracks t line rest → (way : ℕ) (order : List Turn) → IsOrder tracks (after_first t way order) ↔ IsOrder rest order
 
--- and it leads where first that line leads, and then the order of the rest
+-- an order that begins with the first line of track t leads on exactly as that line and then the order of the rest
 abbrev pub RunsSplit : {S L : Type 0} → (S → L → ℕ → S → Type 0) → List (Vec L) → Type 0
 RunsSplit {S} {L} steps tracks = (t : ℕ) (line : L) (rest : List (Vec L)) → IsWithout tracks t line rest → (way : ℕ) (order : List Turn) (start end : S)
     → Leads steps tracks start (after_first t way order) end ↔ ((mid : S) × steps start line way mid × Leads steps rest mid order end)

@@ -7,7 +7,7 @@ use Rattle.i3c_explore.specs.Blocks.{AreCounted, PartIsCounted}
 use Rattle.i3c_explore.specs.Numbers.{IsNumber}
 use Rattle.i3c_explore.specs.Parts.{IsOfPart, Part}
 
--- part `index` of so many, counted from 0
+-- part `index` of `parts`, counted from 0
 abbrev pub part_of : ℕ → ℕ → Part
 part_of index parts = record { index = index; of = parts }
 

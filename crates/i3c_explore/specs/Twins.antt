@@ -13,7 +13,7 @@ pub record AreTwins {S : Type 0} (nodes : List (Node S)) (before later : ℕ) : 
   pub places : one.places.items ≡ other.places.items
   pub state : one.state ≡ other.state
 
--- all these are twins
+-- each of these pairs of nodes is a twin
 abbrev pub AllTwins : {S : Type 0} → List (Node S) → List Twin → Type 0
 AllTwins nodes twins = (twin : Twin) → Contains twins twin → AreTwins nodes twin.before twin.later
 

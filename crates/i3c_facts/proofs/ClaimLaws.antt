@@ -5,7 +5,7 @@ use Rattle.std.proofs.lemmas.List.{length-drop, take_all}
 use Rattle.std.proofs.lemmas.List.Splits.{slice_split-cons_no, slice_split-cons_yes}
 use Rattle.std.specs.Cmp.Lexicographic.{same_text}
 use Rattle.std.specs.List.{onto_first}
-use Rattle.i3c_facts.specs.declared.claims.Claim.{Claim}
+use Rattle.i3c_facts.specs.declared.facts.Claim.{Claim}
 use Rattle.i3c_facts.specs.declared.fact.Fact.{Fact}
 use Rattle.i3c_facts.specs.Forms.{AreClaims, IsClaim, IsClaimOf, IsFact, is_or, parts, texts}
 
@@ -42,7 +42,7 @@ first_part (first ∷ tokens) (suc at) token within is none =
     ∙ ap (onto_first first.now) (first_part tokens at token (omega (arith, within)) is (λ k below. none (suc k) (omega (arith, below))))
     ∙ ap (λ n. texts (take (suc at) (first ∷ tokens)) ∷ parts (texts (drop n (first ∷ tokens)))) more
 
--- the same of what is cut out
+-- the same of tokens that are cut off
 pub first_part_cut : (tokens : List (Bor (List ℕ))) (at : ℕ) (token : Bor (List ℕ)) → at < length tokens → (get_or tokens at token).now ≡ codes "or" → IsNoOrBelow tokens at
     → parts (texts tokens) ≡ texts (take at tokens) ∷ parts (texts (take (length tokens - (at + 1)) (drop (at + 1) tokens)))
 first_part_cut tokens at token within is none =

@@ -13,7 +13,7 @@ use Rattle.i3c_lines.specs.Forms.{IsNamed, tokens_of}
 use Rattle.i3c_lines.specs.Refusing.{refusal_token}
 use Rattle.i3c_lines.specs.Tokens.{IsDecimal, IsHex}
 use Rattle.i3c_lines.proofs.Meanings.{are_same, hex, named, same_name}
-use Rattle.i3c_facts.specs.declared.claims.Claim.{Claim}
+use Rattle.i3c_facts.specs.declared.facts.Claim.{Claim}
 use Rattle.i3c_facts.specs.declared.fact.Fact.{Fact}
 use Rattle.i3c_facts.specs.declared.marks.Mark.{Mark}
 use Rattle.i3c_facts.specs.Forms.{AreClaims, IsByteOrNone, IsClaimOf, IsFact, IsReason, parts}
@@ -147,7 +147,7 @@ fact_is tokens (Fact.Refused why) (rest, e, is) = ap fact_of e ∙ refused_is re
 abbrev second_letter : List (List ℕ) → ℕ
 second_letter tokens = letter_of (tail_of (first_of tokens))
 
--- what stands behind `not` is never a fact by itself, if with `not` it is one
+-- tokens that are a fact with `not` before them are never a fact by themselves
 at_two : (spot : List ℕ) → (spot ≡ codes "gone" → ⊥) → (fact : Fact) → IsFact (codes "at" ∷ spot ∷ []) fact → ⊥
 at_two spot other (Fact.Active name) (w, e, is) = omega (arith, ap second_letter e)
 at_two spot other (Fact.At name address) (w, place, e, is, writes) = omega (arith, ap length e)

@@ -17,7 +17,7 @@ use Rattle.i3c_lines.specs.Tokens.{IsDecimal, IsHex}
 use Rattle.i3c_lines.proofs.PrintedLines.{Apart, byte_writes, decimal_writes, plain, tokens_spaced}
 use Rattle.i3c_lines.proofs.SplitLaws.{HasNoSpace, hex_no_space, name_no_space}
 use Rattle.i3c_text.specs.Hex.{byte_text}
-use Rattle.i3c_facts.specs.declared.claims.Claim.{Claim}
+use Rattle.i3c_facts.specs.declared.facts.Claim.{Claim}
 use Rattle.i3c_facts.specs.declared.fact.Fact.{Fact}
 use Rattle.i3c_facts.specs.declared.marks.Mark.{Mark}
 use Rattle.i3c_facts.specs.Forms.{AreClaims, IsByteOrNone, IsClaimOf, IsFact, is_or, parts}

@@ -1,11 +1,11 @@
--- Which bytes are which mark, and which facts it says.
+-- The bytes of marks, and the facts that marks say.
 use Rattle.std.specs.Prelude.{◌≡◌, ◌≢◌, ⊤, ℕ, ◌≤◌, Bool, true, false, List, [], ◌∷◌, Option, Some, None, codes, length, map, nat_eq}
 use denote.Ref.{Bor}
 use Rattle.std.specs.Cmp.Lexicographic.{pointwise}
 use Rattle.std.specs.List.{slice_split}
 use Rattle.i3c_step.specs.declared.replies.Refusal.{Refusal as BusRefusal}
 use Rattle.i3c_legacy.specs.declared.faults.DeclareFault.{DeclareFault}
-use Rattle.i3c_facts.specs.declared.claims.Claim.{Claim}
+use Rattle.i3c_facts.specs.declared.facts.Claim.{Claim}
 use Rattle.i3c_facts.specs.declared.fact.Fact.{Fact}
 use Rattle.i3c_facts.specs.declared.marks.Mark.{Mark}
 use Rattle.i3c_lines.specs.declared.refusals.Refusal.{Refusal}

@@ -1,4 +1,4 @@
--- What a fact holds of: the bus, the place of its name, and what the line before came to.
+-- When a fact holds: by the bus, the place of its name, and the result of the previous line.
 use Rattle.std.specs.Prelude.{ℕ, zero, suc, ◌+◌, ◌==◌, Bool, true, false, not, ◌&&◌, ◌||◌, List, [], ◌∷◌, Option, Some, None, if◌then◌else◌, is_some, length, nat_eq, option_and_then}
 use Rattle.std.specs.Cmp.Lexicographic.{pointwise}
 use Rattle.i3c_base.specs.declared.range.TheConstants.{SLOTS}
@@ -6,9 +6,9 @@ use Rattle.i3c_base.specs.declared.requests.Record.{Record}
 use Rattle.i3c_base.specs.State.{Device, State, device_at, has_address, in_slot}
 use Rattle.i3c_bus.specs.Readings.{waiting_of}
 use Rattle.i3c_step.specs.declared.replies.Refusal.{Refusal as BusRefusal}
-use Rattle.i3c_facts.specs.declared.claims.Claim.{Claim}
+use Rattle.i3c_facts.specs.declared.facts.Claim.{Claim}
 use Rattle.i3c_facts.specs.declared.fact.Fact.{Fact}
-use Rattle.i3c_facts.specs.declared.holding.Before.{Before}
+use Rattle.i3c_facts.specs.declared.before.Before.{Before}
 use Rattle.i3c_lines.specs.declared.names.Name.{Name}
 use Rattle.i3c_lines.specs.declared.names.Place.{Place}
 use Rattle.i3c_lines.specs.declared.refusals.Refusal.{Refusal}
@@ -67,7 +67,7 @@ abbrev pub records_of : ℕ → Option ℕ → List Record → ℕ
 records_of slot byte [] = 0
 records_of slot byte (first ∷ records) = (if is_record_of slot byte first then 1 else 0) + records_of slot byte records
 
--- so many records are of the slot that a name stands for
+-- the slot of a name has `count` records, with this mandatory byte or with none
 abbrev pub are_recorded : List Record → Option ℕ → Option ℕ → ℕ → Bool
 are_recorded records None byte count = false
 are_recorded records (Some slot) byte count = records_of slot byte records == count
@@ -82,7 +82,7 @@ address_about _ = None
 abbrev pub is_same_refusal : Refusal → Refusal → Bool
 is_same_refusal why other = pointwise nat_eq (refusal_token why) (refusal_token other) && same_number (address_about why) (address_about other)
 
--- what a line came to, for the facts behind it
+-- the result of a line, for the facts behind it
 abbrev pub came_to : Option Refusal → Before
 came_to None = Before.Done
 came_to (Some why) = Before.Refused why
@@ -99,7 +99,7 @@ is_refused why Before.Nothing = false
 is_refused why Before.Done = false
 is_refused why (Before.Refused other) = is_same_refusal why other
 
--- a fact holds, where its name stands for this place and this is what the line before came to
+-- a fact holds, with this place of its name and this result of the previous line
 abbrev pub fact_holds : State → Option Place → Before → Fact → Bool
 fact_holds st place before (Fact.Active name) = same_number (slot_of place) (Some st.active)
 fact_holds st place before (Fact.At name address) = in_slot (has_address address) (device_of st place)
@@ -124,7 +124,7 @@ claim_holds st place before claim = if claim.negated then not (fact_holds st pla
 abbrev pub place_for : (Name → Option Place) → Fact → Option Place
 place_for places fact = option_and_then places (name_of fact)
 
--- one of these claims holds
+-- at least one of these claims holds of a bus
 abbrev pub claims_hold : State → (Name → Option Place) → Before → List Claim → Bool
 claims_hold st places before [] = false
 claims_hold st places before (claim ∷ claims) = claim_holds st (place_for places claim.fact) before claim || claims_hold st places before claims

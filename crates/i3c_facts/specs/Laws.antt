@@ -14,6 +14,6 @@ MarksAreNoCommands = (line : List ℕ) (mark : Mark) → IsMark line mark → ((
 abbrev pub LinesAreOfOneMark : Type 0
 LinesAreOfOneMark = (line : List ℕ) (one other : Mark) → IsMark line one → IsMark line other → one ≡ other
 
--- a mark that a line can say is what it is printed as, unless that is too long
+-- a mark that a line can say is read from its printed line, unless that is too long
 abbrev pub PrintedMarksAreRead : Type 0
 PrintedMarksAreRead = (mark : Mark) → MarkHasLine mark → length (mark_text mark) ≤ 256 → IsMark (mark_text mark) mark

@@ -1,4 +1,4 @@
--- Marks and facts as they are printed, and what is there where facts don't hold.
+-- The texts of marks and facts, and of what holds in place of unmet facts.
 use Rattle.std.specs.Prelude.{◌≢◌, ⊤, ℕ, ◌^◌, ◌<◌, Bool, true, false, List, [], ◌∷◌, ◌++◌, Option, Some, None, codes, length}
 use Rattle.std.specs.Fmt.{decimal}
 use Rattle.i3c_base.specs.declared.range.TheConstants.{SLOTS}
@@ -6,9 +6,9 @@ use Rattle.i3c_base.specs.declared.requests.Record.{Record}
 use Rattle.i3c_base.specs.State.{Device, State}
 use Rattle.i3c_legacy.specs.declared.faults.DeclareFault.{DeclareFault}
 use Rattle.i3c_step.specs.declared.replies.Refusal.{Refusal as BusRefusal}
-use Rattle.i3c_facts.specs.declared.claims.Claim.{Claim}
+use Rattle.i3c_facts.specs.declared.facts.Claim.{Claim}
 use Rattle.i3c_facts.specs.declared.fact.Fact.{Fact}
-use Rattle.i3c_facts.specs.declared.holding.Before.{Before}
+use Rattle.i3c_facts.specs.declared.before.Before.{Before}
 use Rattle.i3c_facts.specs.declared.marks.Mark.{Mark}
 use Rattle.i3c_facts.specs.Holding.{device_of, place_for, records_of, slot_of, waiting_below}
 use Rattle.i3c_lines.specs.declared.names.Name.{Name}
@@ -28,7 +28,7 @@ byte_or_none (Some byte) = byte_text byte
 abbrev pub recorded_text : Name → Option ℕ → ℕ → List ℕ
 recorded_text name byte count = codes "record " ++ (letters name ++ (codes " " ++ (byte_or_none byte ++ (codes " " ++ decimal count))))
 
--- a fact
+-- the text of a fact, as a line has it
 abbrev pub fact_text : Fact → List ℕ
 fact_text (Fact.Active name) = codes "active " ++ letters name
 fact_text (Fact.At name address) = letters name ++ (codes " at " ++ byte_text address)
@@ -50,7 +50,7 @@ abbrev pub negation_text : Bool → List ℕ
 negation_text true = codes "not "
 negation_text false = []
 
--- a claim
+-- the text of a claim, with `not` if it is negated
 abbrev pub claim_text : Claim → List ℕ
 claim_text claim = negation_text claim.negated ++ fact_text claim.fact
 
@@ -64,7 +64,7 @@ abbrev pub claims_text : List Claim → List ℕ
 claims_text [] = []
 claims_text (claim ∷ claims) = claim_text claim ++ more_text claims
 
--- a mark's line
+-- the line of a mark
 abbrev pub mark_text : Mark → List ℕ
 mark_text Mark.Any = codes "any"
 mark_text (Mark.Anywhere name) = codes "anywhere " ++ letters name
@@ -98,13 +98,13 @@ abbrev pub counted_text : Name → Option ℕ → Option ℕ → List Record →
 counted_text name byte None records = letters name ++ codes " gone"
 counted_text name byte (Some slot) records = recorded_text name byte (records_of slot byte records)
 
--- what the line before came to, where it wasn't what a fact says
+-- the result of the previous line, if it isn't the one that a fact says
 abbrev pub before_text : Fact → Before → List ℕ
 before_text fact Before.Nothing = codes "not " ++ fact_text fact
 before_text fact Before.Done = codes "done"
 before_text fact (Before.Refused why) = codes "refused " ++ refusal_text why
 
--- what is there, where a fact doesn't hold
+-- what holds in place of an unmet fact
 abbrev pub there_text : State → Option Place → (ℕ → Option Name) → Before → Fact → List ℕ
 there_text st place slot_names before (Fact.Active name) = active_text (slot_names st.active)
 there_text st place slot_names before (Fact.At name address) = letters name ++ place_text (device_of st place)
@@ -121,12 +121,12 @@ there_text st place slot_names before Fact.Open = codes "not open"
 there_text st place slot_names before Fact.Done = before_text Fact.Done before
 there_text st place slot_names before (Fact.Refused why) = before_text (Fact.Refused why) before
 
--- what is there, where a claim doesn't hold: a fact that it negates
+-- what holds in place of an unmet claim: a fact that it negates
 abbrev pub unmet_claim : State → Option Place → (ℕ → Option Name) → Before → Fact → Bool → List ℕ
 unmet_claim st place slot_names before fact true = fact_text fact
 unmet_claim st place slot_names before fact false = there_text st place slot_names before fact
 
--- what is there, where none of these claims holds: the first one as it would hold
+-- what holds in place of these claims, if none of them holds: the first one as it would hold
 abbrev pub unmet_text : State → (Name → Option Place) → (ℕ → Option Name) → Before → List Claim → List ℕ
 unmet_text st places slot_names before [] = []
 unmet_text st places slot_names before (claim ∷ claims) = unmet_claim st (place_for places claim.fact) slot_names before claim.fact claim.negated

@@ -4,7 +4,7 @@ use Rattle.i3c_legacy.specs.declared.faults.DeclareFault.{DeclareFault}
 use Rattle.i3c_legacy.specs.declared.faults.LegacyFault.{LegacyFault}
 use Rattle.i3c_step.specs.declared.replies.Refusal.{Refusal as BusRefusal}
 use Rattle.i3c_lines.specs.declared.refusals.Refusal.{Refusal}
-use Rattle.i3c_facts.specs.declared.claims.Claim.{Claim}
+use Rattle.i3c_facts.specs.declared.facts.Claim.{Claim}
 use Rattle.i3c_facts.specs.Forms.{AreClaims}
 
 -- claims are appended exactly if these parts are claims

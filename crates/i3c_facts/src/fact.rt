@@ -1,7 +1,7 @@
 use i3c_base::Addr7;
 use i3c_lines::{Name, Refusal};
 
-/// One thing that may hold: of the bus, of the device that a name stands for, or of what the line before came to.
+/// One thing that may hold: of the bus, of the device of a name, or of the previous line's result.
 #[derive(Clone, Copy)]
 pub enum Fact {
     /// `active NAME`: the device is the active controller.
@@ -14,14 +14,14 @@ pub enum Fact {
     AtNone(Name),
     /// `NAME gone`: no device of this name is there.
     Gone(Name),
-    /// `NAME waiting N`: so many interrupts of the device wait.
+    /// `NAME waiting N`: N interrupts of the device wait.
     Waiting(Name, u16),
-    /// `waiting N`: so many interrupts of all devices wait.
+    /// `waiting N`: N interrupts of all devices wait.
     AllWaiting(u16),
-    /// `records N`: so many interrupts were recorded.
+    /// `records N`: N interrupts were recorded.
     Records(u16),
-    /// `record NAME BYTE N`, `record NAME -- N`: so many interrupts of the name's slot were recorded with this mandatory byte,
-    /// or with none.
+    /// `record NAME BYTE N`, `record NAME -- N`: N interrupts of the name's slot were recorded with this mandatory byte, or
+    /// with none.
     Recorded(Name, Option<u8>, u16),
     /// `assigned`: each device has a dynamic address.
     Assigned,

@@ -1,221 +1,128 @@
-ghost use Rattle.std.specs.Prelude.{◌≡◌, ◌∷◌, ℕ, Option, MatchOption, [], codes};
-ghost use Rattle.i3c_facts.specs.Forms.{IsByteOrNone, IsFact, texts};
+ghost use Rattle.std.specs.Prelude.{◌≡◌, ◌<◌, ◌∷◌, IfOk, IfSome, length, option_copied, true};
+ghost use Rattle.i3c_facts.specs.Forms.{AreFacts, IsClaim, parts, parts_left, texts};
+ghost use Rattle.i3c_facts.specs.Reading.{Extends};
 ghost use Rattle.i3c_lines.specs.Parsing.{Reads};
 
 use crate::fact::Fact;
-use crate::reasons::{plain_reason, reason_at};
-use i3c_lines::Name;
-use i3c_lines::tokens::{self, is_token};
+use crate::fact_tokens::{NOT, read_fact};
+use i3c_lines::Refusal;
+use i3c_lines::tokens::is_token;
+use i3c_step::Refusal as BusRefusal;
+use std::alloc::{AllocError, Global};
+use std::marker::Model;
 
-const ACTIVE: &[u8] = b"active";
+/// What parts the claims of a line.
+const OR: &[u8] = b"or";
 
-const ANY: &[u8] = b"any";
+/// A fact that is claimed to hold, or, where it is negated, not to hold.
+#[derive(Clone, Copy)]
+pub struct Claim {
+    /// The fact that the claim is about.
+    pub fact: Fact,
+    /// Whether it is claimed not to hold.
+    pub negated: bool,
+}
 
-const ASSIGNED: &[u8] = b"assigned";
+/// Claims, one of which has to hold. Clauses see the claims.
+#[derive(Drop)]
+pub struct Facts {
+    pub(crate) claims: Vec<Claim>,
+}
 
-const AT: &[u8] = b"at";
+impl Model for Facts {
+    ghost use Rattle.std.specs.Prelude.{List};
+    ghost use Rattle.i3c_facts.specs.declared.facts.Claim.{Claim};
 
-const DONE: &[u8] = b"done";
+    ghost Value = { List Claim };
 
-const GONE: &[u8] = b"gone";
+    ghost view = { λ facts. facts.claims.items };
+}
 
-const LISTED: &[u8] = b"listed";
+impl Facts {
+    ghost use Rattle.std.specs.Prelude.{◌≡◌, IfOk};
 
-const NO_BYTE: &[u8] = b"--";
+    /// The claims in the order of the line: at least one.
+    pub fn claims(&self) -> &[Claim]
+        ensures { result.now ≡ self.now }
+    {
+        self.claims.as_slice()
+    }
 
-const NONE: &[u8] = b"none";
-
-/// What turns a fact into its contrary.
-pub(crate) const NOT: &[u8] = b"not";
-
-const OPEN: &[u8] = b"open";
-
-const RECORD: &[u8] = b"record";
-
-const RECORDS: &[u8] = b"records";
-
-const REFUSED: &[u8] = b"refused";
-
-const WAITING: &[u8] = b"waiting";
-
-/// The fact that some tokens say, if they have a fact's form.
-pub(crate) fn read_fact(tokens: &[&[u8]]) -> Option<Fact>
-    ensures { Reads IsFact (texts tokens.now) result }
-{
-    match tokens {
-        [token] => of_one(token),
-        [first, second] => of_two(first, second),
-        [first, second, third] => of_three(first, second, third),
-        [first, second, third, fourth] => of_four(first, second, third, fourth),
-        _ => None,
+    /// The same claims once more.
+    ///
+    /// # Errors
+    ///
+    /// There is no memory for them.
+    pub fn copied(&self) -> Result<Facts, AllocError>
+        ensures { IfOk result (λ copy. copy ≡ self.now) }
+    {
+        let claims = self.claims.clone()?;
+        Ok(Facts { claims })
     }
 }
 
-/// A fact of one token.
-fn of_one(token: &[u8]) -> Option<Fact>
-    ensures { Reads IsFact (token.now ∷ []) result }
+/// The facts that some tokens say, if they have their form.
+pub(crate) fn read_facts(alloc: Global, tokens: &[&[u8]]) -> Result<Option<Facts>, AllocError>
+    ensures { IfOk result (Reads AreFacts (texts tokens.now)) }
 {
-    if is_token(token, ASSIGNED) {
-        return Some(Fact::Assigned);
+    let mut claims = Vec::new(alloc);
+    match read_claims(tokens, &mut claims)? {
+        Some(()) => Ok(Some(Facts { claims })),
+        None => Ok(None),
     }
-    if is_token(token, LISTED) {
-        return Some(Fact::Listed);
-    }
-    if is_token(token, OPEN) {
-        return Some(Fact::Open);
-    }
-    if is_token(token, DONE) {
-        return Some(Fact::Done);
-    }
-    None
 }
 
-/// A fact of two tokens. `active gone` is about a device that is called gone.
-fn of_two(first: &[u8], second: &[u8]) -> Option<Fact>
-    ensures { Reads IsFact (first.now ∷ second.now ∷ []) result }
+/// Appends the claims that some tokens make, if they have their form.
+fn read_claims(tokens: &[&[u8]], claims: &mut Vec<Claim>) -> Result<Option<()>, AllocError>
+    ensures { IfOk result (Extends (parts (texts tokens.now)) claims.old.items claims.new.items) }
 {
-    if is_token(first, ACTIVE) {
-        return active(second);
+    // names types that the check doesn't find by itself
+    let _parts: (Option<Fact>, Option<Refusal>, Option<BusRefusal>) = (None, None, None);
+    let (first, rest) = split_or(tokens);
+    let Some(claim) = read_claim(first) else {
+        return Ok(None);
+    };
+    claims.push(claim)?;
+    match rest {
+        Some(rest) => read_claims(rest, claims),
+        None => Ok(Some(())),
     }
-    if is_token(second, GONE) {
-        return gone(first);
-    }
-    if is_token(first, WAITING) {
-        return all_waiting(second);
-    }
-    if is_token(first, RECORDS) {
-        return records(second);
-    }
-    if is_token(first, REFUSED) {
-        return refused(second);
-    }
-    None
 }
 
-/// A fact of three tokens.
-fn of_three(first: &[u8], second: &[u8], third: &[u8]) -> Option<Fact>
-    ensures { Reads IsFact (first.now ∷ second.now ∷ third.now ∷ []) result }
+/// The tokens before the first `or`, and those behind it if there is one.
+fn split_or<'a, 'b>(tokens: &'a [&'b [u8]]) -> (&'a [&'b [u8]], Option<&'a [&'b [u8]]>)
+    ensures parts { parts (texts tokens.entry.now) ≡ texts result.0.now ∷ parts_left (option_copied result.1) }
+    ensures shorter { IfSome result.1 (λ rest. length rest.now < length tokens.entry.now) }
 {
-    if is_token(second, AT) {
-        return at(first, third);
+    for at in 0..tokens.len() {
+        if is_token(tokens[at], OR) {
+            return (&tokens[..at], Some(&tokens[at + 1..]));
+        }
     }
-    if is_token(second, WAITING) {
-        return waiting(first, third);
+    (tokens, None)
+}
+
+/// The claim that some tokens make, if they have its form.
+fn read_claim(tokens: &[&[u8]]) -> Option<Claim>
+    ensures { Reads IsClaim (texts tokens.now) result }
+{
+    if let Some(fact) = read_negated(tokens) {
+        let negated = true;
+        return Some(Claim { fact, negated });
     }
-    if is_token(first, REFUSED) {
-        return refused_at(second, third);
+    let fact = read_fact(tokens)?;
+    let negated = false;
+    Some(Claim { fact, negated })
+}
+
+/// The fact behind `not`, if the tokens have this form.
+fn read_negated(tokens: &[&[u8]]) -> Option<Fact>
+    ensures { Reads (λ tokens fact. IsClaim tokens (record { fact = fact; negated = true })) (texts tokens.now) result }
+{
+    let (first, rest) = tokens.split_first()?;
+    if is_token(first, NOT) {
+        read_fact(rest)
+    } else {
+        None
     }
-    None
-}
-
-/// A fact of four tokens.
-fn of_four(first: &[u8], second: &[u8], third: &[u8], fourth: &[u8]) -> Option<Fact>
-    ensures { Reads IsFact (first.now ∷ second.now ∷ third.now ∷ fourth.now ∷ []) result }
-{
-    if is_token(first, RECORD) {
-        return recorded(second, third, fourth);
-    }
-    None
-}
-
-/// `active`, by its name.
-fn active(token: &[u8]) -> Option<Fact>
-    ensures { Reads IsFact (codes "active" ∷ token.now ∷ []) result }
-{
-    let name = Name::parse(token)?;
-    Some(Fact::Active(name))
-}
-
-/// `gone`, by its name, which isn't `active`.
-fn gone(token: &[u8]) -> Option<Fact>
-    requires { token.now ≡ codes "active" → ⊥ }
-    ensures { Reads IsFact (token.now ∷ codes "gone" ∷ []) result }
-{
-    let name = Name::parse(token)?;
-    Some(Fact::Gone(name))
-}
-
-/// `waiting` of all devices, by its number. `waiting gone` is about a device that is called waiting.
-fn all_waiting(token: &[u8]) -> Option<Fact>
-    requires { token.now ≡ codes "gone" → ⊥ }
-    ensures { Reads IsFact (codes "waiting" ∷ token.now ∷ []) result }
-{
-    let count = tokens::bit(token)?;
-    Some(Fact::AllWaiting(count))
-}
-
-/// `records`, by its number. `records gone` is about a device that is called records.
-fn records(token: &[u8]) -> Option<Fact>
-    requires { token.now ≡ codes "gone" → ⊥ }
-    ensures { Reads IsFact (codes "records" ∷ token.now ∷ []) result }
-{
-    let count = tokens::bit(token)?;
-    Some(Fact::Records(count))
-}
-
-/// `refused`, by a reason of one token. `refused gone` is about a device that is called refused.
-fn refused(token: &[u8]) -> Option<Fact>
-    requires { token.now ≡ codes "gone" → ⊥ }
-    ensures { Reads IsFact (codes "refused" ∷ token.now ∷ []) result }
-{
-    let why = plain_reason(token)?;
-    Some(Fact::Refused(why))
-}
-
-/// `refused`, by a reason and an address. With `at` or `waiting` it is about a device that is called refused.
-fn refused_at(token: &[u8], address: &[u8]) -> Option<Fact>
-    requires at { token.now ≡ codes "at" → ⊥ }
-    requires waiting { token.now ≡ codes "waiting" → ⊥ }
-    ensures { Reads IsFact (codes "refused" ∷ token.now ∷ address.now ∷ []) result }
-{
-    let why = reason_at(token, address)?;
-    Some(Fact::Refused(why))
-}
-
-/// `at`, by its name, and an address, `any` or `none`.
-fn at(token: &[u8], place: &[u8]) -> Option<Fact>
-    ensures { Reads IsFact (token.now ∷ codes "at" ∷ place.now ∷ []) result }
-{
-    let name = Name::parse(token)?;
-    if is_token(place, ANY) {
-        return Some(Fact::AtAny(name));
-    }
-    if is_token(place, NONE) {
-        return Some(Fact::AtNone(name));
-    }
-    let address = tokens::address(place)?;
-    Some(Fact::At(name, address))
-}
-
-/// `waiting` of one device, by its name, which isn't `not`, and its number.
-fn waiting(token: &[u8], digits: &[u8]) -> Option<Fact>
-    ensures { Reads IsFact (token.now ∷ codes "waiting" ∷ digits.now ∷ []) result }
-{
-    if is_token(token, NOT) {
-        return None;
-    }
-    let name = Name::parse(token)?;
-    let count = tokens::bit(digits)?;
-    Some(Fact::Waiting(name, count))
-}
-
-/// `record`, by its name, a byte or none, and its number.
-fn recorded(token: &[u8], byte: &[u8], digits: &[u8]) -> Option<Fact>
-    ensures { Reads IsFact (codes "record" ∷ token.now ∷ byte.now ∷ digits.now ∷ []) result }
-{
-    let name = Name::parse(token)?;
-    let byte = byte_or_none(byte)?;
-    let count = tokens::bit(digits)?;
-    Some(Fact::Recorded(name, byte, count))
-}
-
-/// A mandatory byte, or `--` for none.
-fn byte_or_none(token: &[u8]) -> Option<Option<u8>>
-    ensures { MatchOption result ((byte : Option ℕ) → IsByteOrNone token.now byte → ⊥) (λ byte. IsByteOrNone token.now byte) }
-{
-    if is_token(token, NO_BYTE) {
-        return Some(None);
-    }
-    let byte = tokens::byte(token)?;
-    Some(Some(byte))
 }

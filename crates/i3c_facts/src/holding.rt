@@ -3,27 +3,17 @@ ghost use Rattle.i3c_base.specs.declared.range.TheConstants.{SLOTS};
 ghost use Rattle.i3c_base.specs.State.{has_address, in_slot};
 ghost use Rattle.i3c_facts.specs.Holding.{are_recorded, claim_holds, claims_hold, device_of, fact_holds, is_done, is_refused, is_same_refusal, address_about, place_for, slot_of, waiting_below};
 
-use crate::claims::{Claim, Facts};
+use crate::before::Before;
 use crate::counting::{are_assigned, records_of, waiting};
 use crate::fact::Fact;
+use crate::facts::{Claim, Facts};
 use crate::naming::Naming;
 use i3c_base::{Addr7, Record, Slot};
 use i3c_bus::{Bus, Refusal as BusRefusal};
 use i3c_lines::{Place, Refusal};
 
-/// What the line before came to.
-#[derive(Clone, Copy)]
-pub enum Before {
-    /// There is no line before.
-    Nothing,
-    /// It was done.
-    Done,
-    /// It was refused, for this reason.
-    Refused(Refusal),
-}
-
 impl Fact {
-    /// Whether it holds of a bus, where its name stands for this place and this is what the line before came to.
+    /// Whether it holds of a bus, with this place of its name and this result of the previous line.
     pub fn holds(&self, bus: &Bus, place: Option<Place>, before: &Before) -> bool
         ensures { result ≡ fact_holds bus.now.state place before.now self.now }
     {
@@ -78,7 +68,7 @@ fn has_address(bus: &Bus, place: Option<Place>, address: Addr7) -> bool
     }
 }
 
-/// Whether it is there, with an address.
+/// Whether the device of a name is there, with a dynamic address.
 fn has_any_address(bus: &Bus, place: Option<Place>) -> bool
     ensures { result ≡ in_slot (λ d. is_some d.address) (device_of bus.now.state place) }
 {
@@ -98,7 +88,7 @@ fn has_no_address(bus: &Bus, place: Option<Place>) -> bool
     }
 }
 
-/// Whether it is there, and so many of its interrupts wait.
+/// Whether it is there, with `count` waiting interrupts.
 fn has_waiting(bus: &Bus, place: Option<Place>, count: u16) -> bool
     ensures { result ≡ in_slot (λ d. length d.waiting == count) (device_of bus.now.state place) }
 {
@@ -108,7 +98,7 @@ fn has_waiting(bus: &Bus, place: Option<Place>, count: u16) -> bool
     }
 }
 
-/// Whether so many interrupts of all devices wait.
+/// Whether all devices together have `count` waiting interrupts.
 fn are_waiting(bus: &Bus, count: u16) -> bool
     ensures { result ≡ (waiting_below bus.now.state SLOTS == count) }
 {
@@ -118,7 +108,7 @@ fn are_waiting(bus: &Bus, count: u16) -> bool
     }
 }
 
-/// Whether so many records are of the slot that a name stands for, with this mandatory byte or with none.
+/// Whether the slot of a name has `count` records with this mandatory byte, or with none.
 fn are_recorded(records: &[Record], place: Option<Place>, byte: Option<u8>, count: u16) -> bool
     ensures { result ≡ are_recorded records.now (slot_of place) byte count }
 {
@@ -165,7 +155,7 @@ fn address_about(why: &Refusal) -> Option<Addr7>
 }
 
 impl Claim {
-    /// Whether it holds of a bus, where its name stands for this place and this is what the line before came to.
+    /// Whether it holds of a bus, with this place of its name and this result of the previous line.
     pub fn holds(&self, bus: &Bus, place: Option<Place>, before: &Before) -> bool
         ensures { result ≡ claim_holds bus.now.state place before.now self.now }
     {
@@ -184,7 +174,7 @@ pub(crate) fn place_for<N: Naming>(naming: &N, fact: &Fact) -> Option<Place>
 }
 
 impl Facts {
-    /// Whether one of its claims holds of a bus, with what names stand for and what the line before came to.
+    /// Whether one of its claims holds of a bus, with the places of names and the result of the previous line.
     pub fn hold<N: Naming>(&self, bus: &Bus, naming: &N, before: &Before) -> bool
         ensures { result ≡ claims_hold bus.now.state (N.place naming.now) before.now self.now }
     {

@@ -10,7 +10,7 @@ pub fn lines_are_of_one_mark()
     ensures { LinesAreOfOneMark }
 {}
 
-/// A mark that a line can say is read from the line that it is printed as, unless that is too long.
+/// A mark that a line can say is read from its printed line, unless that is too long.
 pub fn printed_marks_are_read()
     ensures { PrintedMarksAreRead }
 {}

@@ -1,13 +1,15 @@
 //! What a script expects: marks, the lines beside its commands, and the facts that these say.
 //!
-//! `marks` reads a line, `claims` its facts, `facts` one fact, and `reasons` a refusal as it is printed. `naming` is what names
-//! stand for. `holding` says whether a fact holds, with `counting` over slots and records. `printing` prints marks and facts,
-//! and `unmet` what is there where facts don't hold. `laws` are theorems over all lines.
+//! Reading: `marks` reads a line (`Mark`), `facts` its facts (`Facts`), `fact_tokens` one fact (`Fact`, in `fact`), and
+//! `reasons` the reason of a refusal. Testing: `holding` tests a fact, by the place of its name (`naming`), the result of the
+//! previous line (`before`) and counts over slots and records (`counting`). Printing: `printing` prints marks and facts, and
+//! `unmet` prints what holds in place of an unmet fact. `laws` has theorems over all lines.
 #![tactic(auto)]
 
-mod claims;
+mod before;
 mod counting;
 mod fact;
+mod fact_tokens;
 mod facts;
 mod holding;
 mod laws;
@@ -17,9 +19,9 @@ mod printing;
 mod reasons;
 mod unmet;
 
-pub use claims::{Claim, Facts};
+pub use before::Before;
 pub use fact::Fact;
-pub use holding::Before;
+pub use facts::{Claim, Facts};
 pub use laws::{lines_are_of_one_mark, marks_are_no_commands, printed_marks_are_read};
 pub use marks::{Mark, read_mark};
 pub use naming::{Naming, SlotNames};

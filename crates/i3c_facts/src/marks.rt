@@ -3,7 +3,7 @@ ghost use Rattle.i3c_facts.specs.Forms.{IsMark, IsMarkForm, IsPlainForm, texts};
 ghost use Rattle.i3c_lines.specs.Forms.{tokens_of};
 ghost use Rattle.i3c_lines.specs.Parsing.{Reads};
 
-use crate::claims::{Facts, read_facts};
+use crate::facts::{Facts, read_facts};
 use i3c_lines::Name;
 use i3c_lines::tokens::is_token;
 use std::alloc::{AllocError, Global};

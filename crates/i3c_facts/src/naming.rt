@@ -15,7 +15,7 @@ pub trait Naming {
         ensures { result ≡ place self.now name.now };
 }
 
-/// The names of slots.
+/// Names the devices in slots.
 pub trait SlotNames {
     /// The name that was last given to a slot.
     ghost name_in: { Self → ℕ → Option NameValue };

@@ -5,8 +5,8 @@ ghost use Rattle.i3c_lines.specs.Naming.{letters};
 ghost use Rattle.i3c_lines.specs.Refusing.{refusal_text};
 ghost use Rattle.i3c_text.specs.Hex.{byte_text};
 
-use crate::claims::{Claim, Facts};
 use crate::fact::Fact;
+use crate::facts::{Claim, Facts};
 use crate::marks::Mark;
 use i3c_base::Addr7;
 use i3c_lines::{Name, Refusal};
@@ -30,7 +30,7 @@ impl Mark {
 }
 
 impl Facts {
-    /// Appends them, as they stand in a line, to a text.
+    /// Appends the text of the claims, as a line has it.
     pub fn push(&self, text: &mut Text) -> Result<(), AllocError>
         ensures { OnOk result (text.new ≡ text.old ++ claims_text self.now) }
     {
@@ -45,7 +45,7 @@ impl Facts {
 }
 
 impl Claim {
-    /// Appends it, as it stands in a line, to a text.
+    /// Appends the text of the claim, as a line has it.
     pub fn push(&self, text: &mut Text) -> Result<(), AllocError>
         ensures { OnOk result (text.new ≡ text.old ++ claim_text self.now) }
     {
@@ -57,7 +57,7 @@ impl Claim {
 }
 
 impl Fact {
-    /// Appends it, as it stands in a line, to a text.
+    /// Appends the text of the fact, as a line has it.
     pub fn push(&self, text: &mut Text) -> Result<(), AllocError>
         ensures { OnOk result (text.new ≡ text.old ++ fact_text self.now) }
     {
@@ -143,7 +143,7 @@ pub(crate) fn push_at(text: &mut Text, name: &Name, address: Addr7) -> Result<()
     text.push_byte(address.get())
 }
 
-/// Appends that so many interrupts of a device wait.
+/// Appends the fact that a device has `count` waiting interrupts.
 pub(crate) fn push_waiting(text: &mut Text, name: &Name, count: usize) -> Result<(), AllocError>
     ensures { OnOk result (text.new ≡ text.old ++ (letters name.now ++ (codes " waiting " ++ decimal count))) }
 {
@@ -151,7 +151,7 @@ pub(crate) fn push_waiting(text: &mut Text, name: &Name, count: usize) -> Result
     push_number(text, b" waiting ", count)
 }
 
-/// Appends that so many interrupts of a name's slot were recorded with a mandatory byte, or with none.
+/// Appends the fact that a name's slot has `count` records with a mandatory byte, or with none.
 pub(crate) fn push_recorded(
     text: &mut Text,
     name: &Name,

@@ -5,10 +5,11 @@ ghost use Rattle.i3c_facts.specs.Holding.{device_of, slot_of, waiting_below};
 ghost use Rattle.i3c_facts.specs.Printing.{active_text, address_text, before_text, counted_text, place_text, there_text, unmet_claim, unmet_text, waiting_text};
 ghost use Rattle.i3c_lines.specs.Naming.{letters};
 
-use crate::claims::{Claim, Facts};
+use crate::before::Before;
 use crate::counting::{records_of, waiting};
 use crate::fact::Fact;
-use crate::holding::{Before, device_slot, place_for, slot_of};
+use crate::facts::{Claim, Facts};
+use crate::holding::{device_slot, place_for, slot_of};
 use crate::naming::{Naming, SlotNames};
 use crate::printing::{
     push_at, push_name, push_named, push_number, push_recorded, push_refused, push_waiting,
@@ -20,7 +21,7 @@ use i3c_text::Text;
 use std::alloc::AllocError;
 
 impl Facts {
-    /// Appends what is there, where none of its claims holds: the first one as it would hold.
+    /// Appends what holds in place of its claims, if none of them holds: the first one as it would hold.
     pub fn push_unmet<N: Naming, S: SlotNames>(
         &self,
         bus: &Bus,
@@ -43,7 +44,7 @@ impl Facts {
 }
 
 impl Claim {
-    /// Appends what is there, where it doesn't hold.
+    /// Appends what holds in its place, if it doesn't hold.
     fn push_unmet(
         &self,
         bus: &Bus,
@@ -63,7 +64,7 @@ impl Claim {
 }
 
 impl Fact {
-    /// Appends what is there, where it doesn't hold.
+    /// Appends what holds in its place, if it doesn't hold.
     fn push_there(
         &self,
         bus: &Bus,
@@ -91,7 +92,7 @@ impl Fact {
         }
     }
 
-    /// Appends what the line before came to, where it wasn't this.
+    /// Appends the result of the previous line, if it isn't this fact.
     fn push_before(&self, before: &Before, text: &mut Text) -> Result<(), AllocError>
         ensures { OnOk result (text.new ≡ text.old ++ before_text self.now before.now) }
     {
@@ -106,7 +107,7 @@ impl Fact {
     }
 }
 
-/// Appends who is the active controller.
+/// Appends the active controller.
 fn push_active(active: Option<Name>, text: &mut Text) -> Result<(), AllocError>
     ensures { OnOk result (text.new ≡ text.old ++ active_text active) }
 {

@@ -1,4 +1,4 @@
--- What a text begins with: so many of its bytes, and what they and a separator make of it.
+-- The beginning of a text: its first n bytes, and the parts that they make with a separator.
 use Rattle.std.proofs.Common.{◌≡◌, ℕ, suc, ◌+◌, ◌-◌, ◌<◌, ◌≤◌, true, List, [], ◌∷◌, ◌++◌, length, get_or, take, drop, arith, refl, ap, sym, ◌∙◌, drop-cons}
 use Rattle.std.proofs.lemmas.List.{take-append-drop, take_all}
 use Rattle.i3c_frame.specs.declared.symbols.Symbol.{Symbol}
@@ -29,12 +29,12 @@ pub take_5 : (text : List ℕ) → 5 ≤ length text
 take_5 [] h = absurd (omega arith)
 take_5 (a ∷ text) h = ap (λ rest. a ∷ rest) (take_4 text (omega arith))
 
--- the first byte and so many after it
+-- the first byte and the n after it
 pub take_head : (text : List ℕ) (n : ℕ) → 0 < length text → get_or text 0 0 ∷ take n (drop 1 text) ≡ take (suc n) text
 take_head [] n h = absurd (omega arith)
 take_head (a ∷ text) n h = refl
 
--- a text of so many bytes, one by one, or of a first and the others
+-- a text of a few bytes, one by one, or of a first and the others
 pub whole_1 : (text : List ℕ) → length text ≡ 1 → get_or text 0 0 ∷ [] ≡ text
 whole_1 text long = sym (take_1 text (omega arith)) ∙ take_all 1 text (omega arith)
 

@@ -25,7 +25,7 @@ parts_past byte text here = rw here
 abbrev start_len : List ℕ → ℕ
 start_len text = position_or_len (λ byte. not (is_separator byte)) text
 
--- nor do many
+-- leading separators add no parts
 IsSkipped : List ℕ → Type 0
 IsSkipped text = parts (drop (start_len text) text) ≡ parts text
 
@@ -86,7 +86,7 @@ parts_first text some =
     let front : filled (piece ∷ after_piece rest) ≡ piece ∷ filled (after_piece rest) = rw long in
     parts_is text ∙ ap filled (split_first text) ∙ front ∙ ap (λ tail. piece ∷ tail) (sym (parts_after text))
 
--- the first place, or else the length
+-- the first place, or the length if there is none
 position_is : (p : ℕ → Bool) (text : List ℕ) → unwrap_or (position p text) (length text) ≡ position_or_len p text
 position_is p text = go (nat_lt (position_or_len p text) (length text)) refl where
   go : (b : Bool) → nat_lt (position_or_len p text) (length text) ≡ b → unwrap_or (position p text) (length text) ≡ position_or_len p text

@@ -36,7 +36,7 @@ texts_same (x ∷ xs) (y ∷ ys) fit range e =
     let rest = texts_same xs ys (λ k d l. fit (suc k) d (omega arith)) (λ k d l. range (suc k) d (omega arith)) (cc) in
     λ i. first i ∷ rest i
 
--- a symbol of a trace is a symbol, and may stand where it does
+-- a symbol of a trace is in range and allowed at its place
 stands : {A B : Type 0} (place : Place) (symbol : Symbol) (symbols : List Symbol) (part : List ℕ) → IsInRange symbol → text_of symbol ≡ part
     → place_after place (symbol ∷ symbols) ≡ Some Outside → (IsNoSymbol part × A) ⊎ (IsMisplaced place part × B) → ⊥
 stands place symbol symbols part range same ends faulty = ⊎_elim

@@ -1,4 +1,4 @@
--- What stands first in a text.
+-- The first bytes of a text.
 use Rattle.std.specs.Prelude.{◌≡◌, List, ℕ, ◌∷◌}
 use Rattle.i3c_frame.specs.declared.firsts.First.{First}
 use Rattle.i3c_frame.specs.declared.symbols.Symbol.{Symbol}

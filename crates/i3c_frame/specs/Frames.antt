@@ -10,18 +10,18 @@ use Rattle.i3c_frame.specs.Parts.{parts}
 use Rattle.i3c_frame.specs.Texts.{IsInRange, text_of}
 use Rattle.i3c_frame.specs.Traces.{IsMisplaced, IsNoSymbol, place_after}
 
--- what is due at a place
+-- the symbol expected at a place
 abbrev pub due_by : Place → Due
 due_by Place.Outside = Due.Start
 due_by Place.Opened = Due.Header
 due_by Place.Inside = Due.Stop
 
--- what is due at a place where these parts follow: nothing outside a frame at the end
+-- the symbol expected at a place before these parts: none at the end outside a frame
 abbrev pub IsDue : Place → List (List ℕ) → Due → Type 0
 IsDue place [] due = due ≡ due_by place
 IsDue place (part ∷ rest) due = (IsNoSymbol part × (due ≡ Due.Symbol)) ⊎ (IsMisplaced place part × (due ≡ due_by place))
 
--- how many symbols there are up to the last STOP of the rest: so many before it, of which these are up to a STOP
+-- the number of symbols up to the last STOP of the rest, where `count` came before it, the first `whole` of them up to a STOP
 abbrev pub whole_from : ℕ → ℕ → List Symbol → ℕ
 whole_from whole count [] = whole
 whole_from whole count (Symbol.Stop ∷ rest) = whole_from (count + 1) (count + 1) rest

@@ -6,6 +6,6 @@ use Rattle.std.specs.List.{slice_split}
 abbrev pub is_separator : ℕ → Bool
 is_separator byte = byte == 32 || byte == 10
 
--- what stands between separators, without the empty parts
+-- the texts between separators, without the empty ones
 unfoldable pub parts : List ℕ → List (List ℕ)
 parts text = filter (λ part. nat_lt 0 (length part)) (slice_split is_separator text)

@@ -4,17 +4,17 @@ use Rattle.i3c_text.specs.Hex.{hex_text}
 use Rattle.i3c_frame.specs.declared.symbols.Symbol.{Symbol}
 use Rattle.i3c_frame.specs.declared.symbols.Symbol.TheVariants.{Start, Repeated, Stop, Header, Word, Identity, AddressByte, LegacyWord}
 
--- read or write
+-- the direction of a header: read or write
 abbrev pub direction_text : Bool → List ℕ
 direction_text true = codes "/R"
 direction_text false = codes "/W"
 
--- ACK or NACK
+-- the answer to a header: ACK or NACK
 abbrev pub answer_text : Bool → List ℕ
 answer_text true = codes "+"
 answer_text false = codes "-"
 
--- a T bit
+-- the T bit of a word
 abbrev pub t_text : Bool → List ℕ
 t_text true = codes ".1"
 t_text false = codes ".0"

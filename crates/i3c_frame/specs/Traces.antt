@@ -9,7 +9,7 @@ use Rattle.i3c_frame.specs.declared.traces.TraceFault.{TraceFault}
 use Rattle.i3c_frame.specs.declared.traces.TraceFault.TheVariants.{BadSymbol, NoStart, NoStop}
 use Rattle.i3c_frame.specs.Texts.{IsInRange, text_of}
 
--- the place after a symbol, if the symbol may stand there
+-- the place after a symbol, if the symbol is allowed there
 abbrev pub after : Place → Symbol → Option Place
 after Outside Start = Some Opened
 after Outside _ = None
@@ -20,7 +20,7 @@ after Inside Repeated = Some Opened
 after Inside Stop = Some Outside
 after Inside _ = Some Inside
 
--- the place after symbols, if each may stand where it does
+-- the place after symbols, if each is allowed at its place
 abbrev pub place_after : Place → List Symbol → Option Place
 place_after place [] = Some place
 place_after place (symbol ∷ rest) = option_and_then (λ next. place_after next rest) (after place symbol)
@@ -29,7 +29,7 @@ place_after place (symbol ∷ rest) = option_and_then (λ next. place_after next
 abbrev pub IsTrace : List Symbol → Type 0
 IsTrace symbols = place_after Outside symbols ≡ Some Outside
 
--- the fault of a symbol that may not stand at a place, as the n-th
+-- the fault of a symbol that isn't allowed at a place, as the n-th
 abbrev pub misplaced : Place → ℕ → TraceFault
 misplaced Outside n = NoStart
 misplaced Opened n = BadSymbol n
@@ -39,7 +39,7 @@ misplaced Inside n = NoStop
 abbrev pub IsNoSymbol : List ℕ → Type 0
 IsNoSymbol part = (symbol : Symbol) → IsInRange symbol → ¬ (text_of symbol ≡ part)
 
--- the part is the text of a symbol that may not stand at the place
+-- the part is the text of a symbol that isn't allowed at the place
 abbrev pub IsMisplaced : Place → List ℕ → Type 0
 IsMisplaced place part = (symbol : Symbol) × IsInRange symbol × (text_of symbol ≡ part) × (after place symbol ≡ None)
 
@@ -50,7 +50,7 @@ IsFaultAt _ n [] fault = fault ≡ NoStop
 IsFaultAt place n (part ∷ rest) fault =
     (IsNoSymbol part × (fault ≡ BadSymbol n)) ⊎ (IsMisplaced place part × (fault ≡ misplaced place n))
 
--- the first fault of parts: symbols that may stand where they do lead to a place, and there it is
+-- the first fault of parts: allowed symbols lead to a place, and there it is
 pub record IsFirstFault (parts : List (List ℕ)) (fault : TraceFault) : Type 0 where
   pub before : List Symbol
   pub rest : List (List ℕ)

@@ -29,8 +29,8 @@ pub(crate) fn first_of(text: &[u8]) -> Option<First<'_>>
     }
 }
 
-/// The symbol that a text begins with, and what follows the separator behind it. As a rule a text begins so, but for
-/// its last symbols.
+/// The symbol that a text begins with, and the text behind the separator that follows it. As a rule a text begins so, except
+/// for its last symbols.
 #[inline(always)]
 fn read_first(text: &[u8]) -> Option<(Symbol, &[u8])>
     ensures { IfSome result (λ first. BeginsWith text.now first.0 first.1.now) }

@@ -9,7 +9,7 @@ use crate::symbols::Symbol;
 use crate::traces::{BYTES_A_SYMBOL, Place, after};
 use std::alloc::{AllocError, Global};
 
-/// What is due where a text stops being a trace.
+/// The symbol expected at the point where a text stops being a trace.
 #[derive(Clone, Copy, Debug, PartialEq, Eq)]
 pub enum Due {
     /// A symbol: the text isn't one's.
@@ -22,8 +22,8 @@ pub enum Due {
     Stop,
 }
 
-/// Where a text stops being a trace: in which frame and at which symbol, both counted from 1; the symbol's text, if the
-/// text doesn't end there; and what is due in its place.
+/// Where a text stops being a trace: in which frame and at which symbol, both counted from 1; the symbol's text, if the text
+/// doesn't end there; and the symbol expected in its place.
 #[derive(Clone, Copy, Debug)]
 pub struct Break<'a> {
     pub frame: usize,
@@ -39,7 +39,7 @@ pub struct Frames<'a> {
     pub broken: Option<Break<'a>>,
 }
 
-/// The symbols with which a text begins, the place behind them, the rest of the text, and what is due there.
+/// The symbols with which a text begins, the place behind them, the rest of the text, and the symbol expected there.
 #[derive(Drop)]
 pub(crate) struct Prefix<'a> {
     pub symbols: Vec<Symbol>,
@@ -102,7 +102,7 @@ fn read_prefix(alloc: Global, bytes: &[u8]) -> Result<Prefix<'_>, AllocError>
     })
 }
 
-/// Where a text breaks, of which these symbols were read: not at its end outside a frame.
+/// The point where a text breaks, behind these symbols, unless it ends outside a frame.
 fn break_of<'a>(symbols: &[Symbol], place: &Place, rest: &'a [u8], due: Due) -> Option<Break<'a>>
     requires short { length symbols.now < usize.MAX }
     requires is_due { IsDue place.now (parts rest.now) due }
@@ -139,7 +139,7 @@ fn begins_frame(symbol: &Symbol) -> bool
     matches!(symbol, Symbol::Start)
 }
 
-/// What is due at a place.
+/// The symbol expected at a place.
 fn due_by(place: &Place) -> Due
     ensures { result ≡ due_by place.now }
 {

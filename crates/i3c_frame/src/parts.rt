@@ -2,7 +2,7 @@ ghost use Rattle.std.specs.Prelude.{◌≡◌, not, position};
 ghost use Rattle.std.specs.Iterator.{YieldsFirstRef, item_count};
 ghost use Rattle.i3c_frame.specs.Parts.{is_separator, parts};
 
-/// What stands between the spaces and line feeds of a text.
+/// The parts of a text, between its spaces and line feeds.
 #[derive(Drop)]
 pub(crate) struct Parts<'a> {
     text: &'a [u8],

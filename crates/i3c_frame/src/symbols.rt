@@ -151,7 +151,7 @@ pub(crate) fn t_bit(t: bool) -> &'static str
     if t { ".1" } else { ".0" }
 }
 
-/// The symbol of a text, if it is one's.
+/// The symbol of a text, if there is one.
 pub(crate) fn read_symbol(text: &[u8]) -> Option<Symbol>
     ensures text { IfSome result (HasText text.now) }
     ensures range { IfSome result IsInRange }

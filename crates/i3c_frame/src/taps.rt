@@ -3,7 +3,7 @@ ghost use Rattle.i3c_frame.specs.declared.symbols.Symbol.{Symbol as SymbolValue}
 
 use crate::symbols::Symbol;
 
-/// One that is told each symbol of a wire as it passes.
+/// A tap is told each symbol of a wire as it passes.
 pub trait Tap {
     /// What a tap may be after it was told a symbol.
     ghost note_gives: { Self → SymbolValue → Self → Type 0 };

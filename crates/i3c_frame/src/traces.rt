@@ -18,10 +18,10 @@ pub enum TraceFault {
     /// This one is no symbol, or no header though it follows a START.
     #[error("symbol {0} is bad")]
     BadSymbol(usize),
-    /// A symbol other than START stands outside a frame.
+    /// A symbol other than START is outside a frame.
     #[error("a frame has no START")]
     NoStart,
-    /// A frame ends without STOP: a START or the end of the text stands inside it.
+    /// A frame ends without STOP: a START or the end of the text comes inside it.
     #[error("a frame has no STOP")]
     NoStop,
     /// There was no memory for the symbols.
@@ -29,10 +29,10 @@ pub enum TraceFault {
     OutOfMemory,
 }
 
-/// Where a wire stands between two symbols.
+/// The place of a wire between two symbols.
 #[derive(Clone, Copy)]
 pub(crate) enum Place {
-    /// Outside a frame, where only START may stand.
+    /// Outside a frame: only START is allowed.
     Outside,
     /// After START or repeated START, where a header must follow.
     Opened,
@@ -40,7 +40,7 @@ pub(crate) enum Place {
     Inside,
 }
 
-/// The place after a symbol, if the symbol may stand there.
+/// The place after a symbol, if the symbol is allowed there.
 pub(crate) fn after(place: &Place, symbol: &Symbol) -> Option<Place>
     ensures { result ≡ after place.now symbol.now }
 {
@@ -54,7 +54,7 @@ pub(crate) fn after(place: &Place, symbol: &Symbol) -> Option<Place>
     }
 }
 
-/// The fault of a symbol that may not stand at a place.
+/// The fault of a symbol that isn't allowed at a place.
 fn misplaced(place: &Place, number: usize) -> TraceFault
     ensures { result ≡ misplaced place.now number }
 {
@@ -65,7 +65,7 @@ fn misplaced(place: &Place, number: usize) -> TraceFault
     }
 }
 
-/// Reads a trace: symbols parted by spaces and line feeds, which may also stand at both ends. Each frame begins with a
+/// Reads a trace: symbols parted by spaces and line feeds, which are also allowed at both ends. Each frame begins with a
 /// START and ends with a STOP, and a header follows each START and each repeated START. Fails with the first fault.
 pub fn read_trace(alloc: Global, text: &str) -> Result<Vec<Symbol>, TraceFault>
     ensures sound { IfOk result (λ trace. IsTrace trace.items × (map text_of trace.items ≡ parts text.now)) }

@@ -1,4 +1,4 @@
--- Who would take the role that is offered, and what is read of those who don't end their byte.
+-- The device that would take the offered role, and the byte read of devices that don't end theirs.
 use Rattle.std.proofs.Common.{◌≡◌, ℕ, ◌+◌, ◌-◌, ◌/◌, ◌^◌, ◌<◌, ◌≤◌, max, List, Option, inl, inr, refl, sym, ap, ◌∙◌, subst, arith}
 use Rattle.std.proofs.lemmas.Bool.{both_ways, cases_lt}
 use Rattle.std.proofs.lemmas.Bool.Decides.{nat_tests}
@@ -14,7 +14,7 @@ use Rattle.i3c_base.proofs.LostLaws.{left_before}
 use Rattle.i3c_word.specs.Parity.{IsAddressByte}
 use Rattle.i3c_handoff.specs.Offers.{IsTornByte, SomeTakes}
 
--- the lowest of those who would take the role that isn't lost
+-- the lowest of the devices that would take the role and aren't lost
 pub some_takes : (st : State) (a : ℕ) (lost : Lost) (devices : List (Option Device)) (active s : ℕ) → HasDevices st devices active → IsLowestWilling (with_active devices active) a lost s → SomeTakes st a lost
 some_takes st a lost devices active s has h = (s, subst (λ all. IsWillingIn all a s) (sym (population_is st devices active has)) h.0, h.1)
 
@@ -22,7 +22,7 @@ some_takes st a lost devices active s has h = (s, subst (λ all. IsWillingIn all
 pub none_takes : (st : State) (a : ℕ) (lost : Lost) (devices : List (Option Device)) (active : ℕ) → HasDevices st devices active → AreWillingLost (with_active devices active) a lost → ¬ SomeTakes st a lost
 none_takes st a lost devices active has h some = both_ways _ some.2 (subst (λ all. AreWillingLost all a lost) (sym (population_is st devices active has)) h some.0 some.1)
 
--- whoever is left at a later bit was left before
+-- a device that is left at a later bit was left before
 pub takes_before : (st : State) (a : ℕ) (cuts : CutList) (first last : ℕ) → first ≤ last → SomeTakes st a (lost_by cuts last) → SomeTakes st a (lost_by cuts first)
 takes_before st a cuts first last l some = (some.0, some.1, left_before cuts first last some.0 l some.2)
 

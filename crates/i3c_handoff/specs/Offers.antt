@@ -1,4 +1,4 @@
--- What becomes of the role that is offered to an address.
+-- The offer of the role to an address.
 use Rattle.std.specs.Prelude.{◌≡◌, ℕ, ◌+◌, ◌-◌, ◌<◌, Bool, true, false, ⊤}
 use Rattle.std.specs.Int.{bit_at}
 use Rattle.i3c_base.specs.Cutting.{CutList, Lost, lost_by}
@@ -30,8 +30,8 @@ IsOffered st a lost (Taken s) = Hands a lost st (handed s a st)
 IsOffered st a lost (Torn byte) = KeepsRole a lost st st × IsRefusedBits st a 27
 IsOffered st a lost Nobody = KeepsRole a lost st st × IsRefusedBits st a 18
 
--- a byte as it is read, from this bit of the frame on: the target's address byte as long as somebody who would take the
--- role is left to drive it, and ones from there on
+-- a byte as it is read, from this bit of the frame on: the target's address byte as long as a device that would take the role
+-- is left to drive it, and ones from there on
 abbrev pub IsTornByte : State → ℕ → CutList → ℕ → ℕ → Type 0
 IsTornByte st a cuts first byte =
     (own : ℕ) × IsAddressByte a own × (byte < 256)

@@ -1,4 +1,4 @@
--- Who may wish for the role.
+-- Wishes for the role.
 use Rattle.std.specs.Prelude.{ℕ, Option}
 use Rattle.i3c_base.specs.declared.refusals.RoleRefusal.{RoleRefusal}
 use Rattle.i3c_base.specs.Refusing.{first_of, role_tests}

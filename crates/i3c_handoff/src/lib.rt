@@ -1,4 +1,4 @@
-//! The role of active controller: who holds it, who may wish for it, and what becomes of it where it is offered.
+//! The role of active controller: its holder, wishes for it, and its offer to an address.
 //!
 //! One holder has the role at a time. It comes only from `Active::new`, moves only by `give` and ends only by `retire`.
 #![tactic(auto)]

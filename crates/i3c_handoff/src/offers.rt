@@ -11,8 +11,8 @@ use i3c_word::{HEADER_BITS, WORD_BITS, address_byte};
 /// How many bits a handover has up to its target's acknowledgement: a word and a header.
 const ACK_BITS: u16 = WORD_BITS + HEADER_BITS;
 
-/// The byte as it is read where those who send it are cut: ones from the bit on at which the last of them is gone. Its
-/// first bit comes after so many bits of the frame.
+/// The byte as it is read when its senders are cut: ones from the bit on at which the last of them is gone. `sent` bits of
+/// the frame come before it.
 fn torn_byte(devices: &Devices, active: Slot, to: Addr7, cuts: &Cuts, sent: u16) -> u8
     requires { sent ≤ 36 }
     ensures { (st : State) → HasDevices st devices.now active → IsTornByte st to cuts.now (sent + 1) result }
@@ -26,9 +26,9 @@ fn torn_byte(devices: &Devices, active: Slot, to: Addr7, cuts: &Cuts, sent: u16)
     own
 }
 
-/// The role is offered to an address, after so many bits of its frame in which these devices are cut (GETACCCR, I3C Basic
-/// 5.1.9.3.16). The frame has the code, the target's header, and where somebody who would take the role acknowledges it, that
-/// target's byte. The lowest slot takes the role whose device is willing and is left at the byte's T.
+/// Offers the role to an address (GETACCCR, I3C Basic 5.1.9.3.16). `begun` bits of the frame come before it, and `cuts` are
+/// the devices cut in the frame. The frame has the code, the target's header, and if a device that would take the role
+/// acknowledges it, that device's byte. The lowest slot whose device is willing and is left at the byte's T takes the role.
 pub fn offer(devices: &Devices, active: Slot, to: Addr7, cuts: &Cuts, begun: u16) -> Offer
     requires { begun ≤ 18 }
     ensures offered { (st : State) → HasDevices st devices.now active → IsOffered st to (lost_by cuts.now (begun + offer_bits result)) result }

@@ -1,9 +1,9 @@
 use i3c_base::Slot;
 
-/// What became of the role that was offered to an address (GETACCCR, I3C Basic 5.1.9.3.16).
+/// The result of an offer of the role to an address (GETACCCR, I3C Basic 5.1.9.3.16).
 #[derive(Clone, Copy, Debug, PartialEq, Eq)]
 pub enum Offer {
-    /// Nobody who would take it was left to acknowledge the header.
+    /// No device that would take it was left to acknowledge the header.
     Nobody,
     /// This byte was read, and nobody was left to end it: T was read as 1.
     Torn(u8),

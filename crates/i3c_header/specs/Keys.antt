@@ -4,19 +4,19 @@ use Rattle.i3c_base.specs.declared.requests.Request.{Request}
 use Rattle.i3c_base.specs.declared.requests.Request.TheVariants.{Join, Role, Interrupt}
 use Rattle.i3c_base.specs.Serve.{rank}
 
--- the address that a request drives: 02 for a join, else its own
+-- the address that a request drives: 02 for a join, and its own otherwise
 abbrev pub address_of : Request → ℕ
 address_of Join = 0x02
 address_of (Role a) = a
 address_of (Interrupt a) = a
 
--- its RnW bit: an interrupt drives a read, a join and a role request a write
+-- the RnW bit of a request: an interrupt drives a read, a join and a role request a write
 abbrev pub rnw_of : Request → ℕ
 rnw_of Join = 0
 rnw_of (Role a) = 0
 rnw_of (Interrupt a) = 1
 
--- it reads
+-- the request is driven as a read
 abbrev pub is_read : Request → Bool
 is_read Join = false
 is_read (Role a) = false

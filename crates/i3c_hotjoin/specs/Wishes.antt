@@ -1,4 +1,4 @@
--- Who may wish to join.
+-- Wishes to join.
 use Rattle.std.specs.Prelude.{Option}
 use Rattle.i3c_base.specs.declared.refusals.JoinRefusal.{JoinRefusal}
 use Rattle.i3c_base.specs.Refusing.{first_of, join_tests}

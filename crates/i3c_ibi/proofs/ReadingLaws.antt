@@ -32,7 +32,7 @@ pub driven_left : (cut : Option ℕ) (byte : ℕ) → is_by 9 cut ≡ false → 
 driven_left None byte h = refl
 driven_left (Some bit) byte h = let late : nat_le 9 bit ≡ true = grind (arith, nat_tests) in cond-true (nat_le 9 bit) byte _ late
 
--- the byte that what stands in a slot answers with, there and back
+-- the byte that the device in a slot answers with, there and back
 slot_byte_of : (o : Option Device) (w : Waiting) → IsFrontOf o w → slot_byte o ≡ w.byte
 slot_byte_of o w f = ap slot_byte f.2 ∙ ap front_byte f.3
 
@@ -81,7 +81,7 @@ beside_none cuts drivers slot s place h = go (not (s == slot) && has drivers s) 
 abbrev BytesRead : State → CutList → SlotSet → ℕ → ℕ → ℕ → Type 0
 BytesRead st cuts drivers slot own both = Together (λ s. byte_beside cuts drivers slot s (device_at st s)) (driven (cut_of cuts slot) own) SLOTS both
 
--- whoever drives it, drives 1 where 1 is read
+-- a driver of it drives 1 at each bit that is read as 1
 drives_to : (st : State) (cuts : CutList) (at slot own both : ℕ) (front : Waiting) (drivers : SlotSet) → AreDrivers (population st) (Interrupt at) drivers → length st.devices ≡ SLOTS
     → IsFrontOf (device_at st slot) front → front.byte ≡ Some own → BytesRead st cuts drivers slot own both
     → (bit : ℕ) → bit < 8 → bit_at both bit ≡ 1 → (s u : ℕ) → DrivesByte st (Interrupt at) s u → bit_at (driven (cut_of cuts s) u) bit ≡ 1
@@ -208,7 +208,7 @@ pub front_held : (place : Option Device) (w : Waiting) → front_in place ≡ So
 front_held None w first = absurd (none-some w first)
 front_held (Some d) w first = front_at (Some d) d w refl first
 
--- the byte that was read is there exactly where one is due
+-- a byte was read exactly if the interrupt has one
 pub due_byte : (all : Population) (cuts : CutList) (at : ℕ) (due : Bool) (r : Record) → HaveBytes all at due → ((st : State) → st.devices ≡ all.devices → st.active ≡ all.active → IsReading st cuts at r)
     → is_some r.byte ≡ due
 due_byte all cuts at due r fitting read =

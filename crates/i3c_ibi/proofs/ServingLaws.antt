@@ -34,7 +34,7 @@ left_by st r new e = λ k. record st { devices = e k }
 pub unchanged : (st : State) (old : List (Option Device)) (active : ℕ) → HasDevices st old active → record st { devices = old } ≡ st
 unchanged st old active has = λ k. record st { devices = sym has.0 k }
 
--- who is lost early is lost later
+-- a device that is lost early is lost later
 lost_later : (rest : ℕ) (cut : Option ℕ) → is_by 9 cut ≡ true → is_by (9 + rest) cut ≡ true
 lost_later rest None h = h
 lost_later rest (Some bit) h = grind (arith, nat_tests)

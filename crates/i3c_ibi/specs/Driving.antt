@@ -1,4 +1,4 @@
--- Who drives an interrupt, and what is read behind it.
+-- The drivers of an interrupt, and the byte read behind it.
 use Rattle.std.specs.Prelude.{◌≡◌, ℕ, ◌-◌, ◌/◌, ◌^◌, ◌<◌, ◌↔◌, Bool, true, false, not, ◌&&◌, ◌==◌, nat_le, if◌then◌else◌, List, Option, Some, None, option_and_then, option_map, is_some, length, IfSome}
 use Rattle.std.specs.Int.{bit_at}
 use Rattle.std.specs.Int.RustNames.{bit_or}
@@ -22,7 +22,7 @@ pub record IsDriven (devices : List (Option Device)) (r : Request) (drivers : Sl
   pub are : AreDrivers (with_active devices active) r drivers
   pub driven : AnyDrives (with_active devices active) r
 
--- each front of those who drive an interrupt at the address `at` has a mandatory byte exactly where one is due
+-- each front of the drivers of an interrupt at the address `at` has a mandatory byte exactly if `due` holds
 abbrev pub HaveBytes : Population → ℕ → Bool → Type 0
 HaveBytes all at due = (s : ℕ) (w : Waiting) → drives_in all (Interrupt at) s ≡ true → IsFrontOf (device_in all s) w → is_some w.byte ≡ due
 
@@ -31,7 +31,7 @@ abbrev pub driven : Option ℕ → ℕ → ℕ
 driven None byte = byte
 driven (Some bit) byte = if nat_le 9 bit then byte else (if nat_le bit 1 then 255 else bit_or byte (255 / 2 ^ (bit - 1)))
 
--- the byte at the front of what stands in a slot
+-- the byte at the front of the device in a slot
 abbrev pub slot_byte : Option Device → Option ℕ
 slot_byte place = option_and_then (λ d. front_byte d.waiting) place
 
@@ -52,7 +52,7 @@ pub record IsByteRead (st : State) (cuts : CutList) (at byte : ℕ) : Type 0 whe
   pub bits : (bit : ℕ) → bit < 8 → ((bit_at byte bit ≡ 1) ↔ ((s own : ℕ) → DrivesByte st (Interrupt at) s own → bit_at (driven (cut_of cuts s) own) bit ≡ 1))
 
 -- what was read of an accepted interrupt at the address `at`: the raise at the lowest driver's front, and of the byte what
--- those who end it drove
+-- the drivers drove that end it
 pub record IsReading (st : State) (cuts : CutList) (at : ℕ) (r : Record) : Type 0 where
   pub front : Waiting
   pub lowest : IsLowestDriver st (Interrupt at) r.slot

@@ -9,11 +9,11 @@ use Rattle.i3c_ibi.specs.Driving.{HaveBytes, IsByteRead}
 use Rattle.i3c_ibi.specs.declared.serving.Reading.{Reading}
 use Rattle.i3c_ibi.specs.declared.serving.Reading.TheVariants.{Quiet, Refused, Joined, WantsRole, Due, Torn}
 
--- what waits at the front of a driver has a mandatory byte exactly where the table says that one is due
+-- the interrupt at a driver's front has a mandatory byte exactly if the table says so
 abbrev pub FitsTable : State → Type 0
 FitsTable st = (a : ℕ) → HaveBytes (population st) a (byte_due (entry_at st a))
 
--- what a frame served, where so many records stood before
+-- what a frame served, where `count` records were in the log before
 abbrev pub served_as : ℕ → Reading → Served
 served_as count Quiet = Served.Quiet
 served_as count (Refused r) = Served.Refused
@@ -22,7 +22,7 @@ served_as count (WantsRole a) = Served.WantsRole a
 served_as count (Due record_due) = Served.Recorded (suc count)
 served_as count (Torn a byte) = Served.Torn
 
--- the record that is due is appended
+-- the record of the reading is appended
 abbrev pub kept : Reading → State → State
 kept (Due r) st = recorded r st
 kept Quiet st = st

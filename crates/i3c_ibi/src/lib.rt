@@ -1,5 +1,5 @@
-//! Requests in an arbitrable header: which comes first, the policy that decides on it, what its drivers lose, what is
-//! read of them, and how that is told.
+//! Requests in an arbitrable header: the first one, the policy that decides on it, its effect on its drivers, the byte read
+//! behind it, and its symbols.
 #![tactic(auto)]
 
 mod first;

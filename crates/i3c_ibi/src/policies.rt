@@ -6,7 +6,7 @@ ghost use Rattle.i3c_ibi.specs.Policies.{is_known, verdict_in};
 use i3c_base::{Fixed, Request, Verdict};
 use i3c_table::Table;
 
-/// Who decides on requests: ACK or NACK (I3C Basic 5.1.6.2).
+/// Decides on requests: ACK or NACK (I3C Basic 5.1.6.2).
 pub trait Policy {
     /// Which verdict a policy may give to a request, and what it is afterwards.
     ghost verdict_gives: { Self → RequestValue → VerdictValue → Self → Type 0 };

@@ -43,8 +43,8 @@ fn driven(byte: u8, cut: Option<u16>) -> u8
     }
 }
 
-/// The byte that is read behind an interrupt that these slots drive, of which this is the lowest: the AND of what they
-/// drive. `None` where its front has none.
+/// The byte that is read behind an interrupt: the AND of what these slots, its drivers, drive. `None` if the front of the
+/// lowest has none.
 fn byte_read(devices: &Devices, drivers: SlotSet, lowest: Slot, cuts: &Cuts) -> Option<u8>
     ensures read { MatchOption (slot_byte (slice_index_or devices.now lowest None)) (result ≡ None)
         (λ own. IsSomeAnd result (Together (λ s. byte_beside cuts.now drivers lowest s (slice_index_or devices.now s None)) (driven (cut_of cuts.now lowest) own) SLOT_COUNT)) }
@@ -88,8 +88,8 @@ fn fronts_read(devices: &Devices, drivers: SlotSet, at: Addr7, cuts: &Cuts) -> R
     }
 }
 
-/// What is recorded of the accepted interrupt at this address, which these slots drive: the controller reads the
-/// mandatory byte where one is due (I3C Basic 5.1.6.2).
+/// The record of the accepted interrupt at this address, which these slots drive: the controller reads the mandatory byte if
+/// the table says that there is one (I3C Basic 5.1.6.2).
 pub(crate) fn reading(
     devices: &Devices,
     drivers: SlotSet,

@@ -15,7 +15,7 @@ use i3c_device::{Devices, SlotSet};
 use i3c_table::Table;
 use i3c_word::WORD_BITS;
 
-/// What came of a frame's first request, as the controller saw it on the wire.
+/// The result of a frame's first request, as the controller saw it on the wire.
 #[derive(Clone, Copy, Debug, PartialEq, Eq)]
 pub enum Reading {
     /// Nobody asked.
@@ -26,10 +26,10 @@ pub enum Reading {
     Joined,
     /// The role request of the device at this address was accepted.
     WantsRole(Addr7),
-    /// An interrupt was accepted, and this record of it is due.
+    /// An interrupt was accepted, and this is its record.
     Due(Record),
-    /// The interrupt at this address was accepted, and T after its byte was read as 1: nobody was left to end the byte,
-    /// of which this was read.
+    /// The interrupt at this address was accepted, and T after its byte was read as 1: no driver was left to end the byte,
+    /// and this was read of it.
     Torn(Addr7, u8),
 }
 
@@ -98,9 +98,9 @@ fn accept(
     }
 }
 
-/// Serves the first request of a frame, in which these devices are cut. The policy decides on it, unless its address has
-/// no row in the table. Its drivers lose what was accepted, and the mandatory byte is read where the table says that one
-/// is due (I3C Basic 5.1.6.2).
+/// Serves the first request of a frame, in which these devices are cut. The policy decides on it, unless its address has no
+/// row in the table. Its drivers lose what was accepted, and the mandatory byte is read if the table says that there is one
+/// (I3C Basic 5.1.6.2).
 #[inline(always)]
 pub fn serve<P: Policy>(
     devices: &mut Devices,

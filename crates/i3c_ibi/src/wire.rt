@@ -40,8 +40,8 @@ fn tell_byte<T: Tap>(tap: &mut T, byte: u8, t: bool)
     tap.note(Symbol::Word(Word { byte, t }));
 }
 
-/// Tells the beginning of a frame: what came of its first request, or the broadcast header where nobody asked
-/// (I3C Basic 5.1.6.2).
+/// Tells the beginning of a frame: its first request and the answer, or the broadcast header if there is no request (I3C
+/// Basic 5.1.6.2).
 // in line, since as a rule nobody asks
 #[inline(always)]
 pub fn tell_reading<T: Tap>(tap: &mut T, reading: &Reading, ack: bool)

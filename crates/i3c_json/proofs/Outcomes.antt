@@ -1,4 +1,4 @@
--- What stands under the names `line`, `ok` and `refused`, whatever is put beside it.
+-- The values of `line`, `ok` and `refused` in an object, whatever its other members are.
 use Rattle.std.proofs.Common.{◌≡◌, ◌∙◌, ℕ, true, false, List, [], ◌∷◌, Option, Some, None, option_map, refl, sym}
 use Rattle.std.proofs.lemmas.Bool.{false≢true}
 use Rattle.std.proofs.lemmas.Slice.Eq.{bytes_eq-Decides}

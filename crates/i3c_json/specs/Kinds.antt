@@ -30,7 +30,7 @@ is_one_token rest = begins rest (codes " ") && not (list_any (λ byte. byte == 3
 abbrev pub is_bytes : List ℕ → Bool
 is_bytes line = begins line (codes "bytes") && is_one_token (drop 5 line)
 
--- `active ADDR`
+-- a line that tells the active controller, `active ADDR`
 abbrev pub is_active : List ℕ → Bool
 is_active line = (length line == 9) && begins line (codes "active ")
 

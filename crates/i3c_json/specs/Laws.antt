@@ -13,12 +13,12 @@ abbrev pub ok_of : Option Refusal → Option Data
 ok_of None = Some (boolean true)
 ok_of (Some why) = None
 
--- this object has the line's number, and says whether the line was done, and else why not
+-- this object has the line's number, and says whether the line was done, or why not
 pub record TellsOutcome (count : ℕ) (refused : Option Refusal) (answered : Data) : Type 0 where
   pub line : get (codes "line") answered ≡ Some (number (unsigned count))
   pub ok : get (codes "ok") answered ≡ ok_of refused
   pub why : get (codes "refused") answered ≡ option_map (λ why. text_data (refusal_token why)) refused
 
--- whatever else an answer has
+-- An answer's object tells the outcome, whatever other fields it has.
 abbrev pub ObjectsTellOutcomes : Type 0
 ObjectsTellOutcomes = (count : ℕ) (refused : Option Refusal) (said : List ℕ) (added : Option (ℕ × Record)) (asking : Option (List ℕ)) → TellsOutcome count refused (answer_data count refused said added asking)

@@ -62,7 +62,7 @@ abbrev pub put_address : Option ℕ → Members → Members
 put_address None members = members
 put_address (Some a) members = put (codes "about") (text_data (byte_text a)) members
 
--- what the line came to
+-- the result of the line
 abbrev pub put_outcome : Option Refusal → Members → Members
 put_outcome None members = put (codes "ok") (boolean true) members
 put_outcome (Some why) members = put_address (refusal_address why) (put (codes "refused") (text_data (refusal_token why)) members)
@@ -72,7 +72,7 @@ abbrev pub put_record : Option (ℕ × Record) → Members → Members
 put_record None members = members
 put_record (Some numbered) members = put (codes "record") (record_data numbered.0 numbered.1) members
 
--- the names of those who ask, where they have changed; each stands behind a space
+-- the names of the devices that ask, if they have changed; each follows a space
 abbrev pub put_asking : Option (List ℕ) → Members → Members
 put_asking None members = members
 put_asking (Some names) members = put (codes "asking") (array (items_of (map text_data (drop 1 (pieces 32 names))))) members
@@ -92,7 +92,7 @@ abbrev pub put_said : List (List ℕ) → Members → Members
 put_said lines members =
     put_array (codes "told") (values_of Kind.Told lines) (put_data lines (put_first (codes "active") (values_of Kind.Active lines) (put_first (codes "bytes") (values_of Kind.Bytes lines) (put_array (codes "assigned") (values_of Kind.Assigned lines) (put_first (codes "served") (values_of Kind.Served lines) members)))))
 
--- the object of an answer: the line's number, what it came to, what it printed, the record that it added, and who asks
+-- the object of an answer: the line's number, its result, its output, the record that it added, and the devices that ask
 abbrev pub answer_data : ℕ → Option Refusal → List ℕ → Option (ℕ × Record) → Option (List ℕ) → Data
 answer_data count refused said added asking =
     object (put_asking asking (put_record added (put_said (pieces 10 said) (put_outcome refused (put (codes "line") (number (unsigned count)) no_members)))))

@@ -6,7 +6,7 @@ abbrev pub last_piece : List ℕ → List (List ℕ)
 last_piece [] = []
 last_piece (byte ∷ more) = (byte ∷ more) ∷ []
 
--- the pieces of a text, of which the first began with this
+-- the pieces of a text, the first of which began with this
 abbrev pub pieces_from : ℕ → List ℕ → List ℕ → List (List ℕ)
 pieces_from end piece [] = last_piece piece
 pieces_from end piece (byte ∷ rest) = if byte == end then piece ∷ pieces_from end [] rest else pieces_from end (piece ++ byte ∷ []) rest

@@ -26,7 +26,7 @@ pub struct Answer<'a> {
     pub said: &'a [u8],
     /// The record that the line added to the log, if it did, and its number there, from 1.
     pub added: Option<(u64, Record)>,
-    /// The names of those who ask, each behind a space, where they have changed.
+    /// The names of the devices that ask, each behind a space, if they have changed.
     pub asking: Option<&'a [u8]>,
 }
 
@@ -54,7 +54,7 @@ fn answer_value(alloc: Global, answer: &Answer<'_>) -> Result<Value, AllocError>
     Ok(Value::Object(fields))
 }
 
-/// Puts what the line came to.
+/// Puts the result of the line.
 fn put_outcome(
     alloc: Global,
     refused: &Option<Refusal>,
@@ -98,7 +98,7 @@ fn put_address(alloc: Global, address: Option<Addr7>, fields: &mut Fields) -> Re
     }
 }
 
-/// Puts the fields of what the line printed.
+/// Puts the fields of the line's output.
 fn put_said(alloc: Global, said: &[u8], fields: &mut Fields) -> Result<(), AllocError>
     ensures { OnOk result (members_view fields.new.entries ≡ put_said (pieces 10 said.now) (members_view fields.old.entries)) }
 {
@@ -201,7 +201,7 @@ fn put_record(
     }
 }
 
-/// Puts the names of those who ask, where they have changed.
+/// Puts the names of the devices that ask, if they have changed.
 fn put_asking(alloc: Global, asking: Option<&[u8]>, fields: &mut Fields) -> Result<(), AllocError>
     ensures { OnOk result (members_view fields.new.entries ≡ put_asking (option_map (λ names. names.now) asking.entry) (members_view fields.old.entries)) }
 {
@@ -214,13 +214,13 @@ fn put_asking(alloc: Global, asking: Option<&[u8]>, fields: &mut Fields) -> Resu
     }
 }
 
-/// An array of names, each of which stands behind a space.
+/// An array of names, each of which follows a space.
 fn names_value(alloc: Global, names: &[u8]) -> Result<Value, AllocError>
     ensures { IfOk result (λ value. view value ≡ array (items_of (map text_data (drop 1 (pieces 32 names.now))))) }
 {
     let names = pieces(alloc, b' ', names)?;
     let mut values = Vec::new(alloc);
-    // no name stands before the first space
+    // no name is before the first space
     let mut rest = match names.as_slice() {
         [] => &[],
         [_, more @ ..] => more,

@@ -31,7 +31,7 @@ const DATA: [Datum; 8] = [
 /// Which field of the object a printed line belongs to, if it tells no datum.
 #[derive(Clone, Copy, Debug, PartialEq, Eq)]
 pub(crate) enum Kind {
-    /// What became of the frame's first request.
+    /// The result of the frame's first request.
     Served,
     /// A device that got an address.
     Assigned,
@@ -56,7 +56,7 @@ pub(crate) fn has_kind(kind: Kind, line: &[u8]) -> bool
     }
 }
 
-/// Whether it says what became of the first request.
+/// Whether it tells the result of the first request.
 fn is_served(line: &[u8]) -> bool
     ensures { result ≡ is_served line.now }
 {
@@ -136,7 +136,7 @@ fn is(line: &[u8], tokens: &[u8]) -> bool
     line == tokens
 }
 
-/// What stands behind the first bytes of a line.
+/// The part of a line behind its first bytes.
 pub(crate) fn behind(line: &[u8], count: usize) -> &[u8]
     ensures { result.now ≡ drop count line.now }
 {

@@ -4,7 +4,7 @@ ghost use Rattle.i3c_json.specs.Pieces.{pieces};
 use std::alloc::{AllocError, Global};
 use std::mem;
 
-/// The pieces of a text, each without the byte that ends it. The last one needs no such byte, unless it is empty.
+/// The pieces of a text, each without the byte that ends it. The last one may lack it, unless it is empty.
 pub(crate) fn pieces(alloc: Global, end: u8, text: &[u8]) -> Result<Vec<Vec<u8>>, AllocError>
     ensures { IfOk result (λ found. map (λ piece. piece.items) found.items ≡ pieces end text.now) }
 {

@@ -78,7 +78,7 @@ pub(crate) fn datum_value(alloc: Global, what: Datum, line: &[u8]) -> Result<Val
     text_value(alloc, behind(line, told_token(what).len() + 1))
 }
 
-/// The first bytes of what stands behind others.
+/// Some bytes of a line, from a start on.
 fn part(line: &[u8], start: usize, count: usize) -> &[u8]
     ensures { result.now ≡ take count (drop start line.now) }
 {

@@ -1,4 +1,4 @@
--- Declared legacy targets and identities, seen as what stands at the static addresses.
+-- Declared legacy targets and identities, as they are kept by static address.
 use Rattle.std.specs.Prelude.{ℕ, ◌≤◌, List, All, IsTrue, length}
 use Rattle.i3c_base.specs.State.{Board, IsBoard, is_static}
 use Rattle.i3c_legacy.specs.declared.legacies.Declared.{Declared}

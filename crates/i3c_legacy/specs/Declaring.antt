@@ -10,14 +10,15 @@ use Rattle.i3c_legacy.specs.declared.legacies.TheConstants.{DECLARED, LEGACIES}
 abbrev pub is_taken : Board → ℕ → Bool
 is_taken board a = is_some (slice_index_or board.legacy a None) || is_some (declared_in board.declared a)
 
--- the first fault of one more target at the address a: the address, who has it, or no room
+-- the first fault of one more target at the address a: of the address, of its holder, or no room
 abbrev pub first_fault : Board → ℕ → Option LegacyFault
 first_fault board a =
     if not (is_static a) then Some LegacyFault.LegacyAddress else
     (if is_taken board a then Some LegacyFault.LegacyTwice else
     (if nat_le LEGACIES (count_by is_some board.legacy) then Some LegacyFault.TooManyLegacy else None))
 
--- the first fault of declaring the identity i at the address a: the address, who has it, another address of the identity, or no room
+-- the first fault of declaring the identity i at the address a: of the address, of its holder, of another address of the
+-- identity, or no room
 abbrev pub first_declare_fault : Board → ℕ → Identity → Option DeclareFault
 first_declare_fault board a i =
     if not (is_static a) then Some DeclareFault.LegacyAddress else

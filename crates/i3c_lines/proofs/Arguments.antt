@@ -103,7 +103,7 @@ address_written token at is e = ((is.0, e), subst (λ n. n < 128) (sym e) is.1)
 pub no_address : (token : List ℕ) → (IsHex 2 token × (hex token < 128) → false ≡ true) → (at : ℕ) → WritesAddress token at → ⊥
 no_address token none at is = false≢true (none (is.0.0, subst (λ n. n < 128) is.0.1 is.1))
 
--- one token's line
+-- the line of one token
 pub only_token : (line token : List ℕ) → tokens_of line ≡ token ∷ [] → line ≡ token
 only_token line token e = line_is line (token ∷ []) e
 

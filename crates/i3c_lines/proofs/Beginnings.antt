@@ -39,7 +39,7 @@ begun letter tail command no_space form =
     let tokens : tokens_of (letter ∷ tail) ≡ (letter ∷ some.0) ∷ some.1 = no_space ∙ ap (λ ws. with_first letter ws) some.2 in
     (some.0, some.1, tokens, subst (λ ws. IsForm ws (meant ws)) tokens (as_meant (tokens_of (letter ∷ tail)) command form))
 
--- behind `o`
+-- the commands of a line that begins with `o`
 pub only_open : (tail : List ℕ) (command : Command) → IsForm (tokens_of (111 ∷ tail)) command → tail ≡ codes "pen"
 only_open tail command form =
     let (token, tokens, e, here) = begun 111 tail command refl form in
@@ -48,7 +48,7 @@ only_open tail command form =
       | inr show ↦ absurd (omega (arith, ap first_letter show))
     ]
 
--- behind `w`
+-- the commands of a line that begins with `w`
 pub only_write : (tail : List ℕ) (command : Command) → IsForm (tokens_of (119 ∷ tail)) command → GoesOn tail (codes "rite")
 only_write tail command form =
     let (token, tokens, e, here) = begun 119 tail command refl form in
@@ -57,7 +57,7 @@ only_write tail command form =
       | inr show ↦ absurd (omega (arith, ap first_letter show))
     ]
 
--- behind `e`
+-- the commands of a line that begins with `e`
 pub only_e : (tail : List ℕ) (command : Command) → IsForm (tokens_of (101 ∷ tail)) command → GoesOn tail (codes "nec") ⊎ (tail ≡ codes "nd")
 only_e tail command form =
     let (token, tokens, e, here) = begun 101 tail command refl form in
@@ -82,7 +82,7 @@ shown token (next ∷ tokens) form =
           inr (inr (one, e ∙ ap (λ ws. codes "show" ∷ ws) e', subst (λ (n : ℕ). WritesPlace one n) (ap (digits_value 10) same) is))
     ]
 
--- a line behind `show`, of which `all` is another
+-- a line behind `show`, if it isn't `all`
 pub shown_args : (line : List ℕ) (command : Command) → (line ≡ codes "all" → ⊥) → IsForm (codes "show" ∷ tokens_of line) command → (first : ℕ) × ArePlace (tokens_of line) first
 shown_args line command other form =
     elim (shown (codes "show") (tokens_of line) (as_meant (codes "show" ∷ tokens_of line) command form)) [
@@ -105,7 +105,7 @@ lengthened tail token tokens e form =
           ]
     ]
 
--- behind `s`
+-- the commands of a line that begins with `s`
 pub only_s : (tail : List ℕ) (command : Command) → IsForm (tokens_of (115 ∷ tail)) command → (tail ≡ codes "erve") ⊎ (tail ≡ codes "how") ⊎ (tail ≡ codes "ymbols") ⊎ (tail ≡ codes "how all")
     ⊎ GoesOn tail (codes "how") ⊎ GoesOn tail (codes "etdasa") ⊎ GoesOn tail (codes "etnewda") ⊎ GoesOn tail (codes "etmwl") ⊎ GoesOn tail (codes "etmrl")
 only_s tail command form =
@@ -140,7 +140,7 @@ only_s tail command form =
           ]
     ]
 
--- behind `r`
+-- the commands of a line that begins with `r`
 pub only_r : (tail : List ℕ) (command : Command) → IsForm (tokens_of (114 ∷ tail)) command
     → GoesOn tail (codes "aise") ⊎ GoesOn tail (codes "ead") ⊎ (tail ≡ codes "eset") ⊎ (tail ≡ codes "ound")
 only_r tail command form =
@@ -179,7 +179,7 @@ behind_get rest token tokens e =
     let both : (103 ∷ 101 ∷ 116 ∷ some.0) ∷ some.1 ≡ (103 ∷ 101 ∷ 116 ∷ token) ∷ tokens = ap (λ ws. with_first 103 (with_first 101 (with_first 116 ws))) (sym some.2) ∙ e in
     some.2 ∙ (λ i. drop 3 (first_of (both i)) ∷ rest_of (both i))
 
--- such a line has `get` in front
+-- a question for a datum has `get` in front
 pub asks : (tail : List ℕ) (command : Command) → IsForm (tokens_of (103 ∷ tail)) command → (rest : List ℕ) × (tail ≡ codes "et" ++ rest)
 asks tail command form = let (what, at, token, e, is) = only_g tail command form in (told_token what ++ 32 ∷ token, ap tail_of (line_is (103 ∷ tail) _ e))
 
@@ -192,7 +192,7 @@ either_is : (b : Bool) (one other command : Command) (tokens : List (List ℕ)) 
 either_is true one other command tokens e form = inl (e, form)
 either_is false one other command tokens e form = inr (e, form)
 
--- behind `d`
+-- the commands of a line that begins with `d`
 pub only_d : (tail : List ℕ) (command : Command) → IsForm (tokens_of (100 ∷ tail)) command → GoesOn tail (codes "isec") ⊎ (tail ≡ codes "aa") ⊎ IsOther command
 only_d tail command form =
     let (token, tokens, e, here) = begun 100 tail command refl form in
@@ -214,7 +214,7 @@ only_d tail command form =
           ]
     ]
 
--- behind `l`
+-- the commands of a line that begins with `l`
 pub only_l : (tail : List ℕ) (command : Command) → IsForm (tokens_of (108 ∷ tail)) command → (tail ≡ codes "ist") ⊎ IsOther command
 only_l tail command form =
     let (token, tokens, e, here) = begun 108 tail command refl form in
@@ -228,7 +228,7 @@ only_l tail command form =
           ]
     ]
 
--- what reads token by token reads a line that only such commands can have
+-- a reader of tokens reads a line that only its commands can have
 pub becomes_other : (tokens : List (List ℕ)) (result : Option (Unit {0})) (old new : Command) → ((command : Command) → IsForm tokens command → IsOther command) → BecomesOther tokens result old new → Becomes tokens result old new
 becomes_other tokens None old new other is = (λ command form. is.0 command (form, other command form), is.1)
 becomes_other tokens (Some done) old new other is = is.0

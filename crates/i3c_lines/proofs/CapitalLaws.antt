@@ -11,7 +11,7 @@ use Rattle.i3c_lines.specs.Forms.{HasNoForm, IsCommand, IsForm, IsSkipped, token
 use Rattle.i3c_lines.specs.Printing.{behind, spaced}
 use Rattle.i3c_lines.proofs.LineLaws.{line_is, line_of, some_token}
 
--- the same bytes, of which some are capitals
+-- the same bytes, some of them as capitals
 abbrev pub Recased : List ℕ → List ℕ → Type 0
 Recased [] [] = Unit {0}
 Recased [] (other ∷ more) = ⊥

@@ -131,7 +131,7 @@ kinds_but tokens rest after first policy None e other is none = go
               none kinds more behind split.1 (subst (λ p. AcceptEach more p kinds) same are)
         ]
 
--- what stands behind the first `but` is one thing
+-- the tokens behind the first `but` are determined
 pub same_behind : (tokens front behind front' behind' : List (List ℕ)) (kinds kinds' : Fixed) → tokens ≡ front ++ codes "but" ∷ behind → IsPolicy front kinds → tokens ≡ front' ++ codes "but" ∷ behind' → IsPolicy front' kinds'
     → behind ≡ behind'
 same_behind tokens front behind front' behind' kinds kinds' e is e' is' = sym (put_but front behind tokens kinds e is).2 ∙ (put_but front' behind' tokens kinds' e' is').2
@@ -145,7 +145,6 @@ no_names tokens front after kinds e is none other names (front', behind, e', is'
 names_long : (tokens : List (List ℕ)) (old new : List Name) → NameEach tokens old new → length new ≡ length old + length (map named tokens)
 names_long tokens old new are = ap length (names_are tokens old new are) ∙ length-append old (map named tokens)
 
--- one name more
 pub name_more : (tokens rest : List (List ℕ)) (token : List ℕ) (name : Name) (old mid new : List Name) (result : Option (Unit {0})) → tokens ≡ token ∷ rest → IsNamed token name
     → list_any (λ other. is_same other name) old ≡ false → mid ≡ old ++ name ∷ [] → GoOn rest mid new result → GoOn tokens old new result
 name_more tokens rest token name old mid new None e is once put none = λ all are few.
@@ -153,7 +152,7 @@ name_more tokens rest token name old mid new None e is once put none = λ all ar
     let same : other ≡ name = same_name other name (is'.1 ∙ sym is.1) in none all (subst (λ ns. NameEach rest ns all) (ap (λ n. old ++ n ∷ []) same ∙ sym put) after) few
 name_more tokens rest token name old mid new (Some done) e is once put are = subst (λ ws. NameEach ws old new) (sym e) (name, is, once, subst (λ ns. NameEach rest ns new) put are)
 
--- a name that stands already
+-- a name that was there before
 pub named_twice : (tokens rest : List (List ℕ)) (token : List ℕ) (name : Name) (old : List Name) → tokens ≡ token ∷ rest → letters name ≡ token → list_any (λ other. is_same other name) old ≡ true
     → (all : List Name) → NameEach tokens old all → ⊥
 named_twice tokens rest token name old e is twice all are =

@@ -208,7 +208,7 @@ accepting_each_is : (tokens : List (List ℕ)) (old new : Fixed) → AcceptEach 
 accepting_each_is [] old new same = sym same
 accepting_each_is (token ∷ tokens) old new (next, is, are) = ap (λ policy. accepting_each tokens policy) (accepting_is token old next is) ∙ accepting_each_is tokens next new are
 
--- a token that names a kind stands not alone
+-- a token that names a kind doesn't make a policy alone
 pub kind_first : (token : List ℕ) (tokens : List (List ℕ)) (old new : Fixed) → Accepts token old new → policy_of (token ∷ tokens) ≡ accepting_each (token ∷ tokens) (each_kind Refuse)
 kind_first token tokens old new (inl is) = ap (λ w. policy_of (w ∷ tokens)) is.0 ∙ sym (ap (λ w. accepting_each (w ∷ tokens) (each_kind Refuse)) is.0)
 kind_first token tokens old new (inr (inl is)) = ap (λ w. policy_of (w ∷ tokens)) is.0 ∙ sym (ap (λ w. accepting_each (w ∷ tokens) (each_kind Refuse)) is.0)

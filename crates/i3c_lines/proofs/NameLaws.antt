@@ -18,12 +18,12 @@ pub known_after : (is_given : Bool) (place : Place) (before after : Option Place
 known_after true place before after e known = subst IsSome (sym e) refl
 known_after false place before after e known = subst IsSome (sym e) known
 
--- who is given its own place isn't gone first
+-- a name that is given its own place isn't gone first
 not_gone : (is_name is_had : Bool) (here absent before : Option Place) → is_had ≡ is_name → (if is_name then here else before) ≡ (if is_name then here else (if is_had then absent else before))
 not_gone true is_had here absent before e = refl
 not_gone false is_had here absent before e = sym (ap (λ b. if b then absent else before) e)
 
--- who had the slot is gone first, unless it stands elsewhere
+-- the name that had the slot is gone first, unless it has another place
 pub given_after : (old mid new : Names) (name : Name) (slot : ℕ) → Empties old mid slot (Place.Slot slot) → GivesAlone mid new name (Place.Slot slot) → GivesSlot old new name slot
 given_after old mid new name slot = go (get_or (slot_names old) slot None)
   where

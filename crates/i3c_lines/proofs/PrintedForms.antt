@@ -28,7 +28,7 @@ use Rattle.i3c_lines.proofs.SplitLaws.{HasNoSpace, hex_no_space, name_no_space, 
 byte_apart : (byte : ℕ) → byte < 256 → HasNoSpace (byte_text byte)
 byte_apart byte h = hex_no_space (byte_text byte) (byte_writes byte h).0.1
 
--- tokens that have a form, and what becomes of them in a line
+-- tokens that have a form and are tokens of a line, with at most `most` bytes in all
 abbrev Fit : Type 0 → List (List ℕ) → ℕ → Type 0
 Fit Form tokens most = Form × Apart tokens × (total tokens ≤ most)
 

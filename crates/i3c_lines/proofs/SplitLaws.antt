@@ -1,4 +1,4 @@
--- A line's first token, and what stands behind it.
+-- A line's first token, and the text behind it.
 use Rattle.std.proofs.Common.{◌≡◌, ◌∙◌, ℕ, zero, suc, ◌+◌, ◌-◌, ◌<◌, ◌≤◌, true, false, cond, eqb, eq-zero-or-pos, inl, inr, List, [], ◌∷◌, ◌++◌, Option, Some, None, All, get_or, drop, length, take, ap, arith, refl, sym, subst}
 use Rattle.std.proofs.lemmas.Bool.{eqb-true}
 use Rattle.std.proofs.lemmas.List.{drop-drop, drop_all, get_or-take, length-append, length-take-le, take_all}
@@ -21,7 +21,7 @@ pub joined_length : (token : List ℕ) (rest : Option (List ℕ)) → length tok
 joined_length token None = omega arith
 joined_length token (Some rest) = omega (arith, length-append token (32 ∷ rest))
 
--- what stands in a token stands in its line
+-- a byte of a token is a byte of its line
 pub in_token : (token : List ℕ) (rest : Option (List ℕ)) (k : ℕ) → k < length token → get_or (joined token rest) k 0 ≡ get_or token k 0
 in_token token rest k within = sym (get_or-take (length token) (joined token rest) k 0 within) ∙ ap (λ w. get_or w k 0) (take_joined token rest)
 

@@ -20,7 +20,7 @@ abbrev pub with_first : ℕ → List (List ℕ) → List (List ℕ)
 with_first byte [] = (byte ∷ []) ∷ []
 with_first byte (token ∷ tokens) = (byte ∷ token) ∷ tokens
 
--- the tokens of a line: the bytes between its spaces, of which each is 32
+-- the tokens of a line: the bytes between its spaces, which are 32
 abbrev pub tokens_of : List ℕ → List (List ℕ)
 tokens_of [] = [] ∷ []
 tokens_of (byte ∷ line) = if byte == 32 then [] ∷ tokens_of line else with_first byte (tokens_of line)
@@ -29,7 +29,7 @@ tokens_of (byte ∷ line) = if byte == 32 then [] ∷ tokens_of line else with_f
 abbrev pub IsNamed : List ℕ → Name → Type 0
 IsNamed token name = IsName 16 token × (letters name ≡ token)
 
--- so many hex digits, and the number that they write
+-- `digits` hex digits, and the number that they write
 abbrev pub Writes : ℕ → List ℕ → ℕ → Type 0
 Writes digits token number = IsHex digits token × (number ≡ digits_value 16 token)
 
@@ -37,7 +37,7 @@ Writes digits token number = IsHex digits token × (number ≡ digits_value 16 t
 abbrev pub WritesAddress : List ℕ → ℕ → Type 0
 WritesAddress token address = Writes 2 token address × (address < 128)
 
--- two hex digits, of which bits 0, 1 and 3 are kept
+-- two hex digits, whose bits 0, 1 and 3 are kept
 abbrev pub WritesKinds : List ℕ → Kinds → Type 0
 WritesKinds token kinds = IsHex 2 token × (kinds.0 ≡ bit_and (digits_value 16 token) 0x0B)
 
@@ -61,7 +61,7 @@ WritesLength token most = WritesCount token most × (most ≤ 16)
 abbrev pub WritesIdentity : List ℕ → List ℕ → List ℕ → Identity → Type 0
 WritesIdentity pid bcr dcr identity = Writes 12 pid identity.pid × Writes 2 bcr identity.bcr.0 × Writes 2 dcr identity.dcr.0
 
--- behind its identity: nothing for a device that takes the controller role, or `decline`
+-- the tokens behind an identity: none for a device that takes the controller role, or `decline`
 abbrev pub willing_tokens : Bool → List (List ℕ)
 willing_tokens true = []
 willing_tokens false = codes "decline" ∷ []
@@ -71,21 +71,21 @@ abbrev pub AreDevice : List (List ℕ) → Name → Setup → Type 0
 AreDevice tokens name setup =
     (token pid bcr dcr : List ℕ) × (tokens ≡ token ∷ pid ∷ bcr ∷ dcr ∷ willing_tokens setup.willing) × IsNamed token name × WritesIdentity pid bcr dcr setup.identity
 
--- `[BYTE]`
+-- tokens of an optional byte, `[BYTE]`
 abbrev pub AreByte : List (List ℕ) → Option ℕ → Type 0
 AreByte tokens None = tokens ≡ []
 AreByte tokens (Some byte) = (token : List ℕ) × (tokens ≡ token ∷ []) × Writes 2 token byte
 
--- `[ADDR]`
+-- tokens of an optional address, `[ADDR]`
 abbrev pub AreAddress : List (List ℕ) → Option ℕ → Type 0
 AreAddress tokens None = tokens ≡ []
 AreAddress tokens (Some address) = (token : List ℕ) × (tokens ≡ token ∷ []) × WritesAddress token address
 
--- `BYTE [ADDR]`
+-- tokens of kinds and an optional address, `BYTE [ADDR]`
 abbrev pub AreKinds : List (List ℕ) → Option ℕ → Kinds → Type 0
 AreKinds tokens to kinds = (token : List ℕ) × (rest : List (List ℕ)) × (tokens ≡ token ∷ rest) × WritesKinds token kinds × AreAddress rest to
 
--- `N`
+-- the token of a count, `N`
 abbrev pub AreCount : List (List ℕ) → ℕ → Type 0
 AreCount tokens count = (token : List ℕ) × (tokens ≡ token ∷ []) × WritesCount token count
 
@@ -93,19 +93,19 @@ AreCount tokens count = (token : List ℕ) × (tokens ≡ token ∷ []) × Write
 abbrev pub ArePlace : List (List ℕ) → ℕ → Type 0
 ArePlace tokens place = (token : List ℕ) × (tokens ≡ token ∷ []) × WritesPlace token place
 
--- `N [ADDR]`
+-- tokens of a length and an optional address, `N [ADDR]`
 abbrev pub AreLength : List (List ℕ) → ℕ → Option ℕ → Type 0
 AreLength tokens most to = (token : List ℕ) × (rest : List (List ℕ)) × (tokens ≡ token ∷ rest) × WritesLength token most × AreAddress rest to
 
--- `ADDR ADDR`
+-- tokens of two addresses, `ADDR ADDR`
 abbrev pub AreAddresses : List (List ℕ) → ℕ → ℕ → Type 0
 AreAddresses tokens first second = (one other : List ℕ) × (tokens ≡ one ∷ other ∷ []) × WritesAddress one first × WritesAddress other second
 
--- the tokens of a question for a datum, whose first stands without its letters `get`
+-- the tokens of a question for a datum, with the letters `get` taken off the first
 abbrev pub AreAsked : List (List ℕ) → Datum → ℕ → Type 0
 AreAsked tokens what at = (token : List ℕ) × (tokens ≡ told_token what ∷ token ∷ []) × WritesAddress token at
 
--- `ADDR PID BCR DCR`
+-- tokens of a declared identity, `ADDR PID BCR DCR`
 abbrev pub AreDeclared : List (List ℕ) → ℕ → Identity → Type 0
 AreDeclared tokens address identity = (at pid bcr dcr : List ℕ) × (tokens ≡ at ∷ pid ∷ bcr ∷ dcr ∷ []) × WritesAddress at address × WritesIdentity pid bcr dcr identity
 
@@ -114,7 +114,7 @@ abbrev pub AreWritten : List (List ℕ) → List ℕ → Type 0
 AreWritten tokens bytes = ((tokens ≡ []) × (bytes ≡ []))
     ⊎ ((token : List ℕ) × (tokens ≡ token ∷ []) × (0 < length token) × AreBytes token × (bytes ≡ take 17 (pair_values token)))
 
--- each of these tokens is a name that doesn't stand before it: so no name stands twice
+-- each of these tokens is a name that isn't among those before it: so no name comes twice
 abbrev pub NameEach : List (List ℕ) → List Name → List Name → Type 0
 NameEach [] old new = new ≡ old
 NameEach (token ∷ tokens) old new =

@@ -53,12 +53,12 @@ abbrev pub Replaces : Names → Names → Name → Name → ℕ → Type 0
 Replaces old new had name slot =
     (other : Name) → place_named new other ≡ (if is_same name other then Some (Place.Slot slot) else (if is_same had other then Some Place.Gone else place_named old other))
 
--- a slot is given a name; the slot's own name until then loses it, unless that one stands elsewhere by now
+-- a slot is given a name; the slot's old name loses it, unless that one has another place by now
 abbrev pub GivesSlot : Names → Names → Name → ℕ → Type 0
 GivesSlot old new name slot = MatchOption (slice_index_or (slot_names old) slot None) (GivesAlone old new name (Place.Slot slot))
     (λ had. (place_named old had ≡ Some (Place.Slot slot) → Replaces old new had name slot) × (place_named old had ≢ Some (Place.Slot slot) → GivesAlone old new name (Place.Slot slot)))
 
--- whoever stands at a place by a slot's name is gone
+-- the old name of a slot is gone, if it still has that place
 abbrev pub Empties : Names → Names → ℕ → Place → Type 0
 Empties old new slot place = MatchOption (slice_index_or (slot_names old) slot None) (KeepsPlaces old new)
     (λ had. (place_named old had ≡ Some place → GivesAlone old new had Place.Gone) × (place_named old had ≢ Some place → KeepsPlaces old new))

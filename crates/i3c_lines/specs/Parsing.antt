@@ -64,7 +64,7 @@ AcceptsUntilBut old before after result =
     MatchOption result ((new : Fixed) (front rest : List (List ℕ)) → before ≡ front ++ codes "but" ∷ rest → AcceptEach front old new → ⊥)
     (λ new. (front : List (List ℕ)) × (before ≡ front ++ codes "but" ∷ after) × AcceptEach front old new)
 
--- names go on by those of more tokens, if there are 8 at most and none stands twice
+-- names go on by those of more tokens, if there are 8 at most and none comes twice
 abbrev pub GoOn : List (List ℕ) → List Name → List Name → Option (Unit {0}) → Type 0
 GoOn tokens old new result = MatchOption result ((all : List Name) → NameEach tokens old all → length all ≤ 8 → ⊥) (λ _. NameEach tokens old new)
 

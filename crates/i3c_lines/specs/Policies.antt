@@ -19,7 +19,7 @@ abbrev pub AcceptEach : List (List ℕ) → Fixed → Fixed → Type 0
 AcceptEach [] old new = new ≡ old
 AcceptEach (token ∷ tokens) old new = (next : Fixed) × Accepts token old next × AcceptEach tokens next new
 
--- a token that stands alone, and the policy that it names
+-- a token that makes a policy alone, and that policy
 abbrev pub IsAlone : List ℕ → Fixed → Type 0
 IsAlone token policy = ((token ≡ codes "all") × (policy ≡ each_kind Accept)) ⊎ ((token ≡ codes "none") × (policy ≡ each_kind Refuse))
 

@@ -38,7 +38,7 @@ abbrev pub written_tokens : List ℕ → List (List ℕ)
 written_tokens [] = []
 written_tokens (byte ∷ bytes) = bytes_text (byte ∷ bytes) ∷ []
 
--- an identity
+-- the tokens of an identity
 abbrev pub identity_tokens : Identity → List (List ℕ)
 identity_tokens identity = hex_text 12 identity.pid ∷ byte_text identity.bcr.0 ∷ byte_text identity.dcr.0 ∷ []
 

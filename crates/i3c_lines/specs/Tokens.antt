@@ -4,15 +4,15 @@ use Rattle.std.specs.Int.{IsInRange}
 use Rattle.std.specs.Str.Parse.{digits_value}
 use Rattle.i3c_text.specs.Digits.{IsHexDigit}
 
--- `0` to `9`
+-- a decimal digit, `0` to `9`
 abbrev pub IsDecimalDigit : ℕ → Type 0
 IsDecimalDigit byte = IsInRange 48 57 byte
 
--- decimal digits, of which there is one at least
+-- decimal digits, at least one
 abbrev pub IsDecimal : List ℕ → Type 0
 IsDecimal token = (0 < length token) × All IsDecimalDigit token
 
--- so many hex digits
+-- `digits` hex digits
 abbrev pub IsHex : ℕ → List ℕ → Type 0
 IsHex digits token = (length token ≡ digits) × All IsHexDigit token
 
@@ -20,7 +20,7 @@ IsHex digits token = (length token ≡ digits) × All IsHexDigit token
 abbrev pub IsNameLetter : ℕ → Type 0
 IsNameLetter byte = IsInRange 97 122 byte ⊎ IsInRange 48 57 byte
 
--- at least one letter, and no more than so many
+-- at least one letter, and at most `most`
 abbrev pub IsName : ℕ → List ℕ → Type 0
 IsName most token = (0 < length token) × (length token ≤ most) × All IsNameLetter token
 

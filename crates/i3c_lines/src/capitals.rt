@@ -9,7 +9,8 @@ use crate::tokens::Tokens;
 use i3c_text::Text;
 use std::alloc::AllocError;
 
-/// Appends a line with its hexadecimal digits in capitals: each token of such digits alone, but for the first one and a name.
+/// Appends a line with its hexadecimal digits in capitals: each token that has only hexadecimal digits, except for the first
+/// one and a name.
 pub fn push_capitals(line: &[u8], text: &mut Text) -> Result<(), AllocError>
     ensures { OnOk result (text.new ≡ text.old ++ in_capitals line.now) }
 {
@@ -21,7 +22,7 @@ pub fn push_capitals(line: &[u8], text: &mut Text) -> Result<(), AllocError>
     push_args(has_name(first), &mut tokens, text)
 }
 
-/// Appends the tokens behind a first one in capitals, but for a name, each behind a space.
+/// Appends the tokens behind a first one in capitals, except for a name, each behind a space.
 fn push_args(named: bool, tokens: &mut Tokens<'_>, text: &mut Text) -> Result<(), AllocError>
     ensures { OnOk result (text.new ≡ text.old ++ behind (capital_args named (left_tokens tokens.old))) }
 {
@@ -77,7 +78,7 @@ fn push_uppercase(token: &[u8], text: &mut Text) -> Result<(), AllocError>
     push_uppercase(rest, text)
 }
 
-/// Whether a name stands behind this first token.
+/// Whether a name follows this first token.
 fn has_name(token: &[u8]) -> bool
     ensures { result ≡ has_name token.now }
 {

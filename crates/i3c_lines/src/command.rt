@@ -79,7 +79,7 @@ const FRAMES: &[u8] = b"frames";
 
 const FORGET: &[u8] = b"forget";
 
-/// What a line asks for, with the names as they stand there.
+/// The command of a line, with its names as the line has them.
 #[derive(Drop)]
 pub enum Command {
     /// `legacy NAME ADDR LVR`: a legacy target is declared at a static address.
@@ -107,7 +107,7 @@ pub enum Command {
     DropOff {
         name: Name,
     },
-    /// `raise NAME [BYTE]`: a device raises an interrupt, with its mandatory byte where one is due.
+    /// `raise NAME [BYTE]`: a device raises an interrupt, with its mandatory byte if it sends one.
     Raise {
         name: Name,
         byte: Option<u8>,
@@ -152,7 +152,7 @@ pub enum Command {
     },
     /// `show`: the bus as it is.
     Show,
-    /// `show all`: the same, and what each device is, which of its events are enabled, and what it wishes for.
+    /// `show all`: the same, and for each device its identity, its enabled events and its wishes.
     ShowAll,
     /// `show N`: the same as `show`, but of the records only those from this number on.
     ShowFrom(u64),
@@ -178,7 +178,7 @@ impl Command {
     }
 
     /// Becomes the command of a line, if the line has a form. Otherwise it is unchanged. So nothing of a command's size is
-    /// moved for each line. Whoever calls it is named by `K`, so that each caller has it in line.
+    /// moved for each line. `K` names the caller, so that each caller has it in line.
     pub fn read<K>(&mut self, line: &[u8]) -> Option<()>
         ensures { Becomes (tokens_of line.now) result self.old self.new }
     {

@@ -10,7 +10,7 @@ const DECLINE: &[u8] = b"decline";
 /// The last token of a line that shows all of the bus.
 const ALL: &[u8] = b"all";
 
-/// A place of a line behind its command, by what stands there.
+/// A place of a line behind its command, by what is expected there.
 #[derive(Clone, Copy, Debug, PartialEq, Eq)]
 pub enum Field {
     /// The name of a device or a legacy target.
@@ -39,7 +39,7 @@ pub enum Field {
     Count,
     /// How many bytes a transfer may have.
     Length,
-    /// What else of the bus is shown: all of it, or its records from a number on.
+    /// The part of the bus that is shown: all of it, or its records from a number on.
     Shown,
     /// The number of a record.
     Place,

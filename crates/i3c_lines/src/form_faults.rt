@@ -84,7 +84,7 @@ fn diagnose(line: &[u8]) -> FormFault<'_>
     }
 }
 
-/// A byte that stands where no line has it, if there is one.
+/// A byte that is in no line at this place, if there is one.
 fn stray_byte(line: &[u8]) -> Option<FormFault<'_>>
     ensures { IfSome result (λ fault. IsSo line.now fault) }
 {
@@ -153,7 +153,7 @@ fn kind_misfit<'a>(first: &'a [u8], tokens: &mut Tokens<'a>) -> FormFault<'a>
     FormFault::Unknown(first)
 }
 
-/// The first of the tokens behind a policy's `all` that may not stand there.
+/// The first of the tokens behind a policy's `all` that isn't allowed there.
 fn behind_all<'a>(first: &'a [u8], tokens: &mut Tokens<'a>) -> FormFault<'a>
     ensures { (line : List ℕ) → IsSo line result }
 {

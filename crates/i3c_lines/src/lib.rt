@@ -1,11 +1,10 @@
 //! What a script's line says by itself: its tokens, its command, the names that it gives, and why it is refused.
 //!
-//! `tokens` reads one token, `command` a line of text, `line` a line of bytes, which may come in pieces. `names` keeps what the names of a script
-//! stand for, and `namings` which names a command gives and means. `policies` are the tokens that name a policy,
-//! and `data` those of what a controller asks for, and of the lengths that it sets. `capitals` writes a line's hexadecimal
-//! digits in capitals.
-//! `form_faults` says why a line has no form, by the `fields` and the `shapes` of the commands. `laws` are theorems over all
-//! lines.
+//! `tokens` reads one token, `command` a line of text, `line` a line of bytes, which may come in pieces. `names` keeps the
+//! places of a script's names, and `namings` has the names that a command gives and means. `policies` are the tokens that
+//! name a policy, and `data` those of data that a controller asks for, and of lengths that it sets. `capitals` writes a
+//! line's hexadecimal digits in capitals. `form_faults` says why a line has no form, by the `fields` and the `shapes` of the
+//! commands. `laws` are theorems over all lines.
 #![tactic(auto)]
 
 mod capitals;

@@ -57,7 +57,7 @@ impl Line {
     ghost use Rattle.i3c_lines.specs.Gathering.{gathered};
     ghost use Rattle.i3c_lines.specs.declared.line.TheConstants.{TELLING_LENGTH};
 
-    /// A line of which nothing was read.
+    /// An empty line.
     pub fn new() -> Line
         ensures { gathered result ≡ [] }
     {

@@ -99,7 +99,7 @@ fn excepted(tokens: &mut Tokens<'_>) -> Option<ArrayVec<Name, EXCEPTED>>
     }
 }
 
-/// Appends the names of more tokens, as long as there is a place and none stands twice.
+/// Appends the names of more tokens, as long as there is a place and none comes twice.
 fn push_names(tokens: &mut Tokens<'_>, names: &mut ArrayVec<Name, EXCEPTED>) -> Option<()>
     ensures { GoOn (left_tokens tokens.old) names.old.items names.new.items result }
 {
@@ -114,7 +114,7 @@ fn push_names(tokens: &mut Tokens<'_>, names: &mut ArrayVec<Name, EXCEPTED>) -> 
     push_names(tokens, names)
 }
 
-/// The policy of a token that stands alone.
+/// The policy that a token makes alone.
 pub(crate) fn alone(token: &[u8]) -> Option<Fixed>
     ensures { MatchOption result ((policy : Fixed) → IsAlone token.now policy → ⊥) (λ policy. IsAlone token.now policy) }
 {

@@ -43,7 +43,7 @@ impl From<Refusal> for Stop<Refusal> {
 impl Refusal {
     ghost use Rattle.i3c_lines.specs.Refusing.{refusal_text, refusal_token};
 
-    /// Its name, as it is printed.
+    /// The refusal's name, as it is printed.
     pub fn token(&self) -> &'static str
         ensures { result.now ≡ refusal_token self.now }
     {

@@ -89,7 +89,7 @@ fn begins(text: &[u8], start: &[u8]) -> bool
     true
 }
 
-/// What stands behind these letters, if a text begins with them.
+/// The rest of a text behind these letters, if it begins with them.
 #[inline(always)]
 pub(crate) fn after<'a>(text: &'a [u8], start: &[u8]) -> Option<&'a [u8]>
     ensures { MatchOption result ((rest : List ℕ) → text.now ≡ start.now ++ rest → ⊥) (λ rest. text.now ≡ start.now ++ rest.now) }
@@ -139,7 +139,7 @@ fn first_space(bytes: &[u8]) -> Option<usize>
     bytes.iter().position(|byte| *byte == SPACE)
 }
 
-/// The number that a token writes, if it has so many hex digits.
+/// The number that a token writes, if it has `digits` hex digits.
 fn number(token: &[u8], digits: usize) -> Option<u64>
     requires { digits ≤ 16 }
     ensures form { IsSome result ↔ IsHex digits token.now }
@@ -239,8 +239,7 @@ pub(crate) fn length(token: &[u8]) -> Option<Length>
     Length::new(number as u8).ok()
 }
 
-/// Kinds of events: two hex digits, of which bit 0 names interrupts, bit 1 role requests and bit 3 Hot-Join. Other bits
-/// are dropped.
+/// Kinds of events: two hex digits. Bit 0 names interrupts, bit 1 role requests and bit 3 Hot-Join; other bits are dropped.
 pub(crate) fn kinds(token: &[u8]) -> Option<Kinds>
     ensures form { IsSome result ↔ IsHex BYTE_DIGITS token.now }
     ensures value { IfSome result (λ kinds. kinds.0 ≡ bit_and (digits_value RADIX token.now) KNOWN_KINDS) }

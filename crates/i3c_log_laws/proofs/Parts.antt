@@ -34,14 +34,12 @@ static_behind gone f new answer lost mid done h = elim h [
 pub new_behind : (gone : List Record) (a new : ℕ) (answer : Answer) → GoesOn gone (SetsNew a new answer)
 new_behind gone a new answer lost mid done h = elim h [ inl x ↦ inl (x.0, x.1, ap (behind gone) x.2) | inr x ↦ inr (x.0, x.1, ap (behind gone) x.2) ]
 
--- a read
 pub reads_behind : (gone : List Record) (a : ℕ) (answer : Answer) → GoesOn gone (Reads a answer)
 reads_behind gone a (Answer.Bytes bytes) lost mid done h = (h.0, ap (behind gone) h.1)
 reads_behind gone a (Answer.NoAnswer b) lost mid done h = (h.0, h.1, ap (behind gone) h.2)
 reads_behind gone a Answer.NoEnd lost mid done h = (h.0, h.1, ap (behind gone) h.2)
 reads_behind gone a Answer.Done lost mid done h = h
 
--- a write
 pub writes_behind : (gone : List Record) (a : ℕ) (bytes : List ℕ) (answer : Answer) → GoesOn gone (Writes a bytes answer)
 writes_behind gone a bytes Answer.Done lost mid done h = (h.0, ap (behind gone) h.1)
 writes_behind gone a bytes (Answer.NoAnswer b) lost mid done h = (h.0, h.1, ap (behind gone) h.2)
@@ -59,11 +57,10 @@ gets_behind gone what a Answer.Done lost mid done h = h
 pub hands_behind : (gone : List Record) (a : ℕ) → GoesOn gone (Hands a)
 hands_behind gone a lost mid done h = (h.0, h.1, h.2, h.3, ap (behind gone) h.4)
 
--- one that isn't
+-- an offer that nobody takes
 pub keeps_behind : (gone : List Record) (a : ℕ) → GoesOn gone (KeepsRole a)
 keeps_behind gone a lost mid done h = (h.0, ap (behind gone) h.1)
 
--- a round
 pub rounds_behind : (gone : List Record) (old : State) (cuts : CutList) (answer : RoundReply) (new : State) → Rounds old cuts answer new → Rounds (behind gone old) cuts answer (behind gone new)
 rounds_behind gone old cuts RoundReply.NoAddress new h = (h.0, ap (behind gone) h.1)
 rounds_behind gone old cuts RoundReply.Done new h = (h.0, h.1, ap (behind gone) h.2)

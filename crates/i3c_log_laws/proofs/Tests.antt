@@ -15,7 +15,7 @@ target_behind : (gone : List Record) (st : State) (to : Option ℕ) → target_c
 target_behind gone st None = refl
 target_behind gone st (Some a) = refl
 
--- of SETDASA
+-- the tests of SETDASA
 kept_behind : (gone : List Record) (st : State) (who : Option Identity) (a : ℕ) → is_kept_for (behind gone st) who a ≡ is_kept_for st who a
 kept_behind gone st None a = refl
 kept_behind gone st (Some i) a = refl
@@ -29,7 +29,7 @@ static_checks_behind gone st f new =
 more_behind : (st : State) (cuts : CutList) (more other : Checks) → more ≡ other → frame_checks st cuts ++ more ≡ frame_checks st cuts ++ other
 more_behind st cuts more other same = ap (λ (cs : Checks). frame_checks st cuts ++ cs) same
 
--- of each event
+-- the tests of each event
 pub checks_behind : (gone : List Record) (st : State) (event : Event) → checks (behind gone st) event ≡ checks st event
 checks_behind gone st (Serve policy cuts) = refl
 checks_behind gone st (Enec to kinds policy cuts) = more_behind st cuts (target_checks (behind gone st) to) (target_checks st to) (target_behind gone st to)

@@ -12,7 +12,7 @@ use Rattle.i3c_step.specs.Step.{Step}
 abbrev pub behind : List Record → State → State
 behind gone st = record st { records = gone ++ st.records }
 
--- what became of a request, where so many more records are counted
+-- the result of a request, with `count` more records counted
 abbrev pub counted_from : ℕ → Served → Served
 counted_from count (Served.Recorded place) = Served.Recorded (place + count)
 counted_from count Served.Quiet = Served.Quiet
@@ -21,7 +21,7 @@ counted_from count Served.Torn = Served.Torn
 counted_from count Served.Joining = Served.Joining
 counted_from count (Served.WantsRole a) = Served.WantsRole a
 
--- the same of a reply
+-- the result of an event, with `count` more records counted
 abbrev pub reply_from : ℕ → Reply → Reply
 reply_from count (Reply.Served served) = Reply.Served (counted_from count served)
 reply_from count (Reply.Framed framed) = Reply.Framed (record framed { served = counted_from count framed.served })
@@ -45,7 +45,7 @@ abbrev pub StepsGoOnAlike : Type 0
 StepsGoOnAlike = (gone : List Record) (old new : State) (event : Event) (reply : Reply)
     → Step old event reply new → Step (behind gone old) event (reply_from (length gone) reply) (behind gone new)
 
--- So is a run.
+-- A run goes on alike too.
 abbrev pub RunsGoOnAlike : Type 0
 RunsGoOnAlike = (gone : List Record) (old new : State) (events : List Event) (replies : List Reply)
     → IsRun old events replies new → IsRun (behind gone old) events (replies_from (length gone) replies) (behind gone new)

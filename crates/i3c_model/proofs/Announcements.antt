@@ -14,7 +14,7 @@ use Rattle.i3c_model.specs.Choosing.{Follows, MayStandFor, ServesAsChosen, of_ow
 use Rattle.i3c_model.proofs.Framing.{frame_of}
 use Rattle.i3c_model.proofs.Taking.{follows, never_silent, request_taken, taken_heard, torn_from, torn_in}
 
--- a frame of so many bits, behind which f says what is left
+-- a frame of `bits` bits, which leaves the bus that f says
 module _ (old : State) (bits : ℕ) (f : State → State) (policy : Fixed) (cuts : CutList) (choice : Choice) (served : Served) (word header : ℕ) (mid new : State)
     (word_sent : (lost : LostDevices) (other : Served) (next : State) → Serves old policy lost other next → IsWordBits old other word)
     (header_sent : (lost : LostDevices) (other : Served) (next : State) → Serves old policy lost other next → header ≡ header_bits other)
@@ -42,7 +42,7 @@ module _ (old : State) (bits : ℕ) (f : State → State) (policy : Fixed) (cuts
   done : (c : Choice) → MayStandFor Comes of_own_part c → Some Heard ≡ Some c
   done c l = sym (ap (stands_for of_own_part) l.2.1) ∙ l.3
 
-  -- it is such a frame, and follows the choice
+  -- it is a frame to all, and follows the choice
   pub announced : Announces old bits f policy cuts (Reply.Framed (record { served = served; answer = Answer.Done })) new × Follows (Announces old bits f policy cuts) choice (Reply.Framed (record { served = served; answer = Answer.Done }))
   announced = (
     announces,

@@ -85,7 +85,7 @@ module _ (p : Inside) (st : State) (seen : state_of p ≡ st) (within : IsWithin
       → (own : ℕ) → taking_over own (state_of (record p { devices = devices; active = s; listed = false })) ≡ handed s own st
   handed_there devices s d w l written at e own = ap (taking_over own) (λ t. record (changed_there p st seen within devices s d w without_role l written at e t) { active = s; listed = false })
 
-  -- each entry is kept for who is declared at the static address of its device
+  -- each entry is kept for the identity declared at the static address of its device
   pub taken_over_there : (new : BTreeMap ℕ Entry) (own : ℕ) (kept : List (Option Identity)) → ((a : ℕ) → a < ADDRESSES → get_or kept a None ≡ option_and_then (kept_again st.declared st.given own a) (entry_at st a))
       → new.entries ≡ map (λ e. (e.0, record e.1 { kept = get_or kept e.0 None })) p.given.entries → state_of (record p { given = new }) ≡ taking_over own st
   taken_over_there new own kept is e =

@@ -13,7 +13,7 @@ use Rattle.i3c_base.specs.declared.range.TheConstants.{ADDRESSES}
 use Rattle.i3c_legacy.proofs.LeastLaws.{least_found, least_nowhere}
 use Rattle.i3c_model.specs.Views.{IsKeyedBelow}
 
--- an entry passes a test of what stands at a key, or fails it
+-- an entry passes a test of the value at its key, or fails it
 abbrev pub Passes : {A : Type 0} → (ℕ → Option A → Bool) → ℕ × A → Type 0
 Passes test e = test e.0 (Some e.1) ≡ true
 

@@ -20,7 +20,7 @@ use Rattle.i3c_step.proofs.Uniqueness.{accept≢refuse, first_unique}
 use Rattle.i3c_model.specs.Meaning.{MayAnswer, is_meant}
 use Rattle.i3c_model.specs.Storing.{IsRecordDue}
 
--- a frame that serves, does its own part, and loses whom it loses by its last bit
+-- a frame that serves, does its own part, and loses the devices cut by its last bit
 pub frame_of : (old : State) (policy : Fixed) (cuts : CutList) (served : Served) (rest word last : ℕ) (Own : Lost → State → State → Type 0) (mid done new : State)
     → last ≡ word + rest → IsWordBits old served word → Serves old policy (lost_by cuts last) served mid → Own (lost_by cuts last) mid done → new ≡ emptied (lost_by cuts last) done → Frame old policy cuts served rest Own new
 frame_of old policy cuts served rest word last Own mid done new e sent serves own left = record {
@@ -81,7 +81,7 @@ rekinds_of (Some a) f answer cuts begin st mid done keeps may did not_did = elim
   )
 ]
 
--- whom a command reaches: each device that it means, but for the active controller
+-- the devices that a command reaches: those that it means, except the active controller
 pub is_reached : (st : State) (to : Option ℕ) (active s : ℕ) (d : Device) → active ≡ st.active → (not (s == active) && is_meant to d) ≡ reaches st to s d
 is_reached st None active s d e = go (not (s == active)) ∙ ap (λ k. not (s == k)) e
   where
@@ -118,7 +118,7 @@ recorded_served st a slot front byte mid new place first lowest read kept answer
       left = left;
     }
 
--- nothing is torn where no byte is due, or a driver is left
+-- nothing is torn if the interrupt has no mandatory byte, or a driver is left
 pub not_torn : (st : State) (policy : Fixed) (lost : Lost) (a : ℕ) → IsFirst st (Interrupt a) → (byte_due (entry_at st a) ≡ false) ⊎ ((s : ℕ) × (drives st (Interrupt a) s ≡ true) × (lost s ≡ false)) → (new : State) → ¬ Serves st policy lost Torn new
 not_torn st policy lost a first why new t =
     let e : Interrupt t.at ≡ Interrupt a = first_unique st (Interrupt t.at) (Interrupt a) t.first first in

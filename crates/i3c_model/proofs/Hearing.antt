@@ -1,4 +1,4 @@
--- The least identity of those who hear and are lost, or are left.
+-- The least identity of the hearers that are lost, or that are left.
 use Rattle.std.proofs.Common.{◌≡◌, ◌↔◌, ℕ, zero, suc, ◌<◌, Bool, true, false, cond, List, [], ◌∷◌, map, filter, fold, length, get_or, Option, Some, None, MatchOption, Contains, ◌⊎◌, inl, inr, sym, refl, ap, ◌∙◌, subst, arith, Ordering, Less, Equal, Greater, is_lt, nat_cmp}
 use Rattle.std.specs.Ordering.{min_by_ordering, ordering_reverse, ordering_then}
 use Rattle.std.specs.Cmp.{IsStrictWeakOrder, IsTotalOrder, nat_cmp_is}
@@ -100,7 +100,7 @@ less_below i j e = elim (below_total i j) [
   ]
 ]
 
--- the identities of those who pass a test, of a map's entries
+-- the identities of a map's entries that pass a test
 abbrev pub heard : (ℕ × Device → Bool) → List (ℕ × Device) → List Identity
 heard test es = map (λ (e : ℕ × Device). e.1.identity) (filter test es)
 
@@ -161,16 +161,16 @@ module _ (p : Inside) (st : State) (seen : state_of p ≡ st) (within : IsWithin
       go None h = nobody_hears h
       go (Some i) h = least_hears i h
 
--- who wins: the least of those who are left, and nobody where there is none
+-- the winner: the least of the devices that are left, and none if no device is left
 pub left_wins : (st : State) (lost : Lost) (i : Identity) → IsLeastHearer st lost false i → IsWinner st lost i
 left_wins st lost i h = (h.0, λ j c below. h.1 c.0 c.1 c.2 c.3 (subst (λ k. IsBelow k i) (sym c.4) below))
 
--- the least of those who are lost beats all who are left, if it is below the least of these
+-- the least of the lost hearers beats all that are left, if it is below the least of these
 pub lost_beats : (st : State) (lost : Lost) (i j : Identity) → IsLeastHearer st lost true i → IsLeastHearer st lost false j → identity_cmp i j ≡ Less → IsBeatenByLost st lost
 lost_beats st lost i j l r less =
     (l.0.0, l.0.1, l.0.2, l.0.3, λ k c. subst (λ x. IsBelow x k) (sym l.0.4) (below_all k (λ b. r.1 c.0 c.1 c.2 c.3 (subst (λ x. IsBelow x j) (sym c.4) b))))
   where
-    -- whoever isn't below j is above i
+    -- an identity that isn't below j is above i
     below_all : (k : Identity) → ¬ IsBelow k j → IsBelow i k
     below_all k above = go (is_lt (identity_cmp i k)) refl
       where
@@ -185,7 +185,7 @@ lost_beats st lost i j l r less =
         go true e = less_below i k (less_from (identity_cmp i k) e)
         go false e = absurd (false≢true (sym ((order identity_cmp identity_total).chain i k j e not_below) ∙ ap is_lt less))
 
--- nobody who is left is beaten where nobody is lost, or the least of those who are isn't below the least of the others
+-- no hearer that is left is beaten if none is lost, or if the least of the lost isn't below the least of the others
 not_below : (i j : Identity) → ¬ IsBelow i j → is_lt (identity_cmp i j) ≡ false
 not_below i j above = go (is_lt (identity_cmp i j)) refl
   where

@@ -32,14 +32,14 @@ length_header a = (λ b. refl, length_most a)
 abbrev DidLength : ℕ → Direction → ℕ → State → State → Type 0
 DidLength a way most mid done = done ≡ with_length (Some a) way most mid
 
--- what may be answered is what the frame's own part does, after serving
+-- a possible answer is an effect of the frame's own part, after serving
 pub lengths_of : (to : Option ℕ) (way : Direction) (most : ℕ) (old mid done : State) (cuts : CutList) (begin : ℕ) (answer : Answer) → Stay old mid → MayAnswer old to (lost_by cuts (begin + 18)) answer
     → (answer ≡ Answer.Done → done ≡ with_length to way most mid) → (¬ (answer ≡ Answer.Done) → done ≡ mid) → SetsLength to way most answer (lost_by cuts (begin + length_bits to answer)) mid done
 lengths_of None way most old mid done cuts begin answer stay may did did_not = (may, did may)
 lengths_of (Some a) way most old mid done cuts begin answer stay may did did_not =
     sets_of a (length_bits (Some a)) (length_header a) (AnyThere a) (AllThereLost a) (DidLength a way most) (there_stays a) (there_lost_stays a) old mid done cuts begin answer stay may did did_not
 
--- an answer that is done stands for nothing lost
+-- an answer `Done` means the choice `Heard`
 done_heard : (answer : Answer) (c : Choice) → answer ≡ Answer.Done → of_answer answer ≡ Some c → Heard ≡ c
 done_heard answer c e stands = (let x : Some Heard ≡ Some c = sym (ap of_answer e) ∙ stands in cc)
 
@@ -47,7 +47,7 @@ done_heard answer c e stands = (let x : Some Heard ≡ Some c = sym (ap of_answe
 module _ (way : Direction) (limit : ℕ) (old : State) (policy : Fixed) (cuts : CutList) (choice : Choice) (served : Served) (word header : ℕ) (new : State)
     (word_sent : (lost : Lost) (other : Served) (mid : State) → Serves old policy lost other mid → IsWordBits old other word)
     (header_sent : (lost : Lost) (other : Served) (mid : State) → Serves old policy lost other mid → header ≡ header_bits other) where
-  -- what may come of a command to all
+  -- the possible results of a command to all
   abbrev ToAll : Reply → State → Type 0
   ToAll = Transfers old (length_bits None) (SetsLength None way limit) policy cuts
 

@@ -36,7 +36,7 @@ module _ (active : ℕ) (way : Direction) (a : ℕ) where
         after : ℕ
         after = least_length_from active way a (suc s) (changed_from (suc s) (λ t place. option_map (f t) place) places)
 
--- so many bytes at most, in the slots so far and in the others
+-- at most `least` bytes, in the slots so far and in the others
 abbrev pub IsLeastSoFar : State → Direction → ℕ → ℕ → ℕ → Type 0
 IsLeastSoFar st way a n least = (least ≤ 16) × (min least (least_length_from st.active way a n (drop n st.devices)) ≡ least_length_from st.active way a 0 st.devices)
 
@@ -58,7 +58,7 @@ transfer_kept way a f st new addresses lengths devices legacy active =
     ∙ ap (λ n. if is_some (legacy_target_at st a) then 16 else n)
     (ap (λ k. least_length_from k way a 0 new.devices) active ∙ (ap (least_length_from st.active way a 0) devices ∙ least_kept st.active way a f addresses lengths 0 st.devices))
 
--- a write that isn't refused is no longer than there are registers
+-- a write that isn't refused has at most as many bytes as there are registers
 pub write_short : (st : State) (cuts : CutList) (a : ℕ) (bytes : List ℕ) → first_refusal (frame_checks st cuts ++ write_checks st a bytes) ≡ None → length bytes ≤ 16
 write_short st cuts a bytes none =
     let idle = refusal-none st.in_session SessionOpen ((cuts_active st cuts, ActiveStays) ∷ write_checks st a bytes) none in

@@ -1,4 +1,4 @@
--- Who takes the role that is offered, and how the offer ends.
+-- The device that takes the offered role, and the end of the offer.
 use Rattle.std.proofs.Common.{◌≡◌, ℕ, ◌+◌, ◌≤◌, ◌<◌, true, length, is_none, Option, Some, None, MatchOption, inl, inr, sym, refl, ap, ◌∙◌, subst, arith}
 use Rattle.std.specs.Prelude.{⊤}
 use Rattle.std.proofs.lemmas.Bool.{both_ways, cases_eq, cases_lt, false≢true}
@@ -66,7 +66,7 @@ stands_none st lost (WantsRole a) new h = refl
 stands_none st lost (Recorded place) new h = absurd (accept≢refuse (sym h.accepted ∙ refuses st (Interrupt h.at)))
 stands_none st lost Torn new h = absurd (accept≢refuse (sym h.accepted ∙ refuses st (Interrupt h.at)))
 
--- an offer at this address, where so many bits of the header go on
+-- an offer at this address; `header` is the number of bits of its header
 module _ (old : State) (to : ℕ) (cuts : CutList) (choice : Choice) (header : ℕ) (header_sent : (policy : Fixed) (lost : LostDevices) (served : Served) (new : State) → Serves old policy lost served new → header ≡ header_bits served) where
   abbrev By : ℕ → LostDevices
   By bits = lost_by cuts (header + bits)
@@ -74,7 +74,7 @@ module _ (old : State) (to : ℕ) (cuts : CutList) (choice : Choice) (header : �
   abbrev Comes : Reply → State → Type 0
   Comes = Acts old (HandOver to cuts)
 
-  -- its own part starts on what stood before
+  -- its own part starts on the state after serving
   own_of : (served : Served) (bits : ℕ) (Own : LostDevices → State → State → Type 0) (new : State) → Frame old refuse_all cuts served (header_bits served + bits) Own new → (done : State) × Own (By bits) old done
   own_of served bits Own new f =
       let last : ℕ = f.word + (header_bits served + bits) in
@@ -126,7 +126,7 @@ module _ (old : State) (to : ℕ) (cuts : CutList) (choice : Choice) (header : �
     settled : MatchOption (of_served served) ⊤ (IsTaken (MayStandFor Comes of_request) choice)
     settled = subst (λ o. MatchOption o ⊤ (IsTaken (MayStandFor Comes of_request) choice)) (sym (stands_none old (By 27) served old (serves (By 27)))) tt
 
-    -- it is granted
+    -- the role is granted
     module _ (heir : ℕ) (is_heir : IsHeir old to (By 27) heir) (new : State) (left : new ≡ emptied (By 27) (handed heir to old)) where
       granted_frame : Frame old refuse_all cuts served (header_bits served + 27) (Hands to) new
       granted_frame = frame 27 (Hands to) (handed heir to old) new (heir, is_heir.0, is_heir.1, is_heir.2, refl) left
@@ -143,7 +143,7 @@ module _ (old : State) (to : ℕ) (cuts : CutList) (choice : Choice) (header : �
       pub granted_as : HandsAsChosen old to cuts choice new
       granted_as = (Heard, (served, granted_frame), taken_heard (MayHandBy old to cuts) choice (λ c l. some (lost_needs l.0 l.1)) (λ c l. some (none_later (silent_needs l.0 l.1))))
 
-    -- nobody takes it
+    -- nobody takes the role
     module _ (bits : ℕ) (none : NoHeir old to (By 27)) (may : MayDecline old to (By 18) choice bits) (new : State) (left : new ≡ emptied (By bits) old) where
       by_bits : NoHeir old to (By bits)
       by_bits = elim may [

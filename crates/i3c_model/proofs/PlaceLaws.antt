@@ -73,14 +73,14 @@ module _ {A : Type 0} (n : ℕ) where
   absent m k None e within past = refl
   absent m k (Some x) e within past = let small : k < n = within k (subst IsSome (sym e) refl) in absurd (omega arith)
 
-  -- at each place stands what the map has
+  -- each place holds the value that the map has there
   pub places_at : (m : BTreeMap ℕ A) (k : ℕ) → IsKeyedBelow n m → get_or (places_of n m) k None ≡ get nat_cmp m k
   places_at m k within = elim (cases_lt k n) [
     | inl l ↦ places_below m k l
     | inr past ↦ get_or_past (places_of n m) k None (rw (length-places m) past) ∙ sym (absent m k (get nat_cmp m k) refl within past)
   ]
 
-  -- what stands at each place makes the list
+  -- a list with these values at its places is the list of the map
   pub places_are : (m : BTreeMap ℕ A) (places : List (Option A)) → length places ≡ n → ((k : ℕ) → k < n → get_or places k None ≡ get nat_cmp m k) → places_of n m ≡ places
   unfolding places_of
   places_are m places long at = sym (fill_by_all (λ k. get nat_cmp m k) places n None long at)

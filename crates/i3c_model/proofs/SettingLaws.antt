@@ -40,7 +40,7 @@ kinds_header a = (λ b. refl, kinds_most a)
 
 module _ (a : ℕ) (bits : Answer → ℕ) (ends : EndsWithHeader bits) (Any : State → Type 0) (AllLost : State → Lost → Type 0) (Did : State → State → Type 0)
     (any_stays : (st new : State) → Stay st new → Any st → Any new) (all_stays : (st new : State) (lost : Lost) → Stay st new → AllLost st lost → AllLost new lost) where
-  -- what may be answered is what the frame's own part does, after serving
+  -- a possible answer is an effect of the frame's own part, after serving
   pub sets_of : (old mid done : State) (cuts : CutList) (begin : ℕ) (answer : Answer) → Stay old mid → ((answer ≡ Answer.Done) × Any old) ⊎ ((answer ≡ Answer.NoAnswer a) × AllLost old (lost_by cuts (begin + 18)))
       → (answer ≡ Answer.Done → Did mid done) → (¬ (answer ≡ Answer.Done) → done ≡ mid) → Sets a Any AllLost Did answer (lost_by cuts (begin + bits answer)) mid done
   sets_of old mid done cuts begin answer stay may did did_not = elim may [
@@ -135,7 +135,7 @@ answers_none st a lost choice (Answer.NoAnswer b) h ne = h
 answers_none st a lost choice (Answer.Bytes bytes) h ne = h
 answers_none st a lost choice Answer.NoEnd h ne = h
 
--- who is there for SETDASA at a static address, and what it leaves
+-- the devices that SETDASA reaches at a static address, and its effect
 abbrev pub AnyBare : ℕ → State → Type 0
 AnyBare f st = AnyUnaddressedAt st f
 

@@ -77,7 +77,7 @@ count_either q r t h (x ∷ xs) =
     let rest = count_either q r t h xs in
     omega (arith, first, rest, count_cons q x xs, count_cons r x xs, count_cons t x xs)
 
--- the places that something stands in
+-- the places that aren't empty
 abbrev stands_in : {A : Type 0} → List (Option A) → ℕ → Bool
 stands_in places k = is_some (get_or places k None)
 
@@ -165,7 +165,7 @@ started main board legacy identities m devices t given a active raised records t
       is_board,
     )
 
--- what stands at the places below n of a list, each changed by f, and nothing above
+-- the map has the values at the places below n of a list, each changed by f, and nothing above
 pub record IsFilled {A B : Type 0} (f : Option A → Option B) (xs : List (Option A)) (n : ℕ) (m : BTreeMap ℕ B) : Type 0 where
   pub below : (a : ℕ) → a < n → get nat_cmp m a ≡ f (get_or xs a None)
   pub above : (a : ℕ) → n ≤ a → get nat_cmp m a ≡ None
@@ -195,14 +195,13 @@ module _ {A B : Type 0} (f : Option A → Option B) where
   filled_keys : (xs : List (Option A)) (n : ℕ) (m : BTreeMap ℕ B) → n ≤ 128 → IsFilled f xs n m → IsKeyedBelow ADDRESSES m
   filled_keys xs n m most h k some = elim (cases_lt k n) [ inl l ↦ omega arith | inr l ↦ absurd (false≢true (subst IsSome (h.above k l) some)) ]
 
--- all of them
+-- the targets of all places
 pub targets_all : (lvrs : List (Option Lvr)) (n : ℕ) (m : BTreeMap ℕ LegacyTarget) → 128 ≤ n → n ≤ 128 → IsFilled (option_map legacy_target_of) lvrs n m → AreTargets lvrs m
 targets_all lvrs n m past most h = (
   filled_keys (option_map legacy_target_of) lvrs n m most h,
   places_are ADDRESSES m (legacy_targets_of lvrs) (length-map lvrs (option_map legacy_target_of) ∙ h.long (omega arith)) (λ k l. get_or-map (option_map legacy_target_of) lvrs k None ∙ sym (h.below k (omega arith))),
 )
 
--- the same place
 abbrev pub same_place : Option Identity → Option Identity
 same_place place = place
 

@@ -1,4 +1,4 @@
--- The abstract bus that the maps are seen as: what stands in it, and how it changes.
+-- The abstract bus that the maps are seen as: its contents, and how they change.
 use Rattle.std.proofs.Common.{◌≡◌, IsSome, Bor, ℕ, suc, ◌<◌, true, not, ◌&&◌, ◌==◌, List, [], ◌∷◌, ◌++◌, map, get_or, set, Option, Some, None, Result, Ok, Err, OnErr, Global, Vec, option_map, is_some, ◌↔◌, if◌then◌else◌, sym, refl, ap, ◌∙◌, subst}
 use Rattle.std.specs.List.{filter}
 use Rattle.std.specs.Option.{option_copied}
@@ -61,7 +61,7 @@ within_written p q s d w same given l written at within = within_put p q s w sam
 
 -- p is a machine's inside, which is seen as the abstract bus st
 module _ (p : Inside) (st : State) (seen : state_of p ≡ st) (within : IsWithinPlaces p) where
-  -- what stands in a slot, at an address given, and at a static address
+  -- the values in a slot, at an address given, and at a static address
   pub device_there : (s : ℕ) → device_at st s ≡ get nat_cmp p.devices s
   device_there s = ap (λ x. device_at x s) (sym seen) ∙ places_at SLOTS p.devices s within.slots
 

@@ -65,7 +65,7 @@ test_passes st a p =
 pub pickable_test : (st : State) (a : ℕ) (b : Bool) → (IsTrue b ↔ IsPickable st a) → b ≡ is_pickable st a
 pickable_test st a b may = same_truth b (is_pickable st a) (λ h. test_passes st a (may.0 h)) (λ h. may.1 (pickable_settled st st a (settled_same st) h))
 
--- where no test refuses, of which the first is that no device is there, a device is there
+-- a device is there if no test refuses, since the first test is that no device is there
 pub present_there : (old : State) (s : ℕ) (rest : Checks) → first_refusal ((is_none (device_at old s), NoDevice) ∷ rest) ≡ None → device_at old s ≡ None → ⊥
 present_there old s rest none absent = none-some NoDevice (sym none ∙ cond-true (is_none (device_at old s)) (Some NoDevice) (first_refusal rest) (ap is_none absent))
 

@@ -1,4 +1,4 @@
--- A reply stands for the choice that is taken.
+-- A reply means the choice that is taken.
 use Rattle.std.proofs.Common.{◌≡◌, ℕ, ◌+◌, ◌≤◌, true, Option, Some, None, Result, Ok, Err, IfOk, MatchOption, if◌then◌else◌, ◌⊎◌, inl, inr, sym, refl, ap, ◌∙◌, subst, arith}
 use Rattle.std.specs.Prelude.{⊤, nat_le}
 use Rattle.std.proofs.lemmas.Bool.{false≢true, leb-true}
@@ -63,13 +63,13 @@ taken_silent L Heard own none = let no = none heard≢silent in record { chosen 
 taken_silent L Lost own none = let no = none lost≢silent in record { chosen = λ h. absurd (no.1 h); first = λ h other k. after_both L other no.0 no.1 k }
 taken_silent L Silent own none = record { chosen = λ h. refl; first = λ h. absurd (h own) }
 
--- both questions
+-- the choice in both questions
 pub follows : (Comes : Reply → State → Type 0) (choice : Choice) (reply : Reply) → MatchOption (stands_for of_request reply) ⊤ (IsTaken (MayStandFor Comes of_request) choice)
     → MatchOption (stands_for of_own_part reply) ⊤ (IsTaken (MayStandFor Comes of_own_part) choice) → Follows Comes choice reply
 follows Comes choice reply h k of_request = h
 follows Comes choice reply h k of_own_part = k
 
--- what an event that isn't refused may come to is what it does
+-- a possible result of an event that isn't refused is an effect of it
 may_act : (old : State) (event : Event) (q : Question) (choice : Choice) → first_refusal (checks old event) ≡ None → MayStandFor (Step old event) q choice → MayStandFor (Acts old event) q choice
 may_act old event q choice allowed m = (m.0, m.1, elim step [ inl short ↦ absurd (settled q short.1) | inr acts ↦ acts ], m.3)
   where
@@ -98,7 +98,7 @@ pub follows_step : {E : Type 0} (old : State) (event : Event) (choice : Choice) 
 follows_step old event choice (Ok reply) allowed h = follows_acts old event choice reply allowed h
 follows_step old event choice (Err e) allowed h = h
 
--- who stands for what
+-- the choice that each reply means
 pub torn_from : (served : Served) → of_served served ≡ Some Lost → served ≡ Served.Torn
 torn_from Served.Torn e = refl
 torn_from (Served.Recorded place) e = cc
@@ -126,7 +126,7 @@ request_taken L old policy lost choice (Served.WantsRole a) given own tear never
 request_taken L old policy lost choice (Served.Recorded place) given own tear never = taken_heard L choice (λ e l. let t = tear place refl e l in given e t.0 t.1) (λ e. never)
 request_taken L old policy lost choice Served.Torn given own tear never = taken_lost L choice (own Lost refl) (λ ne. absurd (ne given)) (λ e. absurd (lost≢silent (sym given ∙ e)))
 
--- the mandatory word of a record is a torn one's where a byte is due
+-- the mandatory word of a record is a torn one's if the interrupt has a mandatory byte
 same_word : (old : State) (policy : Fixed) (lost : LostDevices) (place word torn : ℕ) (mid : State) → IsWordBits old (Served.Recorded place) word → IsWordBits old Served.Torn torn → Serves old policy lost Served.Torn mid → word ≡ torn
 same_word old policy lost place word torn mid h k t =
     let e : Interrupt h.0 ≡ Interrupt t.at = first_unique old (Interrupt h.0) (Interrupt t.at) h.1 t.first in
@@ -305,7 +305,7 @@ module _ (old : State) (to : Option ℕ) (f : KindSet → KindSet) (policy : Fix
       (λ l. never_silent l.2.0.served (sym (ap (stands_for of_request) l.2.1) ∙ l.3)))
       (own_taken answer refl to refl)
 
--- rounds
+-- the choices of a round
 heard_round : (old new : State) (cuts : CutList) (answer : RoundReply) → Rounds old cuts answer new → of_round answer ≡ Some Heard → AnyHears old × (¬ AllHearersLost old (lost_by cuts 73))
 heard_round old new cuts (RoundReply.Assigned a i) h e =
     let c = h.1.0 in ((c.0, c.1, c.2), λ all. false≢true (sym c.3 ∙ all c.0 c.1 c.2))

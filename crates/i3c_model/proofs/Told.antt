@@ -33,7 +33,7 @@ one_told st what a lost k s u v d e =
     let same : d.0.0 ≡ e.0.0 = same_Some d.0.0 e.0.0 (sym d.0.1.0 ∙ e.0.1.0) in
     d.0.2 ∙ (ap (λ (x : Device). slice_index (told_bytes what x) k) same ∙ sym e.0.2)
 
--- who tells a byte is in a slot
+-- a device that tells a byte is in a slot
 pub told_low : (st : State) (what : Datum) (a : ℕ) (lost : Lost) (k s v : ℕ) → DrivesToldLeft st what a lost k s v → s < length st.devices
 told_low st what a lost k s v d = device_low st s d.0.0 d.0.1.0
 
@@ -59,7 +59,7 @@ told_more st what a lost n bytes byte low h next = (
 pub told_first : (st : State) (what : Datum) (a : ℕ) (lost : Lost) (n : ℕ) (bytes : List ℕ) → AreTold st what a lost n bytes → (k : ℕ) → k < n → IsAnd (slice_index (take n bytes) k) (DrivesToldLeft st what a lost k)
 told_first st what a lost n bytes h k l = subst (λ v. IsAnd v (DrivesToldLeft st what a lost k)) (sym (get_or-take n bytes k 0 l)) (h.1 k l)
 
--- so many bytes, each the AND of those that are left, are what is told
+-- bytes that are each the AND of the devices left are what is told
 pub told_left : (st : State) (what : Datum) (a : ℕ) (lost : Lost) (bytes : List ℕ) → SomeLeftAt st a lost → length bytes ≡ told_length what (entry_at st a)
     → ((k : ℕ) → k < length bytes → IsAnd (slice_index bytes k) (DrivesToldLeft st what a lost k)) → IsToldAt st what a lost bytes
 told_left st what a lost bytes some long together = (
@@ -122,7 +122,7 @@ tells_chosen old mid what a by_header lost choice header answer may given h = el
       subst (TellsAsChosen old a by_header choice) (sym is) (answers_none old a by_header choice header given (λ e. done≢no_answer a (sym e ∙ x.0)))
 ]
 
--- somebody who is left is left after serving
+-- a device that is left is left after serving
 some_in : (st new : State) (a : ℕ) (lost : Lost) → Stay st new → SomeLeftAt st a lost → SomeLeftAt new a lost
 some_in st new a lost h some = let t = h.to a some.0 some.1 some.2 in (some.0, t.0, t.1, some.3)
 
@@ -169,7 +169,7 @@ module _ (what : Datum) (entry : Option Entry) where
   get_absent old mid done a Answer.NoEnd lost h none own = absurd (none (any_in mid old a (Stay-back old mid h) own.1))
   get_absent old mid done a Answer.Done lost h none own = absurd own
 
-  -- who is lost by the header's end is lost by the last byte's
+  -- a device that is lost by the header's end is lost by the last byte's
   get_later : (st : State) (a : ℕ) (cuts : CutList) (begin : ℕ) → AllLostAt st a (lost_by cuts (begin + 18)) → AllLostAt st a (lost_by cuts (begin + (18 + 9 * told_length what entry)))
   get_later st a cuts begin = all_later st a cuts (begin + 18) (begin + most) (omega arith)
 
@@ -185,7 +185,7 @@ module _ (old : State) (what : Datum) (a : ℕ) (policy : Fixed) (cuts : CutList
   abbrev bits : Answer → ℕ
   bits = get_bits what (entry_at old a)
 
-  -- what may come of it
+  -- the possible results of it
   abbrev GetComes : Reply → State → Type 0
   GetComes = Transfers old (get_bits what (entry_at old a)) (Gets what a) policy cuts
 

@@ -81,7 +81,7 @@ length_without true (Role a) d = refl
 length_without true (Interrupt a) d = refl
 length_without false r d = refl
 
--- the targets of which each driver lost a wish or its front
+-- the targets after each driver lost a wish or its front
 Stay-driver : (r : Request) (st new : State) → new.devices ≡ (each_driver r (without r) st).devices → new.legacy ≡ st.legacy → new.active ≡ st.active → Stay st new
 Stay-driver r st new devices legacy active = record {
   legacy = λ a. ap (λ places. get_or places a None) legacy;
@@ -287,7 +287,7 @@ writes_of st mid done a bytes cuts begin (Answer.NoAnswer b) h may did not_did =
 writes_of st mid done a bytes cuts begin (Answer.Bytes read) h may did not_did = absurd (unwritten st a (lost_by cuts (begin + 9)) (Answer.Bytes read) (bytes≢done read) (bytes≢no_answer read) may)
 writes_of st mid done a bytes cuts begin Answer.NoEnd h may did not_did = absurd (unwritten st a (lost_by cuts (begin + 9)) Answer.NoEnd no_end≢done no_end≢no_answer may)
 
--- an answer that stands for a choice, and its own part, which begins behind this bit
+-- an answer that means a choice, and its own part, which begins behind this bit
 pub record Other (old : State) (bits : Answer → ℕ) (Own : Answer → Lost → State → State → Type 0) (cuts : CutList) (begin : ℕ) (c : Choice) : Type 0 where
   pub answer : Answer
   pub stands : of_answer answer ≡ Some c
@@ -324,7 +324,7 @@ module _ (old : State) (bits : Answer → ℕ) (Own : Answer → Lost → State 
         own = subst (λ n. Own l.2.0.answer (lost_by cuts n) ends.mid ends.done) same ends.own;
       }
 
-  -- this answer stands for its choice
+  -- this answer means its choice
   pub itself : (c : Choice) → of_answer answer ≡ Some c → MayStandFor (Transfers old bits Own policy cuts) of_own_part c
   itself c e = (Reply.Framed framed, new, (framed, refl, frame), e)
 

@@ -1,4 +1,4 @@
--- What a choice decides where drop-offs leave open what comes of an event.
+-- The choice decides the result of an event where drop-offs leave it open.
 use Rattle.std.specs.Prelude.{◌≡◌, ℕ, ◌+◌, ◌≤◌, ◌⊎◌, Option, Some, None, MatchOption, option_and_then, ⊤}
 use Rattle.i3c_base.specs.declared.answers.Answer.{Answer}
 use Rattle.i3c_base.specs.declared.answers.RoundReply.{RoundReply}
@@ -16,12 +16,12 @@ use Rattle.i3c_step.specs.Serving.{served_of}
 use Rattle.i3c_model.specs.declared.plain.Choice.{Choice}
 use Rattle.i3c_model.specs.declared.plain.Choice.TheVariants.{Heard, Lost, Silent}
 
--- what a frame may leave open: what became of its first request, and what its own part came to
+-- what a frame may leave open: the result of its first request, and the result of its own part
 pub data Question : Type 0 where
   of_request : Question
   of_own_part : Question
 
--- the choice that a reply stands for in either
+-- the choice that a reply means in either question
 abbrev pub of_served : Served → Option Choice
 of_served (Served.Recorded place) = Some Heard
 of_served Served.Torn = Some Lost
@@ -55,16 +55,16 @@ order Heard = 0
 order Lost = 1
 order Silent = 2
 
--- of the lawful choices the given one is taken, or else the first
+-- the given choice is taken if it is lawful, and otherwise the first lawful one
 pub record IsTaken (IsLawful : Choice → Type 0) (choice taken : Choice) : Type 0 where
   pub chosen : IsLawful choice → taken ≡ choice
   pub first : ¬ IsLawful choice → (other : Choice) → IsLawful other → order taken ≤ order other
 
--- what may come of an event may answer the question by this choice
+-- a possible reply to the event means this choice in the question
 abbrev pub MayStandFor : (Reply → State → Type 0) → Question → Choice → Type 0
 MayStandFor Comes q choice = (reply : Reply) × (new : State) × Comes reply new × (stands_for q reply ≡ Some choice)
 
--- in each question, the reply stands for what is taken
+-- in each question, the reply means the choice that is taken
 abbrev pub Follows : (Reply → State → Type 0) → Choice → Reply → Type 0
 Follows Comes choice reply = (q : Question) → MatchOption (stands_for q reply) ⊤ (IsTaken (MayStandFor Comes q) choice)
 
@@ -74,18 +74,19 @@ ServesAsChosen st policy lost choice Served.Torn = choice ≡ Lost
 ServesAsChosen st policy lost choice (Served.Recorded place) = choice ≡ Lost → (new : State) → ¬ Serves st policy lost Served.Torn new
 ServesAsChosen st policy lost choice _ = ⊤
 
--- a header to one address isn't acknowledged where nobody is there, or where that is chosen and may be
+-- a header to one address isn't acknowledged if nobody is there, or if that is chosen and possible
 abbrev pub AnswersAsChosen : State → Option ℕ → LostDevices → Choice → Answer → Type 0
 AnswersAsChosen st None lost choice answer = ⊤
 AnswersAsChosen st (Some a) lost choice Answer.Done = choice ≡ Silent → ¬ AllLostAt st a lost
 AnswersAsChosen st (Some a) lost choice _ = ¬ (choice ≡ Silent) → ¬ AnyAt st a
 
--- nor is the header of SETDASA
+-- the header of SETDASA isn't acknowledged if nobody is there, or if that is chosen and possible
 abbrev pub TakesAsChosen : State → ℕ → LostDevices → Choice → Answer → Type 0
 TakesAsChosen st f lost choice Answer.Done = choice ≡ Silent → ¬ AllUnaddressedLostAt st f lost
 TakesAsChosen st f lost choice _ = ¬ (choice ≡ Silent) → ¬ AnyUnaddressedAt st f
 
--- nor is the header of a write, where no legacy target is there
+-- the header of a write, without a legacy target there, isn't acknowledged if nobody is there, or if that is chosen and
+-- possible
 abbrev pub WritesAsChosen : State → ℕ → LostDevices → Choice → Answer → Type 0
 WritesAsChosen st a lost choice answer = ((target : LegacyTarget) × (legacy_target_at st a ≡ Some target)) ⊎ AnswersAsChosen st (Some a) lost choice answer
 

@@ -1,4 +1,4 @@
--- Whom a command means, what it may be answered, who contends in a round, and who takes the role.
+-- The devices that a command means, its answers, the contenders of a round, and the device that takes the role.
 use Rattle.std.specs.Prelude.{◌≡◌, ℕ, ◌+◌, ◌*◌, Bool, true, false, ◌⊎◌, List, [], ◌∷◌, Option, Some, None, option_map, if◌then◌else◌}
 use Rattle.i3c_base.specs.declared.answers.Answer.{Answer}
 use Rattle.i3c_base.specs.declared.datum.Datum.{Datum}
@@ -19,12 +19,12 @@ abbrev pub is_meant : Option ℕ → Device → Bool
 is_meant None d = true
 is_meant (Some a) d = has_address a d
 
--- the answers that ENEC and DISEC may have, where `lost` are those who are lost by the end of a header to one address
+-- the answers that ENEC and DISEC may have; `lost` are the devices lost by the end of a header to one address
 abbrev pub MayAnswer : State → Option ℕ → Lost → Answer → Type 0
 MayAnswer st None lost answer = answer ≡ Answer.Done
 MayAnswer st (Some a) lost answer = ((answer ≡ Answer.Done) × AnyAt st a) ⊎ ((answer ≡ Answer.NoAnswer a) × AllLostAt st a lost)
 
--- the answers that SETDASA may have, where `lost` are those who are lost by the end of its header to the static address
+-- the answers that SETDASA may have; `lost` are the devices lost by the end of its header to the static address
 abbrev pub MayTake : State → ℕ → Lost → Answer → Type 0
 MayTake st f lost answer = ((answer ≡ Answer.Done) × AnyUnaddressedAt st f) ⊎ ((answer ≡ Answer.NoAnswer f) × AllUnaddressedLostAt st f lost)
 
@@ -49,7 +49,7 @@ MayWrite st a lost answer =
 abbrev pub read_end : State → ℕ → ℕ
 read_end st a = 9 + 9 * transfer_length st Direction.Read a
 
--- and a read, whose own part begins behind a bit
+-- the answers that a read may have, whose own part begins behind a bit
 abbrev pub MayRead : State → ℕ → CutList → ℕ → Answer → Type 0
 MayRead st a cuts begin (Answer.Bytes bytes) = IsReadOf st a (lost_by cuts (begin + read_end st a)) bytes
 MayRead st a cuts begin Answer.NoEnd = NobodyLeftAt st a (lost_by cuts (begin + read_end st a)) × AnyAt st a
@@ -67,7 +67,7 @@ pub record IsGivenBy (st : State) (a : ℕ) (lost : Lost) (s : ℕ) (registers :
   pub left : lost s ≡ false
   pub value : registers ≡ device.registers
 
--- no such device is in slot s
+-- slot s has no device that is left and takes the role
 abbrev pub NoneGives : State → ℕ → Lost → ℕ → Type 0
 NoneGives st a lost s = (d : Device) → IsTargetAt st a s d → lost s ≡ false → ⊥
 
@@ -89,7 +89,8 @@ Tells st what a lost Answer.Done Answer.NoEnd = AllLostAt st a lost
 Tells st what a lost Answer.Done _ = ⊥
 Tells st what a lost header answer = answer ≡ header
 
--- the maximum length of the device in slot s, if it isn't the active controller and has the address; else the greatest one
+-- the maximum length of the device in slot s, if it isn't the active controller and has the address; otherwise the greatest
+-- one
 abbrev pub length_in_slot : State → Direction → ℕ → ℕ → ℕ
 length_in_slot st way a s = least_length_from st.active way a s (device_at st s ∷ [])
 
@@ -105,7 +106,7 @@ NoHeir st a lost = AreWillingLost (population st) a lost
 abbrev pub IsHeir : State → ℕ → Lost → ℕ → Type 0
 IsHeir st a lost s = IsLowestWilling (population st) a lost s
 
--- the bits of a handover that nobody takes, where `lost` are those who are lost by the end of its header to the address
+-- the bits of a handover that nobody takes; `lost` are the devices lost by the end of its header to the address
 abbrev pub MayDecline : State → ℕ → Lost → Choice → ℕ → Type 0
 MayDecline st a lost choice bits =
     ((bits ≡ 18) × NoHeir st a lost × (¬ (choice ≡ Silent) → (s : ℕ) → ¬ IsWillingAt st a s))

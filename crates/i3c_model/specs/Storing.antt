@@ -13,7 +13,7 @@ use Rattle.i3c_step.specs.declared.events.Event.{Event}
 use Rattle.i3c_step.specs.declared.events.Event.TheVariants.{Attach, DropOff, Raise, AskJoin, AskRole, Serve, Enec, Disec, Reset, SendList, ReadFrom, WriteTo, SetStatic, SetNew, Get, SetLength, OpenDaa, Round, EndDaa, HandOver}
 use Rattle.i3c_step.specs.Step.{checks, first_refusal}
 
--- an interrupt comes first and is accepted, so a record may be due
+-- an interrupt comes first and is accepted, so the event may add a record
 abbrev pub IsRecordDue : State → Fixed → Type 0
 IsRecordDue st policy = (a : ℕ) × IsFirst st (Interrupt a) × (verdict st policy (Interrupt a) ≡ Accept)
 
@@ -21,7 +21,7 @@ IsRecordDue st policy = (a : ℕ) × IsFirst st (Interrupt a) × (verdict st pol
 abbrev pub MayAssign : State → CutList → Type 0
 MayAssign st cuts = AnyPickable st × ((i : Identity) × IsWinner st (lost_by cuts 73) i)
 
--- what the event stores: a device, an interrupt, a record, or an entry for who gets an address
+-- the values that the event stores: a device, an interrupt, a record, or an entry for the device that gets an address
 abbrev pub Stores : State → Event → Type 0
 Stores st (Attach s setup) = ⊤
 Stores st (Raise s byte) = ⊤

@@ -26,7 +26,7 @@ pub record IsWithinPlaces (p : Inside) : Type 0 where
   pub declarations : IsKeyedBelow ADDRESSES p.declared
   pub addresses : IsKeyedBelow ADDRESSES p.given
 
--- the abstract bus
+-- the abstract bus of the machine's maps
 abbrev pub state_of : Inside → State
 state_of p = record {
   devices = places_of SLOTS p.devices;

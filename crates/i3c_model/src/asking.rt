@@ -44,7 +44,7 @@ impl Plain {
         first
     }
 
-    // Whether somebody who drives this request isn't lost by this bit.
+    // Whether a driver of this request isn't lost by this bit.
     pub(crate) fn is_driver_left(&self, request: &Request, cuts: &Cuts, last: u16) -> bool
         ensures { IsTrue result ↔ ((s : ℕ) × (drives self.now request.now s ≡ true) × (lost_by cuts.now last s ≡ false)) }
     {

@@ -34,7 +34,7 @@ impl Plain {
         served
     }
 
-    // One round of the session: the least identity of those who hear gets its address.
+    // One round of the session: the least identity of the hearers gets its address.
     pub(crate) fn round(&mut self, cuts: &Cuts, choice: Choice) -> Result<RoundReply, OutOfMemory>
         ensures rounds { IfOk result (λ answer. Rounds self.old cuts.now answer self.new) }
         ensures unchanged { OnErr result (self.new ≡ self.old) }
@@ -102,7 +102,7 @@ impl Plain {
         is_usable(address)
     }
 
-    // Whether nobody acknowledges the header: nobody hears, or that is chosen and whoever hears is lost by then.
+    // Whether nobody acknowledges the header: there are no hearers, or that is chosen and all hearers are lost by then.
     fn is_over(&self, cuts: &Cuts, choice: Choice) -> bool
         ensures lawful { MatchBool result (AllHearersLost self.now (lost_by cuts.now 0)) (AnyHears self.now) }
         ensures chosen { MatchBool result (¬ (choice ≡ ChoiceValue.Silent) → ¬ AnyHears self.now) (choice ≡ ChoiceValue.Silent → ¬ AllHearersLost self.now (lost_by cuts.now 0)) }
@@ -126,8 +126,8 @@ impl Plain {
             .min()
     }
 
-    // Who gets an address, if somebody does: the least identity of those who aren't lost, unless it is chosen that one who
-    // is lost has beaten it.
+    // The winner of a round, if it has one: the least identity of the hearers that aren't lost, unless the choice is that a
+    // lost one has beaten it.
     fn winner(&self, cuts: &Cuts, choice: Choice) -> Option<Identity>
         ensures lawful { MatchOption result (AllHearersLost self.now (lost_by cuts.now 73) ⊎ IsBeatenByLost self.now (lost_by cuts.now 73)) (IsWinner self.now (lost_by cuts.now 73)) }
         ensures chosen { MatchOption result (¬ (choice ≡ ChoiceValue.Lost) → AllHearersLost self.now (lost_by cuts.now 73)) (λ _. choice ≡ ChoiceValue.Lost → ¬ (AllHearersLost self.now (lost_by cuts.now 73) ⊎ IsBeatenByLost self.now (lost_by cuts.now 73))) }

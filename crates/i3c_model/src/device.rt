@@ -142,7 +142,7 @@ impl PlainDevice {
         self.hearing
     }
 
-    // The request that it drives: a join without an address, else the role request before the interrupt, its choice
+    // The request that it drives: a join without an address, otherwise the role request before the interrupt, and its choice
     // only while that kind is enabled.
     pub(crate) fn wants(&self) -> Option<Request>
         ensures asked { MatchOption result ((r : RequestValue) → asks self.now r ≡ false) (λ r. asks self.now r ≡ true) }
@@ -331,14 +331,14 @@ impl PlainDevice {
     }
 }
 
-// What the table keeps of an address that was given.
+// The stored values of an address that was given.
 #[derive(Drop)]
 pub(crate) struct PlainEntry {
     pub(crate) bcr: Bcr,
     pub(crate) dcr: Dcr,
     // the identity that the address is kept for
     pub(crate) kept: Option<Identity>,
-    // the static address of who got it
+    // the static address of its holder
     pub(crate) fixed: Option<Addr7>,
 }
 
@@ -409,7 +409,7 @@ impl PlainEntry {
         }
     }
 
-    // Whether who got the address has this static address.
+    // Whether the holder of the address has this static address.
     pub(crate) fn has_fixed(&self, fixed: Addr7) -> bool
         ensures { result ≡ has_fixed fixed (Some self.now) }
     {
@@ -442,7 +442,7 @@ impl PlainEntry {
         self.kept = None;
     }
 
-    // Whether who got the address can be a controller.
+    // Whether the holder of the address can be a controller.
     pub(crate) fn is_capable(&self) -> bool
         ensures { result ≡ is_capable self.now.bcr }
     {

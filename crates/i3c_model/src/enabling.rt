@@ -23,7 +23,7 @@ impl Plain {
         self.is_any_left_at(address, &uncut, 0)
     }
 
-    // Whether some such device isn't lost by this bit.
+    // Whether a device at the address isn't lost by this bit.
     pub(crate) fn is_any_left_at(&self, address: Addr7, cuts: &Cuts, last: u16) -> bool
         ensures { IsTrue result ↔ SomeLeftAt self.now address (lost_by cuts.now last) }
     {
@@ -33,8 +33,8 @@ impl Plain {
         })
     }
 
-    // The answer of a command to these, whose header to one address ends with this bit: nobody acknowledges that header
-    // where nobody is there, or where that is chosen and nobody is left.
+    // The answer to a command for these devices; a header to one address ends with this bit. That header isn't acknowledged
+    // if nobody is there, or if that is chosen and nobody is left.
     pub(crate) fn answer_of(
         &self,
         to: &Option<Addr7>,
@@ -56,7 +56,7 @@ impl Plain {
         Answer::Done
     }
 
-    // The enabled kinds of whom a command reaches are changed.
+    // The enabled kinds of each device that a command reaches are changed.
     fn change_kinds(&mut self, to: &Option<Addr7>, change: Change, kinds: Kinds)
         ensures { self.new ≡ rekinded to.now (changed_kinds change kinds) self.old }
     {

@@ -18,8 +18,8 @@ impl Plain {
     ghost use Rattle.i3c_model.specs.Meaning.{DrivesToldLeft, IsToldBy, NoneGives, Tells};
     ghost use Rattle.i3c_model.specs.Storing.{IsRecordDue};
 
-    // Asks the devices at an address for a datum. What they tell is read after the first request was served, which may be
-    // the interrupt that a status tells of.
+    // Asks the devices at an address for a datum. They tell it after the first request was served, which may be the interrupt
+    // that a status counts.
     pub(crate) fn get_datum(
         &mut self,
         what: Datum,
@@ -66,7 +66,7 @@ impl Plain {
         }
     }
 
-    // What is answered of a datum whose header was answered so, and whose last bit is this one.
+    // The answer to a read of a datum, after this answer to its header; its last bit is this one.
     fn told_answer(&self, what: Datum, at: Addr7, header: &Answer, cuts: &Cuts, last: u16) -> Answer
         ensures { Tells self.now what at (lost_by cuts.now last) header.now result }
     {
@@ -79,7 +79,7 @@ impl Plain {
         Answer::NoEnd
     }
 
-    // The AND of what the devices at an address tell of a datum that aren't lost by this bit.
+    // The AND of a datum's bytes as the devices at an address tell them that aren't lost by this bit.
     fn told_together(&self, what: Datum, at: Addr7, cuts: &Cuts, last: u16) -> Bytes
         ensures all { length result ≡ told_length what (entry_at self.now at) }
         ensures together { (k : ℕ) → k < length result → IsAnd (slice_index result k) (DrivesToldLeft self.now what at (lost_by cuts.now last) k) }

@@ -41,7 +41,7 @@ impl Plain {
         }
     }
 
-    // The lowest such slot that isn't lost by this bit.
+    // The lowest slot of a willing device at the address that isn't lost by this bit.
     fn heir(&self, at: Addr7, cuts: &Cuts, last: u16) -> Option<Slot>
         ensures { MatchOption result (NoHeir self.now at (lost_by cuts.now last)) (IsHeir self.now at (lost_by cuts.now last)) }
     {
@@ -54,8 +54,8 @@ impl Plain {
         None
     }
 
-    // The bits of an offer that nobody takes: it ends with its header, at this bit, where nobody is willing, or where
-    // that is chosen and whoever is willing is lost by then.
+    // The bits of an offer that nobody takes. It ends with its header, at this bit, if no device is willing, or if that is
+    // chosen and all willing ones are lost by then.
     fn declined_bits(&self, to: Addr7, cuts: &Cuts, header_end: u16, choice: Choice) -> u16
         ensures { MayDecline self.now to (lost_by cuts.now header_end) choice result }
     {

@@ -73,7 +73,7 @@ impl Plain {
         }
     }
 
-    // The least address in the table, but for the controller's own, of a device with this static address.
+    // The least address in the table, except the controller's own, of a device with this static address.
     fn home(&self, own: Addr7, fixed: Addr7) -> Option<Addr7>
         ensures { result ≡ home_in self.now.given own fixed }
     {

@@ -41,7 +41,7 @@ impl Plain {
         Ok(Reply::Framed(Framed { served, answer }))
     }
 
-    // Whom a command reaches has this maximum length.
+    // Each device that a command reaches has this maximum length.
     fn limit(&mut self, to: &Option<Addr7>, way: Direction, most: Length)
         ensures { self.new ≡ with_length to.now way most self.old }
     {
@@ -55,8 +55,8 @@ impl Plain {
         });
     }
 
-    // How many bytes a write to an address may have, or a read of it gives: as many as a legacy target there has
-    // registers, else the least maximum length of the devices there.
+    // The number of bytes that a write to an address may have, or that a read of it gives: the registers of a legacy target
+    // there, or otherwise the least maximum length of the devices there.
     pub(crate) fn transfer_length(&self, way: Direction, at: Addr7) -> u8
         ensures same { result ≡ transfer_length self.now way at }
         ensures few { result ≤ 16 }
@@ -82,8 +82,8 @@ impl Plain {
         least
     }
 
-    // The maximum length of a slot's device, if it isn't the active controller and has this address; else the greatest
-    // one that there is.
+    // The maximum length of a slot's device, if it isn't the active controller and has this address; otherwise the greatest
+    // one.
     fn length_in_slot(&self, slot: Slot, way: Direction, at: Addr7) -> u8
         ensures { result ≡ length_in_slot self.now way at slot }
     {

@@ -6,15 +6,15 @@ use std::alloc::Global;
 use std::collections::BTreeMap;
 use std::marker::Model;
 
-/// What the bus does where drop-offs leave open what comes of an event. Where the choice can't come about, the first of the
-/// three that can is taken in its place; where nothing is open, it has no effect.
+/// Decides the result of an event where drop-offs leave it open. If the choice isn't possible, the first of the three that is
+/// possible is taken in its place; if nothing is open, the choice has no effect.
 #[derive(Clone, Copy, Debug, PartialEq, Eq)]
 pub enum Choice {
-    /// What a lost device sent last was heard: an interrupt is recorded, an identity gets its address, a command or a
+    /// The last signal of a lost device was heard: an interrupt is recorded, an identity gets its address, a command or a
     /// write to one address is done.
     Heard,
-    /// It was lost on the way: a mandatory byte is torn, an address that is assigned reaches nobody, the byte that takes
-    /// the role breaks off, the data that is read doesn't end.
+    /// It was lost on the way: a mandatory byte is torn, an assigned address reaches nobody, the byte that takes the role
+    /// breaks off, the data of a read doesn't end.
     Lost,
     /// It sent nothing: the header of a round, of a command or a transfer to one address, or of the offer of the role
     /// isn't acknowledged.
@@ -212,7 +212,7 @@ impl Plain {
         self.devices.get(&slot)
     }
 
-    // What the table keeps of an address, if it was given.
+    // The stored values of an address, if it was given.
     pub(crate) fn entry(&self, address: Addr7) -> Option<&PlainEntry>
         ensures { option_map (λ e. e.now) result ≡ entry_at self.now address }
     {

@@ -45,7 +45,7 @@ impl Plain {
         }
     }
 
-    // The AND of the bytes at the fronts of those who drive an interrupt at this address.
+    // The AND of the bytes at the fronts of the devices that drive an interrupt at this address.
     fn bytes_together(&self, at: Addr7) -> u8
         ensures { IsAnd result (DrivesByte self.now (RequestValue.Interrupt at)) }
     {

@@ -207,7 +207,7 @@ impl Plain {
     }
 
     // Why SETDASA isn't sent: nobody is declared at the static address, or the new one may not be picked and isn't kept for
-    // who is declared.
+    // the declared identity.
     fn static_refusal(&self, fixed: Addr7, new: Addr7, cuts: &Cuts) -> Option<Refusal>
         ensures { result ≡ first_refusal (frame_checks self.now cuts.now ++ static_checks self.now fixed new) }
     {

@@ -172,7 +172,7 @@ impl Plain {
         }
     }
 
-    // What becomes of the first request of a frame that refuses each.
+    // The result of the first request of a frame that refuses each.
     pub(crate) fn refuse_first(&self) -> Served
         ensures serves { (lost : Lost) → Serves self.now refuse_all lost result self.now }
         ensures sent { IsWordBits self.now result 0 }
@@ -190,7 +190,7 @@ impl Plain {
         self.devices.retain(|slot, _| !cuts.is_lost(*slot, last));
     }
 
-    // Serves the first request, and nothing else.
+    // Serves the first request, and does no more.
     pub(crate) fn serve(
         &mut self,
         policy: &Fixed,

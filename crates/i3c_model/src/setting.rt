@@ -80,8 +80,8 @@ impl Plain {
         Ok(Reply::Framed(Framed { served, answer }))
     }
 
-    // The answer of SETDASA, whose header to the static address ends with this bit: nobody acknowledges that header where
-    // nobody is there, or where that is chosen and nobody is left.
+    // The answer to SETDASA, whose header to the static address ends with this bit. That header isn't acknowledged if nobody
+    // is there, or if that is chosen and nobody is left.
     fn static_answer(&self, fixed: Addr7, cuts: &Cuts, header_end: u16, choice: Choice) -> Answer
         ensures lawful { MayTake self.now fixed (lost_by cuts.now header_end) result }
         ensures chosen { TakesAsChosen self.now fixed (lost_by cuts.now header_end) choice result }
@@ -102,7 +102,7 @@ impl Plain {
         self.is_any_unaddressed_left(fixed, &uncut, 0)
     }
 
-    // Whether some such device isn't lost by this bit.
+    // Whether a device at the static address without a dynamic one isn't lost by this bit.
     fn is_any_unaddressed_left(&self, fixed: Addr7, cuts: &Cuts, last: u16) -> bool
         ensures { IsTrue result ↔ SomeUnaddressedLeftAt self.now fixed (lost_by cuts.now last) }
     {
@@ -140,7 +140,7 @@ impl Plain {
         });
     }
 
-    // The table is another one, of which no list tells.
+    // The table is replaced, and the list of DEFTGTS is out of date.
     fn replace_table(&mut self, table: Entries)
         requires { IsKeyedBelow ADDRESSES table }
         ensures { self.new ≡ record self.old { given = places_of ADDRESSES table; listed = false } }

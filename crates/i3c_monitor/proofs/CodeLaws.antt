@@ -23,7 +23,6 @@ length_other byte h =
     let (_, _, _, _, _, n09, n0a, _, _, _, _, n89, n8a, _, _, _, _, _, _, _, _, _) = h in
     rw (ne_eqb byte 0x09 n09) (rw (ne_eqb byte 0x0A n0a) (rw (ne_eqb byte 0x89 n89) (rw (ne_eqb byte 0x8A n8a) (asking_other byte h))))
 
--- and among all
 other_at : (byte : ℕ) → IsUnnamed byte → code_at byte ≡ Code.Other byte
 other_at byte h =
     let (n00, n01, n06, n07, n08, _, _, n80, n81, n87, n88, _, _, _, _, _, _, _, _, n91, _, _) = h in

@@ -1,4 +1,4 @@
--- How many words stand before any other symbol.
+-- The number of words before any other symbol.
 use Rattle.std.proofs.Common.{◌≡◌, ◌≤◌, ◌∙◌, ℕ, ◌==◌, true, List, [], ◌∷◌, length, Some, Ok, Err, ap, refl, arith}
 use Rattle.std.proofs.lemmas.Bool.{eq-eqb}
 use Rattle.std.proofs.lemmas.List.{length-map}

@@ -37,7 +37,7 @@ after_behind legacies mode frames before known faults count rest front back is f
     ∙ ap (λ rest. linted legacies mode frames (before + count) known faults 0 rest) (sym back_is)
     ∙ ap (λ n. linted legacies mode frames (before + n) known faults 0 back) (sym front_is)
 
--- the same told of what is to come
+-- the same told of the rest
 pub told_too : {E : Type 0} → (r : Result (Option Report) E) (a b rest : List LintLine) → IfOk r (λ report. b ≡ reported report ++ rest) → a ≡ b
     → IfOk r (λ report. a ≡ reported report ++ rest)
 told_too (Ok report) a b rest tells same = same ∙ tells
@@ -71,7 +71,7 @@ header_first legacies mode frames before known faults (Symbol.Identity identity)
 header_first legacies mode frames before known faults (Symbol.AddressByte byte ack) rest header is = unheaded header is
 header_first legacies mode frames before known faults (Symbol.LegacyWord byte ack) rest header is = unheaded header is
 
--- what is told at a header that was read: where the frame stands, what it tells, what is known then, and the faults
+-- the result of a header that was read: the frame's mode, what it tells, what is known then, and the faults
 abbrev told_on : ℕ → ℕ → ℕ → Known → List LintFault → Header → List Symbol → Mode → List Symbol → Told → List LintLine
 told_on legacies frames before known faults header rest at front found =
     map Shown (option_to_list found.decoded)

@@ -1,4 +1,4 @@
--- What texts come to that are pushed one behind the other.
+-- The text of pieces that are pushed one behind the other.
 use Rattle.std.proofs.Common.{◌≡◌, ◌∙◌, ℕ, List, ◌++◌, Result, Ok, Err, OnOk, ap, append_assoc}
 
 -- three texts, if the last was pushed

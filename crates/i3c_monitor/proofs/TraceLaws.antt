@@ -42,7 +42,7 @@ pub goes_on : (outcome : Result Told Fault) (found : Told) (more : Mode → List
     → more found.mode ≡ rest → and_on outcome more ≡ option_to_list found.decoded ++ rest
 goes_on outcome found more rest is same = ap (λ outcome. and_on outcome more) is ∙ ap (λ rest. option_to_list found.decoded ++ rest) same
 
--- the same told of what is to come
+-- the same told of the rest
 pub told_too : {E : Type 0} → (r : Result (Option Decoded) E) (a b rest : List Decoded) → IfOk r (λ decoded. b ≡ option_to_list decoded ++ rest) → a ≡ b
     → IfOk r (λ decoded. a ≡ option_to_list decoded ++ rest)
 told_too (Ok decoded) a b rest tells same = same ∙ tells

@@ -1,4 +1,4 @@
--- What is due at one place of a trace. `before` counts the symbols of the trace that come before those in hand.
+-- The words expected at one place of a trace. `before` counts the symbols of the trace before those in hand.
 use Rattle.std.specs.Prelude.{◌≡◌, ℕ, ◌+◌, ◌==◌, List, [], ◌∷◌, length, Option, Some, None, Result, Ok, Err, if◌then◌else◌}
 use Rattle.i3c_word.specs.declared.Word.{Word}
 use Rattle.i3c_ccc.specs.Commands.{has_good_t}
@@ -9,18 +9,18 @@ use Rattle.i3c_deftgts.specs.Reading.{entries_in, first_fault}
 use Rattle.i3c_monitor.specs.declared.decoded.Fault.{Fault}
 use Rattle.i3c_text.specs.declared.stop.Stop.{Stop}
 
--- what comes of a part, and then of what needs it
+-- the result of a part, and then of the step that needs it
 abbrev pub go_on : {A B : Type 0} → Result A Fault → (A → Result B Fault) → Result B Fault
 go_on (Ok part) more = more part
 go_on (Err fault) more = Err fault
 
--- a call comes to this, unless it lacks memory
+-- a call has this result, unless it lacks memory
 abbrev pub Comes : {A : Type 0} → Result A Fault → Result A (Stop Fault) → Type 0
 Comes wanted (Ok part) = wanted ≡ Ok part
 Comes wanted (Err (Stop.Refused fault)) = wanted ≡ Err fault
 Comes wanted (Err Stop.Memory) = Unit {0}
 
--- the word that is due: another symbol in its place, or none
+-- the expected word, or the fault that another symbol or none is in its place
 abbrev pub due_word : List Symbol → ℕ → Result Word Fault
 due_word [] before = Err (Fault.Truncated (before + 1))
 due_word (Symbol.Word word ∷ rest) before = Ok word
@@ -30,11 +30,11 @@ due_word (_ ∷ rest) before = Err (Fault.Parity (before + 1))
 abbrev pub byte_in : ℕ → Word → Result ℕ Fault
 byte_in before word = if has_good_t word then Ok word.byte else Err (Fault.Parity (before + 1))
 
--- the byte of the written word that is due
+-- the byte of the expected written word
 abbrev pub written_byte : List Symbol → ℕ → Result ℕ Fault
 written_byte symbols before = go_on (due_word symbols before) (byte_in before)
 
--- the bytes of the two written words that are due, as a length has them
+-- the bytes of the two expected written words, as a length has them
 abbrev pub written_length : List Symbol → ℕ → Result (ℕ × ℕ) Fault
 written_length [] before = Err (Fault.Truncated (before + 1))
 written_length (symbol ∷ rest) before =

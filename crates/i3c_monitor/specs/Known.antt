@@ -1,4 +1,4 @@
--- What a trace shows of addresses: who has each, and who didn't answer.
+-- What a trace shows of addresses: their owners, and the addresses that didn't answer.
 use Rattle.std.specs.Prelude.{ℕ, ◌/◌, ◌==◌, ◌||◌, Bool, true, false, List, [], ◌∷◌, drop, Option, Some, None, replicate, slice_get, slice_set, if◌then◌else◌}
 use Rattle.i3c_base.specs.declared.requests.Request.{Request}
 use Rattle.i3c_deftgts.specs.declared.entries.Entry.{Entry}
@@ -14,7 +14,7 @@ use Rattle.i3c_monitor.specs.declared.known.Owner.{Owner}
 use Rattle.i3c_monitor.specs.declared.known.Status.{Status}
 use Rattle.i3c_monitor.specs.Due.{words_in}
 
--- an address of which nothing is known
+-- an address without anything known
 abbrev pub nobodys : Status
 nobodys = record { owner = Owner.Nobody; silent = None }
 
@@ -22,11 +22,11 @@ nobodys = record { owner = Owner.Nobody; silent = None }
 unfoldable pub all_nobodys : List Status
 all_nobodys = replicate 128 nobodys
 
--- the trace doesn't show who has an address
+-- the trace doesn't show the owners of addresses
 abbrev pub forgotten : Known
 forgotten = record { shown = false; statuses = all_nobodys }
 
--- it shows that nobody has one
+-- the trace shows that no address has an owner
 abbrev pub cleared : Known
 cleared = record { shown = true; statuses = all_nobodys }
 
@@ -55,7 +55,7 @@ silenced a symbol known = with_status a (record { owner = (status_of a known).ow
 abbrev pub heard : ℕ → Known → Known
 heard a known = with_status a (record { owner = (status_of a known).owner; silent = None }) known
 
--- the owner of an address that is shown to have one: whoever was given it, or somebody
+-- the owner of an address that is shown to have one: the one that was given it, or somebody
 abbrev pub some_owner : Owner → Owner
 some_owner Owner.Nobody = Owner.Somebody
 some_owner Owner.Somebody = Owner.Somebody
@@ -65,7 +65,7 @@ some_owner (Owner.Given identity) = Owner.Given identity
 abbrev pub given_to_somebody : ℕ → Known → Known
 given_to_somebody a known = with_status a (record { owner = Owner.Somebody; silent = None }) known
 
--- SETNEWDA gave who had the address `old` a new one
+-- SETNEWDA gave the owner of the address `old` a new one
 abbrev pub moved : ℕ → ℕ → Known → Known
 moved old new known = with_status new (record { owner = some_owner (status_of old known).owner; silent = None }) (with_status old nobodys known)
 
@@ -110,7 +110,7 @@ present (Decoded.Request (Request.Interrupt a) accepted byte) = Some a
 present (Decoded.Request (Request.Role a) accepted byte) = Some a
 present _ = None
 
--- the address of a target that had to answer and didn't: whoever declines the role need not
+-- the address of a target that had to answer and didn't: a target may decline the role
 abbrev pub absent : Decoded → Option ℕ
 absent (Decoded.Transfer a read None) = Some a
 absent (Decoded.Get what a None) = Some a
@@ -125,7 +125,7 @@ abbrev pub after_present : Option ℕ → Known → Known
 after_present None known = known
 after_present (Some a) known = heard a known
 
--- and after one didn't
+-- what is known after an address didn't answer, if one didn't
 abbrev pub after_absent : ℕ → Option ℕ → Known → Known
 after_absent symbol None known = known
 after_absent symbol (Some a) known = silenced a symbol known
@@ -141,7 +141,7 @@ learned symbol behind (Decoded.Single Direct.Setdasa a (Some byte)) known = give
 learned symbol behind (Decoded.Single Direct.Setnewda a (Some byte)) known = moved a (byte / 2) known
 learned symbol behind decoded known = after_absent symbol (absent decoded) (after_present (present decoded) known)
 
--- the same, where nothing was told
+-- the same without a decoded part
 abbrev pub learned_of : ℕ → List Symbol → Option Decoded → Known → Known
 learned_of symbol behind None known = known
 learned_of symbol behind (Some decoded) known = learned symbol behind decoded known

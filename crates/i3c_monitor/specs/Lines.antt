@@ -29,7 +29,7 @@ abbrev pub byte_after : Option ℕ → List ℕ
 byte_after None = []
 byte_after (Some byte) = words_text (codes " ") byte
 
--- a request
+-- the text of a request
 abbrev pub request_text : Request → List ℕ
 request_text Request.Join = codes "request join"
 request_text (Request.Role a) = words_text (codes "request role ") a
@@ -53,7 +53,7 @@ command_text Direct.Setdasa = codes "SETDASA "
 command_text Direct.Setnewda = codes "SETNEWDA "
 command_text Direct.Getacccr = codes "GETACCCR "
 
--- the byte behind a header of such a command, unless nobody answered
+-- the byte behind a header of a single command, unless nobody answered
 abbrev pub answer_text : Option ℕ → List ℕ
 answer_text None = codes " no answer"
 answer_text (Some byte) = words_text (codes " ") byte
@@ -100,7 +100,7 @@ abbrev pub bytes_text : Option Span → List Symbol → List ℕ
 bytes_text None trace = codes " no answer"
 bytes_text (Some span) trace = data_text (symbols_of span trace)
 
--- a fault
+-- the text of a fault
 abbrev pub fault_text : Fault → List ℕ
 fault_text (Fault.Parity number) = number_text (codes "Parity ") number
 fault_text (Fault.Truncated number) = number_text (codes "Truncated ") number
@@ -129,6 +129,6 @@ decoded_text trace (Decoded.Get what address span) = words_text (datum_name what
 decoded_text trace (Decoded.Transfer address read span) = words_text (transfer_text read) address ++ bytes_text span trace
 decoded_text trace (Decoded.Refused fault) = codes "refused " ++ fault_text fault
 
--- its line
+-- the line that a decoded part prints
 abbrev pub line_text : List Symbol → Decoded → List ℕ
 line_text trace decoded = decoded_text trace decoded ++ 10 ∷ []

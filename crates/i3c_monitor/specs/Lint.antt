@@ -31,7 +31,7 @@ abbrev pub is_t_word : Symbol → Bool
 is_t_word (Symbol.Word word) = true
 is_t_word _ = false
 
--- the first of some symbols is such a one
+-- the first of some symbols passes the test
 abbrev pub begins_with : (Symbol → Bool) → List Symbol → Bool
 begins_with is [] = false
 begins_with is (symbol ∷ rest) = is symbol
@@ -46,7 +46,7 @@ abbrev pub is_transfer : ℕ → Header → List Symbol → Bool
 is_transfer legacies header symbols =
     not (header.address == 0x7E) && (is_in legacies header.address || (header.ack && carries_more header.read symbols))
 
--- where a frame stands at a header: one that begins with a private transfer is in no command
+-- the mode of a frame at a header: one that begins with a private transfer is in no command
 abbrev pub mode_at : ℕ → Mode → Header → List Symbol → Mode
 mode_at legacies Mode.First header symbols = if is_transfer legacies header symbols then Mode.Plain else Mode.First
 mode_at legacies mode header symbols = mode
@@ -64,7 +64,7 @@ told_at legacies mode header symbols number = settled (told (mode_at legacies mo
 abbrev pub fault_at : ℕ → ℕ → Breach → LintFault
 fault_at frame symbol breach = record { frame = frame; symbol = symbol; breach = breach }
 
--- the same, if it is one
+-- the same for an optional one
 abbrev pub fault_if : Bool → ℕ → ℕ → Breach → Option LintFault
 fault_if wrong frame symbol breach = if wrong then Some (fault_at frame symbol breach) else None
 
@@ -76,7 +76,7 @@ spoken_to (Decoded.SetLengthDirect way a bytes) = Some a
 spoken_to (Decoded.Single command a byte) = dynamic_in command a
 spoken_to _ = None
 
--- nobody has it
+-- the address has no owner
 abbrev pub is_nobodys : Owner → Bool
 is_nobodys Owner.Nobody = true
 is_nobodys _ = false
@@ -86,7 +86,7 @@ abbrev pub may_be_legacy : Decoded → List Symbol → Bool
 may_be_legacy (Decoded.Transfer a read (Some span)) symbols = not (begins_with is_t_word symbols)
 may_be_legacy _ symbols = false
 
--- nobody was given this address, in a trace that shows who was
+-- no owner was given to this address, in a trace that shows owners
 abbrev pub nobody_at : ℕ → Known → ℕ → ℕ → Option ℕ → Option LintFault
 nobody_at legacies known frame number None = None
 nobody_at legacies known frame number (Some a) =
@@ -97,18 +97,18 @@ abbrev pub nobody_fault : ℕ → Known → ℕ → ℕ → List Symbol → Deco
 nobody_fault legacies known frame number symbols decoded =
     if may_be_legacy decoded symbols then None else nobody_at legacies known frame number (spoken_to decoded)
 
--- the symbol since which somebody is silent whom a round gave an address: of others silence is no fault
+-- the symbol since which an owner is silent that got its address in a round: silence of others is no fault
 abbrev pub silent_since : Owner → Option ℕ → Option ℕ
 silent_since (Owner.Given identity) silent = silent
 silent_since _ silent = None
 
--- this address was silent
+-- the symbol since which the owner of this address is silent
 abbrev pub silence_at : Known → ℕ → ℕ → Option ℕ → Option LintFault
 silence_at known frame number None = None
 silence_at known frame number (Some a) =
     option_map (λ since. fault_at frame number (Breach.Silent a since)) (silent_since (status_of a known).owner (status_of a known).silent)
 
--- somebody answers or asks who was silent before, and wasn't given the address again
+-- an owner answers or asks that was silent before, and wasn't given the address again
 abbrev pub silence_fault : Known → ℕ → ℕ → Decoded → Option LintFault
 silence_fault known frame number decoded = silence_at known frame number (present decoded)
 
@@ -134,7 +134,7 @@ moved_fault known frame number (Decoded.Single Direct.Setnewda a (Some byte)) =
     fault_if (are_others (status_of a known).owner (status_of (byte / 2) known).owner) frame (number + 1) (Breach.Twice (byte / 2))
 moved_fault known frame number _ = None
 
--- nobody acknowledged a header whose answer counts: that of 7E/W doesn't
+-- nobody acknowledged a header whose answer counts, that is, one other than 7E/W
 abbrev pub is_unanswered : Header → Bool
 is_unanswered header = not header.ack && not ((header.address == 0x7E) && not header.read)
 
@@ -201,7 +201,7 @@ abbrev pub taken_by : Mode → Header → List Symbol → Option ℕ
 taken_by mode header symbols =
     if (header.address == 0x7E) && not header.read then code_takes symbols else mode_takes mode (heads_round header)
 
--- a word follows so many symbols
+-- a word follows the first n symbols
 abbrev pub surplus_after : ℕ → ℕ → List Symbol → Option ℕ → Option LintFault
 surplus_after frame number symbols None = None
 surplus_after frame number symbols (Some n) = fault_if (begins_with is_word (drop n symbols)) frame (number + (n + 1)) Breach.Surplus
@@ -227,11 +227,11 @@ abbrev pub is_wrong_address : Symbol → Bool
 is_wrong_address (Symbol.AddressByte byte ack) = not ((count_ones (byte / 2) + byte % 2) % 2 == 1)
 is_wrong_address _ = false
 
--- the first of these
+-- the fault of the first address byte with a wrong parity
 abbrev pub parity_fault : ℕ → ℕ → List Symbol → Option LintFault
 parity_fault frame number symbols = option_map (λ n. fault_at frame (number + (n + 1)) Breach.Parity) (position is_wrong_address symbols)
 
--- those of some faults that are there
+-- the faults among these that are there
 abbrev pub all_found : List (Option LintFault) → List LintFault
 all_found [] = []
 all_found (None ∷ rest) = all_found rest
@@ -261,8 +261,8 @@ pub data LintLine : Type 0 where
   Shown : Decoded → LintLine
   Faulty : LintFault → LintLine
 
--- what the rest of a trace tells a linter, of which so many symbols stand behind a header that was told. A frame's faults
--- come at its end
+-- what the rest of a trace tells a linter; its first `skip` symbols are behind a header that was told. A frame's faults come
+-- at its end
 abbrev pub linted : ℕ → Mode → ℕ → ℕ → Known → List LintFault → ℕ → List Symbol → List LintLine
 linted legacies mode frames before known faults skip [] = []
 linted legacies mode frames before known faults (suc skip) (symbol ∷ rest) = linted legacies mode frames (before + 1) known faults skip rest

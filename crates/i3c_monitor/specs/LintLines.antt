@@ -46,10 +46,10 @@ abbrev pub lint_line_text : List Symbol → LintLine → List ℕ
 lint_line_text trace (Shown decoded) = line_text trace decoded
 lint_line_text trace (Faulty fault) = fault_line trace fault
 
--- several lines
+-- the lines that a linter prints
 abbrev pub lint_text : List Symbol → List LintLine → List ℕ
 lint_text trace lines = flat_map (lint_line_text trace) lines
 
--- those of a report
+-- the lines that a report prints
 abbrev pub report_text : List Symbol → Report → List ℕ
 report_text trace report = lint_text trace (report_lines report)

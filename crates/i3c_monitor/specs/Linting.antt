@@ -15,7 +15,7 @@ abbrev pub report_lines : Report → List LintLine
 report_lines (Report.Decoded decoded) = Shown decoded ∷ []
 report_lines (Report.Faults faults) = map Faulty faults.items
 
--- those of a report, if there is one
+-- the lines of an optional report
 abbrev pub reported : Option Report → List LintLine
 reported None = []
 reported (Some report) = report_lines report

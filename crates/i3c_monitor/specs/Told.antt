@@ -1,4 +1,4 @@
--- What a header and the symbols behind it tell, where a frame stands.
+-- What a header and the symbols behind it tell, by the frame's mode.
 use Rattle.std.specs.Prelude.{ℕ, ◌+◌, Bool, true, false, ◌==◌, ◌&&◌, not, List, [], ◌∷◌, length, Option, Some, None, Result, Ok, Err, if◌then◌else◌}
 use Rattle.i3c_base.specs.declared.datum.Datum.{Datum}
 use Rattle.i3c_base.specs.declared.datum.Direction.{Direction}
@@ -14,11 +14,11 @@ use Rattle.i3c_monitor.specs.declared.decoded.Decoded.{Decoded}
 use Rattle.i3c_monitor.specs.declared.decoded.Span.{Span}
 use Rattle.i3c_monitor.specs.Due.{due_word, entries_told, go_on, written_byte, written_length}
 
--- nothing is told, and the frame stands so
+-- nothing is told, and the frame has this mode
 abbrev pub nothing : Mode → Told
 nothing mode = record { decoded = None; mode = mode }
 
--- this is told, and the frame stands so
+-- this is told, and the frame has this mode
 abbrev pub one : Mode → Decoded → Result Told Fault
 one mode decoded = Ok (record { decoded = Some decoded; mode = mode })
 
@@ -37,15 +37,16 @@ abbrev pub request_of : Header → List Symbol → Decoded
 request_of header symbols =
     Decoded.Request (request_at header.address header.read) header.ack (if header.read && header.ack then next_byte symbols else None)
 
--- the symbols behind a header, so many, unless nobody answered
+-- the `count` symbols behind a header, unless nobody answered
 abbrev pub span_of : Header → ℕ → ℕ → Option Span
 span_of header count before = if header.ack then Some (record { before = before; count = count }) else None
 
--- a private transfer, of so many symbols
+-- a private transfer of `count` symbols
 abbrev pub transfer_of : Header → ℕ → ℕ → Decoded
 transfer_of header count before = Decoded.Transfer header.address header.read (span_of header count before)
 
--- a header of a code that asks for a datum, with so many symbols behind it: it may have either direction, and a datum any length
+-- a header of a code that asks for a datum, with `count` symbols behind it: it may have either direction, and a datum any
+-- length
 abbrev pub get_of : Datum → Header → ℕ → ℕ → Decoded
 get_of what header count before = Decoded.Get what header.address (span_of header count before)
 
@@ -63,7 +64,7 @@ single_byte Direct.Setdasa symbols before = written_byte symbols before
 single_byte Direct.Setnewda symbols before = written_byte symbols before
 single_byte Direct.Getacccr symbols before = go_on (due_word symbols before) (λ word. Ok word.byte)
 
--- a header of such a command
+-- a header of this direct command
 abbrev pub single_of : Direct → Header → List Symbol → ℕ → Result Decoded Fault
 single_of command header symbols before =
     if header.ack then go_on (single_byte command symbols before) (λ byte. Ok (Decoded.Single command header.address (Some byte)))
@@ -75,11 +76,11 @@ round_in (Symbol.Identity identity ∷ Symbol.AddressByte byte ack ∷ rest) bef
 round_in (Symbol.Identity identity ∷ rest) before = Err (Fault.Truncated (before + 2))
 round_in _ before = Err (Fault.Truncated (before + 1))
 
--- a round
+-- the round behind a header
 abbrev pub round_of : Header → List Symbol → ℕ → Result Decoded Fault
 round_of header symbols before = if header.ack then round_in symbols before else Ok Decoded.RoundsDone
 
--- a command, of whose code this is what follows
+-- a command with this code, by the symbols behind it
 abbrev pub command_of : Code → List Symbol → ℕ → Result Told Fault
 command_of Code.Enec symbols before = go_on (written_byte symbols before) (λ kinds. one Mode.Plain (Decoded.Enec kinds))
 command_of Code.Disec symbols before = go_on (written_byte symbols before) (λ kinds. one Mode.Plain (Decoded.Disec kinds))
@@ -119,7 +120,7 @@ code_at byte =
     else if byte == 0x81 then Code.DisecDirect else if byte == 0x87 then Code.Setdasa else if byte == 0x88 then Code.Setnewda
     else if byte == 0x91 then Code.Getacccr else length_at byte
 
--- what follows 7E/W
+-- the command behind `7E`/W
 abbrev pub code_of : List Symbol → ℕ → Result Told Fault
 code_of [] before = Ok (nothing Mode.Plain)
 code_of (symbol ∷ rest) before = go_on (written_byte (symbol ∷ rest) before) (λ byte. command_of (code_at byte) rest (before + 1))

@@ -11,19 +11,19 @@ use Rattle.i3c_monitor.specs.declared.decoded.Fault.{Fault}
 use Rattle.i3c_monitor.specs.declared.decoded.Decoded.{Decoded}
 use Rattle.i3c_monitor.specs.Told.{told}
 
--- the header that a symbol is, if it is one
+-- the symbol as a header, if it is one
 abbrev pub header_in : Symbol → Option Header
 header_in (Symbol.Header address read ack) = Some (record { address = address; read = read; ack = ack })
 header_in _ = None
 
--- a symbol ends what stands behind a header
+-- a symbol ends the symbols behind a header
 abbrev pub ends : Symbol → Bool
 ends Symbol.Start = true
 ends Symbol.Repeated = true
 ends Symbol.Stop = true
 ends _ = false
 
--- how many symbols stand behind a header: those up to the next START, repeated START or STOP
+-- the number of symbols behind a header: those up to the next START, repeated START or STOP
 abbrev pub count_behind : List Symbol → ℕ
 count_behind symbols = position_or_len ends symbols
 
@@ -36,8 +36,8 @@ abbrev pub and_on : Result Told Fault → (Mode → List Decoded) → List Decod
 and_on (Ok told) rest = option_to_list told.decoded ++ rest told.mode
 and_on (Err fault) rest = Decoded.Refused fault ∷ []
 
--- what the rest of a trace tells, of which so many symbols stand behind a header that was told. So many frames and symbols
--- came before
+-- what the rest of a trace tells; its first `skip` symbols are behind a header that was told. `frames` and `before` count the
+-- frames and symbols before it
 abbrev pub rest_told : Mode → ℕ → ℕ → ℕ → List Symbol → List Decoded
 rest_told mode frames before skip [] = []
 rest_told mode frames before (suc skip) (symbol ∷ rest) = rest_told mode frames (before + 1) skip rest
@@ -47,7 +47,7 @@ rest_told mode frames before zero (Symbol.Header address read ack ∷ rest) =
     (λ next. rest_told next frames (before + 1) (count_behind rest) rest)
 rest_told mode frames before zero (symbol ∷ rest) = rest_told mode frames (before + 1) zero rest
 
--- what a trace tells
+-- what all symbols of a trace tell
 abbrev pub trace_told : List Symbol → List Decoded
 trace_told symbols = rest_told Mode.Skipped 0 0 0 symbols
 
@@ -55,7 +55,7 @@ trace_told symbols = rest_told Mode.Skipped 0 0 0 symbols
 abbrev pub to_come : Monitor → List Decoded
 to_come monitor = rest_told monitor.mode monitor.frames monitor.before 0 monitor.rest.now
 
--- the same of one who has just taken this header
+-- the same of a monitor that has just taken this header
 abbrev pub header_told : Monitor → Header → List Decoded
 header_told monitor header =
     let rest = monitor.rest.now in

@@ -3,7 +3,7 @@ ghost use Rattle.i3c_monitor.specs.Trace.{count_behind, ends};
 
 use i3c_frame::Symbol;
 
-/// How many symbols stand behind a header: those up to the next START, repeated START or STOP.
+/// The number of symbols behind a header: those up to the next START, repeated START or STOP.
 #[inline(always)]
 pub(crate) fn count_behind(symbols: &[Symbol]) -> usize
     ensures { result ≡ count_behind symbols.now }
@@ -11,7 +11,7 @@ pub(crate) fn count_behind(symbols: &[Symbol]) -> usize
     first_end(symbols).unwrap_or(symbols.len())
 }
 
-/// Where the first symbol stands that ends them, if there is one.
+/// The index of the first symbol that ends them, if there is one.
 #[inline(always)]
 fn first_end(symbols: &[Symbol]) -> Option<usize>
     ensures { result ≡ position ends symbols.now }
@@ -19,7 +19,7 @@ fn first_end(symbols: &[Symbol]) -> Option<usize>
     symbols.iter().position(ends)
 }
 
-/// Whether a symbol ends what stands behind a header.
+/// Whether a symbol ends the symbols behind a header.
 #[inline(always)]
 fn ends(symbol: &Symbol) -> bool
     ensures { result ≡ ends symbol.now }

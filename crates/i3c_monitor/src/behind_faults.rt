@@ -30,7 +30,7 @@ fn heads_round(header: &Header) -> bool
     header.address.get() == BROADCAST && header.read
 }
 
-/// The fault of what follows a header that nobody acknowledged.
+/// The fault of the symbols behind a header that nobody acknowledged.
 pub(crate) fn unanswered_fault(spot: Spot, header: &Header, symbols: &[Symbol]) -> Option<LintFault>
     requires { spot.symbol + length symbols.now < usize.MAX }
     ensures { result ≡ unanswered_fault spot.frame spot.symbol header.now symbols.now }
@@ -95,7 +95,7 @@ pub(crate) fn surplus_fault(
     Some(fault_at(spot.frame, spot.symbol + (taken + 1), Breach::Surplus))
 }
 
-/// Whether a word follows so many symbols.
+/// Whether a word follows the first `count` symbols.
 fn word_follows(count: usize, symbols: &[Symbol]) -> bool
     ensures word { result ≡ begins_with is_word (drop count symbols.now) }
     ensures within { result ≡ true → count < length symbols.now }
@@ -174,7 +174,7 @@ fn mode_takes(mode: &Mode, round: bool) -> Option<usize>
     }
 }
 
-/// The first word that is read behind one whose T said that it was the last (I3C Basic 5.1.2.3).
+/// The first word behind a read word whose T said 'last' (I3C Basic 5.1.2.3).
 pub(crate) fn ended_fault(spot: Spot, header: &Header, symbols: &[Symbol]) -> Option<LintFault>
     requires { spot.symbol + length symbols.now < usize.MAX }
     ensures { result ≡ ended_fault spot.frame spot.symbol header.now symbols.now }

@@ -60,7 +60,7 @@ fn nobody_found(
     }
 }
 
-/// The fault of somebody who was silent before, if the header tells anything.
+/// The fault of an owner that was silent before, if the header tells anything.
 fn silence_found(known: &Known, spot: Spot, decoded: &Option<Decoded>) -> Option<LintFault>
     ensures { result ≡ option_and_then (silence_fault known.now spot.frame spot.symbol) decoded.now }
 {

@@ -11,7 +11,7 @@ use i3c_text::Stop;
 use std::alloc::Global;
 
 /// What follows `7E`/W: the code of a command, and what is read with it (I3C Basic 5.1.9.1). No symbol is no command.
-/// So many symbols of the trace come before.
+/// `before` counts the symbols of the trace before them.
 #[inline(always)]
 pub(crate) fn read_code(
     alloc: Global,
@@ -28,7 +28,7 @@ pub(crate) fn read_code(
     read_command(alloc, code, rest, before + 1)
 }
 
-/// A command, of whose code this is what follows.
+/// A command with this code, by the symbols behind it.
 #[inline(always)]
 fn read_command(
     alloc: Global,

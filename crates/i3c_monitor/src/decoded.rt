@@ -8,7 +8,7 @@ use i3c_frame::Symbol;
 use i3c_text::Stop;
 use thiserror::Error;
 
-/// A command to single targets, each of which has a header of its own (I3C Basic 5.1.9.1).
+/// A direct command: each target that it is for has a header of its own (I3C Basic 5.1.9.1).
 #[derive(Clone, Copy, Debug, PartialEq, Eq)]
 pub enum Direct {
     /// Enable events.
@@ -26,7 +26,7 @@ pub enum Direct {
 /// Symbols of a trace that follow one another: how many come before them, and how many they are.
 #[derive(Clone, Copy, Debug, PartialEq, Eq)]
 pub struct Span {
-    /// How many symbols stand before it.
+    /// The number of symbols before it.
     pub before: usize,
     /// How many symbols it has.
     pub count: usize,
@@ -67,7 +67,7 @@ pub enum Decoded {
     Rstdaa,
     /// ENTDAA (I3C Basic 5.1.9.3.4).
     Entdaa,
-    /// DEFTGTS, with a list of so many entries (I3C Basic 5.1.9.3.7).
+    /// DEFTGTS, with the number of entries of its list (I3C Basic 5.1.9.3.7).
     Deftgts(usize),
     /// SETMWL or SETMRL to all, with the two bytes of its length (I3C Basic 5.1.9.3.5, 5.1.9.3.6).
     SetLength(Direction, (u8, u8)),
@@ -90,11 +90,11 @@ pub enum Decoded {
     /// A header of SETMWL or SETMRL to single targets, and the two bytes behind it: `None` where nobody answered (I3C Basic
     /// 5.1.9.3.5, 5.1.9.3.6).
     SetLengthDirect(Direction, Addr7, Option<(u8, u8)>),
-    /// A header of a code that asks a target for a datum, and the symbols behind it, of which words are the bytes that it
-    /// tells: `None` where nobody answered (I3C Basic 5.1.9.3).
+    /// A header of a code that asks a target for a datum, and the symbols behind it, whose words are the bytes that it tells:
+    /// `None` if nobody answered (I3C Basic 5.1.9.3).
     Get(Datum, Addr7, Option<Span>),
-    /// A private transfer, and the symbols behind its header, of which words are its bytes: `None` where nobody answered
-    /// (I3C Basic 5.1.2).
+    /// A private transfer, and the symbols behind its header, whose words are its bytes: `None` if nobody answered (I3C Basic
+    /// 5.1.2).
     Transfer {
         address: Addr7,
         read: bool,
@@ -151,7 +151,7 @@ impl Decoded {
         }
     }
 
-    /// The dynamic address of a target that had to answer and didn't. Whoever declines the role need not.
+    /// The dynamic address of a target that had to answer and didn't. A target may decline the role.
     pub(crate) fn absent(&self) -> Option<Addr7>
         ensures { result ≡ absent self.now }
     {
@@ -186,10 +186,10 @@ fn dynamic_in(command: &Direct, address: Addr7) -> Option<Addr7>
 /// Which rule a trace breaks. Symbols are counted from 1, over the whole trace.
 #[derive(Clone, Copy, Debug, PartialEq, Eq, Drop, Error)]
 pub enum Fault {
-    /// Where a word with a good T bit is due, this symbol is another.
+    /// Another symbol than a word with a good T bit, where one is expected.
     #[error("symbol {0} is no word with a right T (docs/FORMATS.md, What `trace` prints)")]
     Parity(usize),
-    /// What is due doesn't come: this symbol stands in its place, or the trace ends before it.
+    /// An expected symbol is missing: this symbol is in its place, or the trace ends before it.
     #[error("a word, an identity or an address byte is missing at symbol {0} (docs/FORMATS.md, What `trace` prints)")]
     Truncated(usize),
     /// The words of a list are none.

@@ -17,7 +17,7 @@ pub(crate) const BROADCAST: u8 = 0x7E;
 /// The address of a Hot-Join (I3C Basic 5.1.5).
 const HOT_JOIN: u8 = 0x02;
 
-/// Where a frame stands before its next header.
+/// The mode of a frame before its next header.
 #[derive(Clone, Copy)]
 pub(crate) enum Mode {
     /// At its start.
@@ -36,7 +36,7 @@ pub(crate) enum Mode {
     Skipped,
 }
 
-/// What a header and the symbols behind it tell, and where the frame stands then.
+/// What a header and the symbols behind it tell, and the frame's mode then.
 #[derive(Clone, Copy)]
 pub(crate) struct Told {
     pub decoded: Option<Decoded>,
@@ -81,7 +81,7 @@ impl Header {
     ghost use Rattle.std.specs.Prelude.{◌≡◌};
     ghost use Rattle.i3c_monitor.specs.Trace.{header_in};
 
-    /// The header that a symbol is, if it is one.
+    /// The symbol as a header, if it is one.
     #[inline(always)]
     pub fn of(symbol: &Symbol) -> Option<Header>
         ensures { result ≡ header_in symbol.now }
@@ -135,7 +135,7 @@ pub(crate) fn read_header(
     }
 }
 
-/// The same, where a refusal is told too: the rest of its frame is skipped.
+/// The same, but a refusal is told too: the rest of its frame is skipped.
 pub(crate) fn settled_header(
     alloc: Global,
     mode: &Mode,
@@ -231,7 +231,7 @@ fn read_single(
     })
 }
 
-/// The byte behind such a header.
+/// The byte behind a header of a direct command.
 #[inline(always)]
 fn single_byte(command: &Direct, symbols: &[Symbol], before: usize) -> Result<u8, Fault>
     requires { before < usize.MAX }

@@ -9,7 +9,7 @@ use i3c_frame::Symbol;
 use i3c_word::Word;
 use std::alloc::{AllocError, Global};
 
-/// Who has an address, as far as a trace shows it.
+/// The owner of an address, as far as a trace shows it.
 #[derive(Clone, Copy, Debug, PartialEq, Eq)]
 pub(crate) enum Owner {
     /// Nobody was given it.
@@ -20,20 +20,20 @@ pub(crate) enum Owner {
     Given(u64),
 }
 
-/// What a trace shows of an address: who has it, and at which symbol it didn't answer.
+/// What a trace shows of an address: its owner, and the symbol at which it didn't answer.
 #[derive(Clone, Copy, Debug, PartialEq, Eq)]
 pub(crate) struct Status {
     pub owner: Owner,
     pub silent: Option<usize>,
 }
 
-/// An address of which nothing is known.
+/// An address without anything known.
 const NOBODYS: Status = Status {
     owner: Owner::Nobody,
     silent: None,
 };
 
-/// What a trace shows of all addresses, and whether it shows who has each.
+/// What a trace shows of all addresses, and whether it shows their owners.
 #[derive(Drop)]
 pub(crate) struct Known {
     pub shown: bool,
@@ -46,7 +46,7 @@ impl Known {
     ghost use Rattle.std.specs.Prelude.{◌≡◌, if◌then◌else◌, map, OnOk, Some};
     ghost use Rattle.i3c_monitor.specs.Known.{after_absent, after_present, all_listed, all_nobodys, cleared, forgotten, given, given_to_somebody, heard, learned, learned_of, list_read, list_shown, listed, moved, silenced, status_of, with_status, absent, moves_addresses, present};
 
-    /// Nothing is known, and the trace doesn't show who has an address.
+    /// Nothing is known, and the trace doesn't show the owners of addresses.
     #[tactic(auto, unfolding(crate::specs::Known::all_nobodys))]
     pub fn new() -> Known
         ensures { result ≡ forgotten }
@@ -110,7 +110,7 @@ impl Known {
         );
     }
 
-    /// SETNEWDA gave who had an address a new one.
+    /// SETNEWDA gave the owner of an address a new one.
     fn move_owner(&mut self, old: Addr7, new: Addr7)
         ensures { self.new ≡ moved old new self.old }
     {
@@ -217,7 +217,7 @@ impl Known {
         }
     }
 
-    /// Learns who answered, and who didn't.
+    /// Learns that a target answered, or that it didn't.
     fn learn_answer(&mut self, symbol: usize, decoded: &Decoded)
         ensures { self.new ≡ after_absent symbol (absent decoded.now) (after_present (present decoded.now) self.old) }
     {
@@ -266,7 +266,7 @@ impl Known {
     }
 }
 
-/// The owner of an address that is shown to have one: whoever was given it, or somebody.
+/// The owner of an address that is shown to have one: the one that was given it, or somebody.
 fn some_owner(owner: Owner) -> Owner
     ensures { result ≡ some_owner owner }
 {

@@ -1,8 +1,8 @@
-//! What a monitor saw on the wires of a bus, told in the bus's own words: from the symbols of a trace, each frame with
-//! its requests, commands, rounds and transfers.
+//! What a monitor saw on the wires of a bus, told in the bus's own words: from the symbols of a trace, each frame with its
+//! requests, commands, rounds and transfers.
 //!
-//! `monitor` goes through the symbols of a trace. At each header it asks `header` what it is, where the frame stands;
-//! `commands` reads what follows `7E`/W, and `words` what is due at one place. `decoded` is what is told, and `printing`
+//! `monitor` goes through the symbols of a trace. At each header it asks `header` what it is, by the frame's mode; `commands`
+//! reads the symbols behind `7E`/W, and `words` the words expected at one place. `decoded` is what is told, and `printing`
 //! the line that each of it prints.
 //!
 //! `linter` is a monitor that also checks. At each header `checks` puts together what `lint` finds of addresses and

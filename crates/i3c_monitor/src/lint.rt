@@ -8,14 +8,14 @@ use crate::lint_fault::{Breach, LintFault};
 use i3c_base::{Addr7, Addresses};
 use i3c_frame::Symbol;
 
-/// Where a header stands: its frame and its symbol, both counted from 1.
+/// The place of a header: its frame and its symbol, both counted from 1.
 #[derive(Clone, Copy)]
 pub(crate) struct Spot {
     pub frame: usize,
     pub symbol: usize,
 }
 
-/// Where a frame stands at a header: one that begins with a private transfer is in no command.
+/// The mode of a frame at a header: one that begins with a private transfer is in no command.
 pub(crate) fn mode_at(legacies: Addresses, mode: &Mode, header: &Header, symbols: &[Symbol]) -> Mode
     ensures { result ≡ mode_at legacies.0 mode.now header.now symbols.now }
 {
@@ -78,7 +78,7 @@ fn is_nobodys(owner: &Owner) -> bool
     matches!(owner, Owner::Nobody)
 }
 
-/// Whether an answer may be that of a legacy target of which the trace doesn't tell: it has no word with a T bit.
+/// Whether an answer may be that of a legacy target that the trace doesn't show: it has no word with a T bit.
 fn may_be_legacy(decoded: &Decoded, symbols: &[Symbol]) -> bool
     ensures { result ≡ may_be_legacy decoded.now symbols.now }
 {
@@ -88,7 +88,7 @@ fn may_be_legacy(decoded: &Decoded, symbols: &[Symbol]) -> bool
     }
 }
 
-/// The fault of somebody who answers or asks, and was silent before, without having been given the address again.
+/// The fault of an owner that answers or asks, and was silent before, without having been given the address again.
 pub(crate) fn silence_fault(known: &Known, spot: Spot, decoded: &Decoded) -> Option<LintFault>
     ensures { result ≡ silence_fault known.now spot.frame spot.symbol decoded.now }
 {
@@ -98,7 +98,7 @@ pub(crate) fn silence_fault(known: &Known, spot: Spot, decoded: &Decoded) -> Opt
     Some(fault_at(spot.frame, spot.symbol, Breach::Silent(address, since)))
 }
 
-/// The symbol since which somebody is silent whom a round gave an address.
+/// The symbol since which an owner is silent that got its address in a round.
 fn silent_since(owner: &Owner, silent: Option<usize>) -> Option<usize>
     ensures { result ≡ silent_since owner.now silent }
 {
@@ -182,7 +182,7 @@ pub(crate) fn fault_at(frame: usize, symbol: usize, breach: Breach) -> LintFault
     }
 }
 
-/// The same, if it is one.
+/// The same for an optional one.
 pub(crate) fn fault_if(
     wrong: bool,
     frame: usize,

@@ -7,7 +7,7 @@ use i3c_frame::Symbol;
 use i3c_text::Stop;
 use std::alloc::{AllocError, Global};
 
-/// One who goes through the symbols of a trace and tells what they are.
+/// A monitor goes through the symbols of a trace and tells what they are.
 #[derive(Drop)]
 pub struct Monitor<'a> {
     alloc: Global,
@@ -42,7 +42,7 @@ impl<'a> Monitor<'a> {
 
     /// What comes next, or `None` at the end. After a fault it is the end. Symbols that don't follow one another as
     /// those of a trace do are passed over.
-    // in line with all that is taken, since whoever asks asks for each symbol
+    // in line with all that is taken, since it is asked for each symbol
     #[inline(always)]
     pub fn next(&mut self) -> Result<Option<Decoded>, AllocError>
         ensures told { IfOk result (λ decoded. to_come self.old ≡ option_to_list decoded ++ to_come self.new) }

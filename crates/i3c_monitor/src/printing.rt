@@ -190,7 +190,7 @@ fn command_words(command: &Direct) -> &'static [u8]
     }
 }
 
-/// Appends the byte behind a header of such a command.
+/// Appends the byte behind a header of a direct command.
 #[inline(always)]
 fn push_answer(byte: Option<u8>, text: &mut Text) -> Result<(), AllocError>
     ensures { OnOk result (text.new ≡ text.old ++ answer_text byte) }

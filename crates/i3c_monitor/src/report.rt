@@ -15,7 +15,7 @@ impl Report {
     ghost use Rattle.i3c_monitor.specs.Lint.LintLine.{Shown};
     ghost use Rattle.i3c_monitor.specs.Linting.{reported};
 
-    /// The report of what a header tells, if it tells anything.
+    /// The report of a decoded header, if it tells anything.
     pub(crate) fn of(decoded: &Option<Decoded>) -> Option<Report>
         ensures { reported result ≡ map Shown (option_to_list decoded.now) }
     {

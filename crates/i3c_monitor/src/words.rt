@@ -9,8 +9,8 @@ use i3c_text::Stop;
 use i3c_word::{Word, read_word};
 use std::alloc::{AllocError, Global};
 
-/// The byte of a word that a controller writes, which is due as the first of these symbols. So many symbols of the
-/// trace come before them.
+/// The byte of a word that a controller writes, expected as the first of these symbols. `before` counts the symbols of the
+/// trace before them.
 #[inline(always)]
 pub(crate) fn written_byte(symbols: &[Symbol], before: usize) -> Result<u8, Fault>
     requires { before < usize.MAX }
@@ -22,8 +22,8 @@ pub(crate) fn written_byte(symbols: &[Symbol], before: usize) -> Result<u8, Faul
     }
 }
 
-/// The bytes of the two words that a controller writes for a length, the high one first (I3C Basic 5.1.9.3.5,
-/// 5.1.9.3.6). They are due as the first of these symbols.
+/// The bytes of the two words that a controller writes for a length, the high one first (I3C Basic 5.1.9.3.5, 5.1.9.3.6).
+/// They are expected as the first of these symbols.
 pub(crate) fn written_length(symbols: &[Symbol], before: usize) -> Result<(u8, u8), Fault>
     requires { before + length symbols.now < usize.MAX }
     ensures { result ≡ written_length symbols.now before }
@@ -36,7 +36,7 @@ pub(crate) fn written_length(symbols: &[Symbol], before: usize) -> Result<(u8, u
     Ok((high, low))
 }
 
-/// The word that is due as the first of these symbols, whatever its T bit is.
+/// The word expected as the first of these symbols, whatever its T bit is.
 #[inline(always)]
 pub(crate) fn due_word(symbols: &[Symbol], before: usize) -> Result<Word, Fault>
     requires { before < usize.MAX }

@@ -1,4 +1,4 @@
--- The least address of the set of those that may be picked is the pick.
+-- The least address that may be picked is the pick.
 use Rattle.std.proofs.Common.{◌≡◌, ◌↔◌, ℕ, true, false, List, Option, None, Some, MatchOption}
 use Rattle.std.proofs.lemmas.Bool.{both_ways}
 use Rattle.i3c_base.specs.declared.identity.Identity.{Identity}

@@ -5,14 +5,14 @@ use Rattle.std.proofs.lemmas.List.{get_or_append_left}
 use Rattle.std.proofs.Math.Seq.{get_or-append_seam}
 use Rattle.std.proofs.lemmas.List.Elements.{All-head, All-tail}
 use Rattle.i3c_recorder.specs.declared.entry.Entry.{Entry}
-use Rattle.i3c_recorder.specs.declared.packing.ShortEntry.{ShortEntry}
-use Rattle.i3c_recorder.specs.declared.packing.Said.{Said}
-use Rattle.i3c_recorder.specs.declared.packing.Packed.{Packed}
-use Rattle.i3c_recorder.specs.declared.packing.Packed.TheVariants.{Short, Wide}
+use Rattle.i3c_recorder.specs.declared.packed.ShortEntry.{ShortEntry}
+use Rattle.i3c_recorder.specs.declared.packed.ShortReply.{ShortReply}
+use Rattle.i3c_recorder.specs.declared.packed.Packed.{Packed}
+use Rattle.i3c_recorder.specs.declared.packed.Packed.TheVariants.{Short, Wide}
 use Rattle.i3c_recorder.specs.Packing.{IsShort, IsWithin, entries_in, entry_in, no_entry}
 
 still_in : (wide more : List Entry) (p : Packed) → IsWithin (length wide) p → entry_in (wide ++ more) p ≡ entry_in wide p
-still_in wide more (Short brief said) h = refl
+still_in wide more (Short short said) h = refl
 still_in wide more (Wide at) h = get_or_append_left wide more no_entry at h
 
 still_all : (wide more : List Entry) (packed : List Packed) → All (IsWithin (length wide)) packed → entries_in (wide ++ more) packed ≡ entries_in wide packed

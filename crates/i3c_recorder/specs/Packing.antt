@@ -5,9 +5,9 @@ use Rattle.i3c_base.specs.Cutting.{no_cuts}
 use Rattle.i3c_step.specs.declared.events.Event.{Event}
 use Rattle.i3c_step.specs.declared.replies.Reply.{Reply}
 use Rattle.i3c_recorder.specs.declared.entry.Entry.{Entry}
-use Rattle.i3c_recorder.specs.declared.packing.ShortEntry.{ShortEntry}
-use Rattle.i3c_recorder.specs.declared.packing.Said.{Said}
-use Rattle.i3c_recorder.specs.declared.packing.Packed.{Packed}
+use Rattle.i3c_recorder.specs.declared.packed.ShortEntry.{ShortEntry}
+use Rattle.i3c_recorder.specs.declared.packed.ShortReply.{ShortReply}
+use Rattle.i3c_recorder.specs.declared.packed.Packed.{Packed}
 
 -- the event that is kept in short
 abbrev pub event_in : ShortEntry → Event
@@ -32,20 +32,20 @@ event_in ShortEntry.Round = Event.Round no_cuts
 event_in ShortEntry.EndDaa = Event.EndDaa
 
 -- the reply that is kept in short
-abbrev pub reply_in : Said → Reply
-reply_in (Said.Refused why) = Reply.Refused why
-reply_in Said.OutOfMemory = Reply.OutOfMemory
-reply_in Said.Attached = Reply.Attached
-reply_in Said.Dropped = Reply.Dropped
-reply_in (Said.Raised number) = Reply.Raised number
-reply_in Said.Asked = Reply.Asked
-reply_in (Said.Served served) = Reply.Served served
-reply_in (Said.Done served) = Reply.Framed (record { served = served; answer = Answer.Done })
-reply_in (Said.NoAnswer served a) = Reply.Framed (record { served = served; answer = Answer.NoAnswer a })
-reply_in (Said.Opened served) = Reply.Opened served
-reply_in (Said.Handed served) = Reply.Handed served
-reply_in (Said.Round answer) = Reply.Round answer
-reply_in Said.Ended = Reply.Ended
+abbrev pub reply_in : ShortReply → Reply
+reply_in (ShortReply.Refused why) = Reply.Refused why
+reply_in ShortReply.OutOfMemory = Reply.OutOfMemory
+reply_in ShortReply.Attached = Reply.Attached
+reply_in ShortReply.Dropped = Reply.Dropped
+reply_in (ShortReply.Raised number) = Reply.Raised number
+reply_in ShortReply.Asked = Reply.Asked
+reply_in (ShortReply.Served served) = Reply.Served served
+reply_in (ShortReply.Done served) = Reply.Framed (record { served = served; answer = Answer.Done })
+reply_in (ShortReply.NoAnswer served a) = Reply.Framed (record { served = served; answer = Answer.NoAnswer a })
+reply_in (ShortReply.Opened served) = Reply.Opened served
+reply_in (ShortReply.Handed served) = Reply.Handed served
+reply_in (ShortReply.Round answer) = Reply.Round answer
+reply_in ShortReply.Ended = Reply.Ended
 
 -- an entry, for places that no run has
 abbrev pub no_entry : Entry
@@ -53,17 +53,17 @@ no_entry = record { event = Event.EndDaa; reply = Reply.Ended }
 
 -- the entry, among these wide ones
 abbrev pub entry_in : List Entry → Packed → Entry
-entry_in wide (Packed.Short brief said) = record { event = event_in brief; reply = reply_in said }
+entry_in wide (Packed.Short short said) = record { event = event_in short; reply = reply_in said }
 entry_in wide (Packed.Wide at) = slice_index_or wide at no_entry
 
 abbrev pub entries_in : List Entry → List Packed → List Entry
 entries_in wide packed = map (entry_in wide) packed
 
--- a wide entry's place is one of so many
+-- a wide entry's place is below `count`
 abbrev pub IsWithin : ℕ → Packed → Type 0
-IsWithin count (Packed.Short brief said) = ⊤
+IsWithin count (Packed.Short short said) = ⊤
 IsWithin count (Packed.Wide at) = at < count
 
 -- the entry is this one in short
-abbrev pub IsShort : ShortEntry × Said → Entry → Type 0
+abbrev pub IsShort : ShortEntry × ShortReply → Entry → Type 0
 IsShort short entry = entry ≡ record { event = event_in short.0; reply = reply_in short.1 }

@@ -2,7 +2,7 @@
 #![tactic(auto)]
 
 mod entry;
-mod packing;
+mod packed;
 mod recorder;
 mod run;
 

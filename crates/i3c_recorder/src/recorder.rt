@@ -105,7 +105,7 @@ impl Recorder {
         })
     }
 
-    /// Makes room for one more record, and for so many entries. It changes nothing else.
+    /// Makes room for one more record and for `more` entries. It has no other effect.
     pub fn reserve(&mut self, more: usize) -> Result<(), OutOfMemory>
         ensures start { self.new.start ≡ self.old.start }
         ensures state { self.new.state ≡ self.old.state }

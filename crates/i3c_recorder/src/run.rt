@@ -1,14 +1,14 @@
 ghost use Rattle.std.specs.Prelude.{◌≡◌, ◌+◌, ◌-◌, ◌<◌, ◌≤◌, ◌++◌, ◌∷◌, [], length, nat_eq, option_map, slice_get, IfOk, OnOk, vec_len, vec_capacity};
 
 use crate::entry::Entry;
-use crate::packing::{Packed, copied, event_in, in_short, reply_in};
+use crate::packed::{Packed, copied, event_in, in_short, reply_in};
 use i3c_step::{OutOfMemory, Reply};
 use std::alloc::{AllocError, Global};
 use std::marker::Model;
 
 /// The run of a bus as it is kept: its events with their replies, the oldest first.
 ///
-/// An entry takes 64 bytes where nobody is cut and nothing written or read; the rest is stored out of line.
+/// An entry takes 64 bytes if nobody is cut and nothing written or read; any other is stored out of line.
 #[derive(Drop)]
 pub struct Run {
     packed: Vec<Packed>,
@@ -63,8 +63,8 @@ impl Run {
             return Ok(None);
         };
         match packed {
-            Packed::Short(brief, said) => Ok(Some(Entry {
-                event: event_in(brief),
+            Packed::Short(short, said) => Ok(Some(Entry {
+                event: event_in(short),
                 reply: reply_in(said),
             })),
             Packed::Wide(at) => {
@@ -90,7 +90,7 @@ impl Run {
         }
     }
 
-    /// Makes room for so many entries more.
+    /// Makes room for `more` more entries.
     pub(crate) fn reserve(&mut self, more: usize) -> Result<(), OutOfMemory>
         ensures entries { self.new.entries ≡ self.old.entries }
         ensures spare { OnOk result (more ≤ self.new.spare) }
@@ -112,8 +112,8 @@ impl Run {
         ensures spare { self.old.spare ≤ self.new.spare + 1 }
     {
         match in_short(&entry) {
-            Some((brief, said)) => {
-                self.packed.push_reserved(Packed::Short(brief, said));
+            Some((short, said)) => {
+                self.packed.push_reserved(Packed::Short(short, said));
             }
             None => {
                 let at = self.wide.len();

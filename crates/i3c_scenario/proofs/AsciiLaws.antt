@@ -4,7 +4,7 @@ use Rattle.std.proofs.Math.ListN.{set}
 use Rattle.std.proofs.lemmas.List.{take-append-le, take_all}
 use Rattle.i3c_scenario.specs.Traces.{ascii}
 
--- so many bytes are done
+-- the first bytes are done, up to an index
 pub marked : ℕ → List ℕ → List ℕ
 marked zero xs = xs
 marked (suc i) [] = []
@@ -31,7 +31,6 @@ marked_next i [] h = absurd (omega arith)
 marked_next zero (x ∷ xs) h = refl
 marked_next (suc i) (x ∷ xs) h = ap (λ rest. ascii x ∷ rest) (marked_next i xs (omega arith))
 
--- one byte more
 pub marked_more : (xs ys : List ℕ) (i value : ℕ) → i < length xs → ys ≡ marked i xs → value ≡ ascii (get_or ys i 0) → set ys i value ≡ marked (i + 1) xs
 marked_more xs ys i value within so_far is =
     let here : value ≡ ascii (get_or xs i 0) = is ∙ ap (λ list. ascii (get_or list i 0)) so_far ∙ ap ascii (marked_at i xs) in

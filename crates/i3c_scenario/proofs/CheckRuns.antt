@@ -41,7 +41,7 @@ length_more : (lines : List LineCheck) (check : LineCheck) → length (lines ++ 
 length_more [] check = omega arith
 length_more (c ∷ lines) check = omega (arith, length_more lines check)
 
--- the lines that were checked so far, of which the next has this number
+-- the lines that were checked so far, and the number of the next one
 pub record CheckedSoFar (known now old new : Option (List ℕ)) (reader : ScriptLines) (from to : Names) (before after at : ℕ) : Type 0 where
   pub lines : List LineCheck
   pub checked : Checked from 1 lines to

@@ -1,4 +1,4 @@
--- What lines come to that are commands.
+-- The results of lines that are commands.
 use Rattle.std.proofs.Common.{◌≡◌, ◌∙◌, ◌++◌, [], ℕ, List, Option, Some, None, Result, Ok, Err, ap, append_assoc, append-nil, inr, refl, subst, sym}
 use Rattle.i3c_lines.specs.declared.command.Command.{Command}
 use Rattle.i3c_lines.specs.declared.refusals.Refusal.{Refusal}
@@ -7,7 +7,7 @@ use Rattle.i3c_lines.specs.Forms.{IsCommand}
 use Rattle.i3c_script.specs.declared.stage.Stage.{Stage}
 use Rattle.i3c_script.specs.Obeying.{IsObeyed, ScriptState}
 use Rattle.i3c_script.specs.Telling.{Prints}
-use Rattle.i3c_facts.specs.declared.holding.Before.{Before}
+use Rattle.i3c_facts.specs.declared.before.Before.{Before}
 use Rattle.i3c_scenario.specs.Expecting.{LastsAt, Standing, lasting_text, still_lasting, unmet_with, went}
 use Rattle.i3c_scenario.specs.ScriptSteps.{Outlasts, ReadsCounted, noted}
 

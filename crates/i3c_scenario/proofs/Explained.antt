@@ -14,7 +14,7 @@ ascii_twice : (xs : List ℕ) → map ascii (map ascii xs) ≡ map ascii xs
 ascii_twice [] = refl
 ascii_twice (x ∷ xs) = ap (λ y. y ∷ map ascii (map ascii xs)) (ascii_once x) ∙ ap (λ ys. ascii x ∷ ys) (ascii_twice xs)
 
--- what was read of a text that was read
+-- the part of a text that was read
 read_twice : (known : Option (List ℕ)) (text told : List ℕ) → IfSome known (λ bytes. text ≡ map ascii bytes) → told ≡ map ascii text → IfSome known (λ bytes. told ≡ map ascii bytes)
 read_twice None text told read again = tt
 read_twice (Some bytes) text told read again = again ∙ ap (map ascii) read ∙ ascii_twice bytes

@@ -1,4 +1,4 @@
--- The first of the places at which a byte stands.
+-- The first place of a byte.
 use Rattle.std.proofs.Common.{◌≡◌, ℕ, zero, suc, ◌+◌, ◌-◌, Bool, List, [], ◌∷◌, length, Option, Some, None, arith, subst, sym, ◌∙◌, ⊎_elim, slice_index}
 use Rattle.std.proofs.lemmas.Bool.{cases_Bool, cond-true, cond-false, false≢true}
 use Rattle.memchr.specs.Find.{IsFirstByte, Nowhere, NoneBefore, Passes, TakesFirst, places, places_from}

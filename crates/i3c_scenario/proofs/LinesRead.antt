@@ -27,7 +27,7 @@ read_beyond known now next left count chunk bytes is piece room =
       omega (arith, ap length split, length-append bytes (take n chunk), length-take n chunk, larger, fits, room, is.1),
     )
 
--- a feed behind so many bytes
+-- the bytes up to a feed, and the feed
 take_feed : (bytes : List ℕ) (end : ℕ) → slice_get bytes end ≡ Some 10 → take (suc end) bytes ≡ take end bytes ++ 10 ∷ []
 take_feed [] end e = absurd cc
 take_feed (byte ∷ bytes) zero e = let feed : byte ≡ 10 = cc in ap (λ b. b ∷ []) feed
@@ -36,7 +36,7 @@ take_feed (byte ∷ bytes) (suc end) e = ap (λ b. byte ∷ b) (take_feed bytes 
 whole_rest : (next : ℕ) (bytes : List ℕ) → take (length bytes - next) (drop next bytes) ≡ drop next bytes
 whole_rest next bytes = take_all (length bytes - next) (drop next bytes) (omega (arith, length-drop next bytes))
 
--- the next line, which ends so many bytes later
+-- the next line, which ends `end` bytes later
 pub gives : (next end : ℕ) (bytes : List ℕ) → slice_get (take (length bytes - next) (drop next bytes)) end ≡ Some 10 → HasNoFeed (take end (take (length bytes - next) (drop next bytes)))
     → HasNoFeed (take (next + end - next) (drop next bytes)) × (take (next + end + 1) bytes ≡ take next bytes ++ (take (next + end - next) (drop next bytes) ++ 10 ∷ []))
 gives next end bytes feed none =

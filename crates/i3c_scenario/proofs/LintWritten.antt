@@ -25,7 +25,6 @@ pub three : {E : Type 0} → (r : Result (Unit {0}) E) (t a b c x1 x2 x3 : List 
 three (Ok done) t a b c x1 x2 x3 e1 e2 e3 = e3 ∙ ap (λ x. x ++ c) (e2 ∙ ap (λ x. x ++ b) e1) ∙ append_assoc (t ++ a) b c ∙ append_assoc t a (b ++ c)
 three (Err e) t a b c x1 x2 x3 e1 e2 e3 = tt
 
--- and four
 pub four : {E : Type 0} → (r : Result (Unit {0}) E) (t a b c d x1 x2 x3 x4 : List ℕ) → x1 ≡ t ++ a → x2 ≡ x1 ++ b → x3 ≡ x2 ++ c → OnOk r (x4 ≡ x3 ++ d)
     → OnOk r (x4 ≡ t ++ (a ++ (b ++ (c ++ d))))
 four (Ok done) t a b c d x1 x2 x3 x4 e1 e2 e3 e4 =

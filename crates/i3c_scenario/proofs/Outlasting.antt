@@ -1,7 +1,7 @@
 -- Expectations that last, tested one after another.
 use Rattle.std.proofs.Common.{◌≡◌, ◌∙◌, ℕ, Bool, true, false, List, [], ◌∷◌, ◌++◌, ap, append_assoc, append-nil, refl, sym}
 use Rattle.i3c_base.specs.State.{State}
-use Rattle.i3c_facts.specs.declared.holding.Before.{Before}
+use Rattle.i3c_facts.specs.declared.before.Before.{Before}
 use Rattle.i3c_lines.specs.declared.names.Names.{Names}
 use Rattle.i3c_scenario.specs.declared.lasting.Lasting.{Lasting}
 use Rattle.i3c_scenario.specs.Expecting.{is_met, lasting_line, lasting_text, lasts_if, still_lasting, unmet_if, unmet_with}
@@ -38,7 +38,7 @@ pub still_tested : (st : State) (names : Names) (before : Before) (all : List La
 still_tested st names before all one still new holds same so_far more =
     more ∙ ap (λ l. l ++ lasts_if holds one []) so_far ∙ ap (λ h. still_lasting st names before all ++ lasts_if h one []) same ∙ sym (still_more st names before all one)
 
--- what was told
+-- the text that the tests told
 pub told_tested : (st : State) (names : Names) (before : Before) (all : List Lasting) (one : Lasting) (old text new : List ℕ) (holds : Bool)
     → holds ≡ is_met st names before one.facts → text ≡ old ++ lasting_text st names before all → new ≡ text ++ lasting_line st names before one holds → new ≡ old ++ lasting_text st names before (all ++ one ∷ [])
 told_tested st names before all one old text new holds same so_far more =

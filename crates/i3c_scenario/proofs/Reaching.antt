@@ -7,7 +7,7 @@ use Rattle.i3c_script.specs.Making.{Made}
 use Rattle.i3c_script.specs.Obeying.{IsBegun, ScriptState}
 use Rattle.i3c_script.specs.Ran.{Ran}
 use Rattle.i3c_script.proofs.Reaching.{IsSound, at_on}
-use Rattle.i3c_facts.specs.declared.claims.Claim.{Claim}
+use Rattle.i3c_facts.specs.declared.facts.Claim.{Claim}
 use Rattle.i3c_facts.specs.declared.marks.Mark.{Mark}
 use Rattle.i3c_scenario.specs.Expecting.{AlwaysAt, HasBegun, LastsAt, MarkDoes, Standing, TestsAt, counted, lasting_from, went}
 use Rattle.i3c_scenario.specs.declared.lasting.Lasting.{Lasting}

@@ -1,4 +1,4 @@
--- What was read of a script, chunk by chunk, and what it came to.
+-- The bytes that were read of a script, chunk by chunk, and the result.
 use Rattle.std.proofs.Common.{◌≡◌, ◌<◌, ◌≤◌, ◌∙◌, ℕ, ◌-◌, List, [], ◌∷◌, ◌++◌, length, take, drop, arith, Option, Some, None, Result, Ok, Err, IfSome, ap, append_assoc, append-nil, length-append, refl, subst, sym}
 use Rattle.std.proofs.lemmas.List.{length-take, take-append-drop, take-take}
 use Rattle.std.proofs.Math.Seq.{take-append_seam}
@@ -26,7 +26,7 @@ script_is (Some xs) None read front rest consumed same = absurd consumed
 script_is (Some xs) (Some ys) read front rest consumed same =
     sym (append_assoc front rest (ys ++ 10 ∷ [])) ∙ ap (λ bytes. bytes ++ (ys ++ 10 ∷ [])) (sym same) ∙ sym (append_assoc read ys (10 ∷ [])) ∙ ap (λ bytes. bytes ++ 10 ∷ []) (sym consumed)
 
--- the same where nothing is left
+-- the same when nothing is left
 pub ended_is : (known left : Option (List ℕ)) (read bytes : List ℕ) → Consumes known left read → IsAtEnd left → read ++ 10 ∷ [] ≡ bytes → IfSome known (λ script. bytes ≡ script ++ 10 ∷ [])
 ended_is None left read bytes consumed end same = tt
 ended_is (Some xs) None read bytes consumed end same = absurd consumed
@@ -80,7 +80,7 @@ unread_part known now left old new held from to room so_far kept =
       out = (puts_whole old new (lines_out so_far.runs.lines) so_far.runs.out, (so_far.rest, so_far.runs.one, subst (Consumes known left) so_far.runs.same consumed));
     }
 
--- nothing was read
+-- nothing was read yet
 pub none_so_far : (known old : Option (List ℕ)) (held : List ℕ) (at : Progress) → held ≡ [] → ReadSoFar known known old old held at at 1048576
 none_so_far known old held at none =
     record { read = []; rest = []; consumed = none_read known [] refl; few = omega arith; runs = no_line [] (written old) at no_feed_in_none; begun = none }
@@ -98,7 +98,7 @@ pub leaves_all : (known : Option (List ℕ)) (most : ℕ) → Leaves most known 
 leaves_all None most = tt
 leaves_all (Some xs) most = omega arith
 
--- so many bytes are left of the most
+-- as many bytes are left as before, without those that were read
 pub leaves_more : (known now next : Option (List ℕ)) (chunk : List ℕ) (most left count : ℕ) → Leaves most known now left → Consumes now next (take count chunk) → count ≤ left → count ≤ length chunk
     → Leaves most known next (left - count)
 leaves_more None now next chunk most left count leaves consumed within room = tt
@@ -112,7 +112,7 @@ leaves_more (Some xs) (Some ys) (Some zs) chunk most left count leaves consumed 
 pub none_run : (known old : Option (List ℕ)) (start : Standing) → HasBegun start → LinesGoOut known known old old (Err ScriptFault.Memory)
 none_run known old start begun = no_part known old start begun
 
--- a script of which a part was run, from its start
+-- a script that was run in part, from its start
 pub part_run : (known left old new : Option (List ℕ)) (from : Progress) (fault : ScriptFault) → HasBegun from.state → ReadPart known left old new from fault → LinesGoOut known left old new (Err fault)
 part_run known left old new from fault begun part = record {
   lines = part.lines;
@@ -122,7 +122,7 @@ part_run known left old new from fault begun part = record {
   out = part.out;
 }
 
--- a piece more
+-- one piece more was read
 pub more_so_far : (known now next old mid new : Option (List ℕ)) (held held2 chunk : List ℕ) (from c1 c2 : Progress) (left count : ℕ)
     → (so_far : ReadSoFar known now old mid held from c1 left) → count ≤ left → count ≤ length chunk → Consumes now next (take count chunk)
     → (rest : List ℕ) → RunsTo (so_far.rest ++ take count chunk) rest (written mid) (written new) c1 c2 → held2 ≡ take 257 rest → ReadSoFar known next old new held2 from c2 (left - count)
@@ -135,7 +135,7 @@ more_so_far known now next old mid new held held2 chunk from c1 c2 left count so
   begun = begun;
 }
 
--- a piece at one of whose lines the run stops
+-- a piece with a line at which the run stops
 pub stopped_in : (known now next old mid new : Option (List ℕ)) (held chunk : List ℕ) (from c1 : Progress) (left count n : ℕ) (fault : ScriptFault)
     → (so_far : ReadSoFar known now old mid held from c1 left) → count ≤ n → Consumes now next (take n chunk) → RunStops (so_far.rest ++ take count chunk) (written mid) (written new) c1 fault → ReadPart known next old new from fault
 stopped_in known now next old mid new held chunk from c1 left count n fault so_far within consumed stops =

@@ -36,7 +36,7 @@ its_refusals (Ok done) = refl
 its_refusals (Err Stop.Memory) = refl
 its_refusals (Err (Stop.Refused why)) = refl
 
--- whoever passes isn't short of memory
+-- a result that passes isn't short of memory
 pub passes : (result : Result (Unit {0}) ScriptFault) (done : Unit {0}) → result ≡ Ok done → result ≡ Err ScriptFault.Memory → ⊥
 passes result done one two = subst (λ r. MatchResult r (λ _. ⊥) (λ _. Unit {0})) (sym two ∙ one) tt
 
@@ -73,7 +73,7 @@ no_form_whole line none = if_short (cases_lt 256 (length (take 257 line))) where
 mark_short : (n : ℕ) (line : List ℕ) → length line ≤ n → take (suc n) line ≡ line
 mark_short n line short = take_all (suc n) line (omega (arith, short))
 
--- whatever may not stand by its first bytes may not
+-- a line is bad if its first bytes are
 bad_whole : (line : List ℕ) → IsBad (take 257 line) → IsBad line
 bad_whole line (form, none) = (no_form_whole line form, λ marked. none (subst IsMarked (sym (mark_short 256 line marked.1.0)) marked))
 
@@ -125,7 +125,7 @@ drop_next [] (suc end) = refl
 drop_next (byte ∷ rest) zero = refl
 drop_next (byte ∷ rest) (suc end) = drop_next rest end
 
--- the same, with what follows the feed as a slice of what follows the line
+-- the same, with the bytes behind the feed as a slice of those behind the line
 pub next_line : (rest line after : List ℕ) (end : ℕ) → end < length rest → slice_get rest end ≡ Some 10 → line ≡ take end rest → after ≡ drop end rest
     → rest ≡ (line ++ 10 ∷ []) ++ take (length after - 1) (drop 1 after)
 next_line rest line after end h e first behind =
@@ -237,7 +237,7 @@ held_runs begun bytes old new from to (Ok done) one two ends =
 held_runs begun bytes old new from to (Err fault) one two ends =
     subst (λ b. RunStops b old new from fault) (append_assoc begun bytes (10 ∷ [])) (line_stops fault (begun ++ bytes) old new from (no_feed_in_both begun bytes one two) (stops_whole fault (begun ++ bytes) old new from ends))
 
--- what a line did that was run
+-- the effect of a line that was run
 pub line_ran : (line text : List ℕ) (outcome : Result (Unit {0}) (Stop Refusal)) (old new : Output) (from to : Progress)
     → LineRuns from.state line text (refusal_in outcome) to.state → Puts old new (text ++ end_text outcome) → to.refused ≡ min (from.refused + refusals outcome) 18446744073709551615 → LineDone line old new from to
 line_ran line text outcome old new from to does out count = record {

@@ -67,7 +67,7 @@ unfolding IsLie
 err_keeps known old new (Ok tally) is kept = absurd (subst IsLie is tt)
 err_keeps known old new (Err fault) is kept = inl kept
 
--- what holds anyhow
+-- a fact that holds whatever the result
 pub anyhow : {E A : Type 0} (P : Type 0) (result : Result A E) → P → OnOk result P
 anyhow P (Ok x) h = h
 anyhow P (Err e) h = tt

@@ -22,7 +22,7 @@ too_many (Some xs) None items left most one room over = absurd one
 too_many (Some xs) (Some ys) items left most one room over =
     let all : length xs ≡ length (items ++ ys) = ap length one in omega (arith, all, length-append items ys, room, over)
 
--- what was read to the end is all that there was
+-- a text that was read to its end was read whole
 pub all_read : (a b : Option (List ℕ)) (items : List ℕ) (P : List ℕ → Type 0) → Consumes a b items → IsAtEnd b → P items → IfSome a P
 all_read None b items P one end h = tt
 all_read (Some xs) None items P one end h = absurd one

@@ -36,7 +36,7 @@ length_more : (lines : List LineRun) (run : LineRun) → length (lines ++ run �
 length_more [] run = omega arith
 length_more (one ∷ lines) run = omega (arith, length_more lines run)
 
--- the lines that were run so far, of which the next has this number
+-- the lines that were run so far, and the number of the next one
 pub record WatchedSoFar (watching : Watching) (known now old new : Option (List ℕ)) (reader : ScriptLines) (from to : Progress) (at : ℕ) : Type 0 where
   pub lines : List LineRun
   pub run : LinesLead from.state lines to.state

@@ -2,7 +2,7 @@
 use Rattle.std.specs.Prelude.{◌≡◌, ℕ, ◌+◌, ◌≤◌}
 use Rattle.i3c_scenario.specs.declared.report.Counted.{Counted}
 
--- no more was posted than tried, what was posted was accepted or refused, and what was accepted is recorded or waits
+-- the posts are at most the tries, each post was accepted or refused, and each accepted one is recorded or waits
 pub record Agree (tried posted : ℕ) (c : Counted) : Type 0 where
   pub within : posted ≤ tried
   pub taken : posted ≡ c.accepted + c.refused

@@ -80,7 +80,7 @@ pub record ChecksWhole (known old new : Option (List ℕ)) (from to : Names) (be
   pub out : Appends old new (checks_out lines)
   pub counted : min after 18446744073709551615 ≡ min (before + checks_told lines) 18446744073709551615
 
--- the first lines of a script were checked, and then a fault ended the check: a beginning of what was told of them went out
+-- the first lines of a script were checked, and then a fault ended the check: a prefix of the output was written out
 pub record ChecksPart (known old new : Option (List ℕ)) (from : Names) : Type 0 where
   pub lines : List LineCheck
   pub to : Names
@@ -89,7 +89,7 @@ pub record ChecksPart (known old new : Option (List ℕ)) (from : Names) : Type 
   pub first : IfSome known (λ script. checks_bytes lines ++ rest ≡ script ++ 10 ∷ [])
   pub out : AppendsSome old new (checks_out lines)
 
--- what the check of a script comes to
+-- the result of the check of a script
 abbrev pub ChecksAll : Option (List ℕ) → Option (List ℕ) → Option (List ℕ) → Names → Names → ℕ → ℕ → Result (Unit {0}) ScriptFault → Type 0
 ChecksAll known old new from to before after result = MatchResult result (λ _. ChecksWhole known old new from to before after) (λ _. ChecksPart known old new from)
 

@@ -14,7 +14,7 @@ abbrev pub is_raised : Reply → Bool
 is_raised (Reply.Raised number) = true
 is_raised reply = false
 
--- the raise is accepted
+-- the entry is an accepted raise
 abbrev pub is_accepted : Entry → Bool
 is_accepted e = is_raise e.event && is_raised e.reply
 

@@ -2,8 +2,8 @@
 use Rattle.std.specs.Prelude.{◌≡◌, ℕ, ◌+◌, Bool, true, false, List, [], ◌∷◌, ◌++◌, codes, min, Option, Some, None, slice_index_or}
 use Rattle.std.specs.Fmt.{decimal}
 use Rattle.i3c_base.specs.State.{State}
-use Rattle.i3c_facts.specs.declared.claims.Claim.{Claim}
-use Rattle.i3c_facts.specs.declared.holding.Before.{Before}
+use Rattle.i3c_facts.specs.declared.facts.Claim.{Claim}
+use Rattle.i3c_facts.specs.declared.before.Before.{Before}
 use Rattle.i3c_facts.specs.declared.marks.Mark.{Mark}
 use Rattle.i3c_facts.specs.Forms.{IsMark}
 use Rattle.i3c_facts.specs.Holding.{came_to, claims_hold}
@@ -17,7 +17,8 @@ use Rattle.i3c_scenario.specs.declared.lasting.Lasting.{Lasting}
 use Rattle.i3c_script.specs.declared.stage.Stage.{Stage}
 use Rattle.i3c_script.specs.Obeying.{IsBegun, ScriptState}
 
--- where a script is between two lines: its bus and names, the number of the line before, what the last command came to, how many expectations weren't met, and those that last
+-- the state of a script between two lines: its bus and names, the number of the previous line, the result of the last
+-- command, the number of expectations not met, and the lasting ones
 pub record Standing : Type 0 where
   pub script : ScriptState
   pub lines : ℕ
@@ -41,7 +42,7 @@ one_more count = min (count + 1) 18446744073709551615
 abbrev pub counted : Standing → Standing
 counted old = record old { lines = one_more old.lines }
 
--- a command led to this state, and came to this
+-- a command led to this state, with this result
 abbrev pub went : Standing → ScriptState → Option Refusal → Standing
 went now script refused = record now { script = script; before = came_to refused }
 
@@ -54,7 +55,7 @@ unmet_if false unmet = one_more unmet
 abbrev pub tested : Standing → Bool → Standing
 tested now met = record now { unmet = unmet_if met now.unmet }
 
--- whether one of these claims holds of a bus, with these names and what the line before came to
+-- whether one of these claims holds of a bus, with these names and this result of the previous line
 abbrev pub is_met : State → Names → Before → List Claim → Bool
 is_met st names before facts = claims_hold st (place_named names) before facts
 
@@ -87,12 +88,12 @@ abbrev pub lasting_text : State → Names → Before → List Lasting → List �
 lasting_text st names before [] = []
 lasting_text st names before (one ∷ rest) = lasting_line st names before one (is_met st names before one.facts) ++ lasting_text st names before rest
 
--- it lasts on where it holds
+-- the lasting expectations with one more, if it holds
 abbrev pub lasts_if : Bool → Lasting → List Lasting → List Lasting
 lasts_if true one rest = one ∷ rest
 lasts_if false one rest = rest
 
--- those of them that hold
+-- the lasting expectations that hold
 abbrev pub still_lasting : State → Names → Before → List Lasting → List Lasting
 still_lasting st names before [] = []
 still_lasting st names before (one ∷ rest) = lasts_if (is_met st names before one.facts) one (still_lasting st names before rest)
@@ -121,7 +122,8 @@ AlwaysAt now (Stage.Running ran) facts said refused new =
     let holds = is_met ran.state now.script.names now.before facts in
     (said ≡ lasting_line ran.state now.script.names now.before one holds) × (refused ≡ None) × (new ≡ lasting_from now one holds)
 
--- what a mark does: expectations are tested, a block's end is the end of those that last, and what says which lines may overlap does nothing
+-- the effect of a mark: expectations are tested, the end of a block ends the lasting ones, and a mark of overlapping lines
+-- does nothing
 abbrev pub MarkDoes : Standing → Mark → List ℕ → Option Refusal → Standing → Type 0
 MarkDoes now (Mark.Expect facts) said refused new = TestsAt now now.script.stage facts said refused new
 MarkDoes now (Mark.Always facts) said refused new = AlwaysAt now now.script.stage facts said refused new

@@ -21,7 +21,7 @@ GivesLine old new = HasNoFeed (line_in_hand new) × (given new ≡ given old ++ 
 abbrev pub StaysAt : ScriptLines → ScriptLines → Type 0
 StaysAt old new = (new.start ≡ old.start) × (new.end ≡ old.end) × (new.next ≡ old.next) × (given new ≡ given old)
 
--- what was read of a script's bytes, of which so many are left; behind the end of a script stands one more line feed
+-- the bytes that were read of a script, of which `left` remain; one more line feed is put behind the end of a script
 abbrev pub IsReadAs : Reading → Option (List ℕ) → Option (List ℕ) → List ℕ → Type 0
 IsReadAs Reading.Open known left bytes = Consumes known left bytes × (length bytes ≤ 1048576)
 IsReadAs Reading.Ended known left bytes = (read : List ℕ) × Consumes known left read × IsAtEnd left × (length read ≤ 1048576) × (bytes ≡ read ++ 10 ∷ [])

@@ -18,7 +18,7 @@ use Rattle.i3c_scenario.specs.declared.script.Tally.{Tally}
 use Rattle.i3c_scenario.specs.Outcomes.{AppendsSome}
 use Rattle.i3c_scenario.specs.Traces.{ascii, refusals_in, GoesOut}
 
--- what is due where a text stops being a trace
+-- the symbol expected at the point where a text stops being a trace
 abbrev pub due_text : Due → List ℕ
 due_text Due.Symbol = codes ": no symbol"
 due_text Due.Header = codes ": a header is due"
@@ -37,16 +37,16 @@ more_text count = if nat_lt 16 count then codes ".." else []
 abbrev pub part_text : List ℕ → List ℕ
 part_text part = codes " '" ++ (map printable (take 16 part) ++ (more_text (length part) ++ codes "'"))
 
--- a text that stands where a symbol does, if there is one
+-- a text in the place of a symbol, if there is one
 abbrev pub parted_text : Option (List ℕ) → List ℕ
 parted_text None = []
 parted_text (Some part) = part_text part
 
--- what stands where a text stops being a trace, and what is due
+-- the text in the place where a text stops being a trace, and the symbol expected there
 abbrev pub cause_text : Break → List ℕ
 cause_text broken = parted_text (option_copied broken.part) ++ (due_text broken.due ++ 10 ∷ [])
 
--- the line of it
+-- the line that tells where a text stops being a trace
 abbrev pub broken_text : Break → List ℕ
 broken_text broken = number_text (codes "frame ") broken.frame ++ (number_text (codes ": symbol ") broken.symbol ++ cause_text broken)
 
@@ -65,7 +65,7 @@ abbrev pub line_faults : LintLine → ℕ
 line_faults (Shown decoded) = refusals_in decoded
 line_faults (Faulty fault) = 1
 
--- how many several are
+-- the number of faults among these lines
 abbrev pub all_faults : List LintLine → ℕ
 all_faults [] = 0
 all_faults (line ∷ rest) = line_faults line + all_faults rest
@@ -75,7 +75,7 @@ abbrev pub faults_in : Report → ℕ
 faults_in (Report.Decoded decoded) = refusals_in decoded
 faults_in (Report.Faults faults) = length faults.items
 
--- the lines of frames, and of what follows them
+-- the lines of frames, and of the text behind them
 abbrev pub frames_text : ℕ → Frames → List ℕ
 frames_text legacies frames = lint_text frames.symbols.items (trace_linted legacies frames.symbols.items) ++ break_text frames.broken
 
@@ -83,7 +83,7 @@ frames_text legacies frames = lint_text frames.symbols.items (trace_linted legac
 abbrev pub frames_faults : ℕ → Frames → ℕ
 frames_faults legacies frames = all_faults (trace_linted legacies frames.symbols.items) + breaks frames.broken
 
--- the known bytes come to these lines, and to so many faults
+-- the known bytes give these lines, and this number of faults
 pub record CameToLinted (legacies : ℕ) (known : Option (List ℕ)) (lines : List ℕ) (faults : ℕ) : Type 0 where
   pub text : List ℕ
   pub read : IfSome known (λ bytes. text ≡ map ascii bytes)
@@ -99,7 +99,7 @@ GoesOutLinted legacies known old new result =
     (λ tally. (lines : List ℕ) × CameToLinted legacies known lines tally.refused × Appends old new lines)
     (λ _. Keeps old new ⊎ ((lines : List ℕ) × (faults : ℕ) × CameToLinted legacies known lines faults × AppendsSome old new lines))
 
--- what goes out where faults are asked for, with the addresses of legacy targets, or aren't
+-- the output with faults, given the addresses of legacy targets, or without
 abbrev pub GoesOutAs : Option Addresses → Option (List ℕ) → Option (List ℕ) → Option (List ℕ) → Result Tally ScriptFault → Type 0
 GoesOutAs None known old new result = GoesOut known old new result
 GoesOutAs (Some legacies) known old new result = GoesOutLinted legacies.0 known old new result

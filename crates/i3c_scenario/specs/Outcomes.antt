@@ -1,4 +1,4 @@
--- What comes of a script's lines: what they printed, and how the run ended.
+-- The results of a script's lines: their output, and the run's end.
 use Rattle.std.specs.Prelude.{◌≡◌, ◌≢◌, ◌⊎◌, ℕ, ◌≤◌, List, [], ◌++◌, length, take, All, Option, Result, Ok, Err}
 use Rattle.std.specs.Io.KnownBytes.{Appends}
 use Rattle.i3c_scenario.specs.declared.faults.ScriptFault.{ScriptFault}
@@ -11,7 +11,7 @@ HasNoFeed bytes = All (λ byte. byte ≢ 10) bytes
 abbrev pub AppendsSome : Option (List ℕ) → Option (List ℕ) → List ℕ → Type 0
 AppendsSome old new text = (count : ℕ) × (count ≤ length text) × Appends old new (take count text)
 
--- known bytes grow by the front of a text, of which this is left
+-- known bytes grow by the front of a text, and `left` is the rest of it
 abbrev pub WritesFront : Option (List ℕ) → Option (List ℕ) → List ℕ → List ℕ → Type 0
 WritesFront old new text left = (front : List ℕ) × Appends old new front × (text ≡ front ++ left)
 
@@ -31,11 +31,12 @@ written out = output out []
 abbrev pub Puts : Output → Output → List ℕ → Type 0
 Puts old new text = WritesFront old.out new.out (old.gathered ++ text) new.gathered
 
--- of what is gathered and this text a beginning goes out
+-- a prefix of the gathered output and this text is written out
 abbrev pub PutsSome : Output → Output → List ℕ → Type 0
 PutsSome old new text = AppendsSome old.out new.out (old.gathered ++ text)
 
--- what comes of a text that is to be put behind: for want of memory nothing of it is, and a writer that fails took a beginning
+-- the result of putting a text behind an output: for want of memory nothing of it is put, and a writer that fails took a
+-- prefix
 abbrev pub PutsOrFails : Output → Output → List ℕ → Result (Unit {0}) ScriptFault → Type 0
 PutsOrFails old new text (Ok done) = Puts old new text
 PutsOrFails old new text (Err ScriptFault.Memory) = Puts old new []
@@ -43,7 +44,7 @@ PutsOrFails old new text (Err ScriptFault.Write) = PutsSome old new text
 PutsOrFails old new text (Err ScriptFault.Read) = ⊥
 PutsOrFails old new text (Err ScriptFault.TooLarge) = ⊥
 
--- what was gathered goes out in the end, whatever lines came to; but nothing goes to a writer that failed
+-- the gathered output is written out at the end, whatever the result of the lines; but nothing goes to a writer that failed
 abbrev pub GoesLast : Option (List ℕ) → Option (List ℕ) → List ℕ → Result (Unit {0}) ScriptFault → Result (Unit {0}) ScriptFault → Type 0
 GoesLast old new gathered (Err ScriptFault.Write) result = (result ≡ Err ScriptFault.Write) × (new ≡ old)
 GoesLast old new gathered outcome result = ((result ≡ outcome) × Appends old new gathered) ⊎ ((result ≡ Err ScriptFault.Write) × AppendsSome old new gathered)

@@ -3,13 +3,13 @@ use Rattle.std.specs.Prelude.{◌≡◌, ℕ, ◌+◌, ◌<◌, ◌≤◌, List,
 use Rattle.std.specs.Io.KnownBytes.{Consumes, IsAtEnd}
 use Rattle.i3c_scenario.specs.declared.reading.Piece.{Piece}
 
--- from the one to the other so many bytes were read that of `most` so many are left
+-- the bytes read between the two, and `left`, which remain of `most`
 abbrev pub Leaves : ℕ → Option (List ℕ) → Option (List ℕ) → ℕ → Type 0
 Leaves most None new left = ⊤
 Leaves most (Some xs) None left = ⊥
 Leaves most (Some xs) (Some ys) left = length xs + left ≡ most + length ys
 
--- a turn of reading gave this, of bytes of which so many may still come: their end, some of them, or too many
+-- a turn of reading gave this piece, where `left` bytes are still allowed: the end, some bytes, or too many
 abbrev pub IsPiece : Option (List ℕ) → Option (List ℕ) → ℕ → List ℕ → Piece → Type 0
 IsPiece old new left chunk Piece.End = IsAtEnd old × Consumes old new [] × IsAtEnd new
 IsPiece old new left chunk (Piece.Within count) = (0 < count) × (count ≤ left) × (count ≤ length chunk) × Consumes old new (take count chunk)

@@ -1,4 +1,4 @@
--- What a report says of a bus that was closed.
+-- What a report says of a closed bus.
 use Rattle.std.specs.Prelude.{◌≡◌, ℕ, ◌+◌, ◌≤◌, List, length, sum}
 use Rattle.i3c_base.specs.declared.range.TheConstants.{SLOTS}
 use Rattle.i3c_base.specs.State.{State}
@@ -14,7 +14,8 @@ use Rattle.i3c_scenario.specs.Counting.{accepted_in, refused_in}
 abbrev pub IsOneSession : ℕ → Type 0
 IsOneSession frames = (3 ≤ frames) × (frames ≤ SLOTS + 2)
 
--- the run is legal, has so many frames, and leads to a state that has these records, and in which so many interrupts wait
+-- the run is legal, has this number of frames, and leads to a state that has these records and these numbers of waiting
+-- interrupts
 pub record WasOfBus (frames : ℕ) (run : List Entry) (records : List Record) (waiting : List ℕ) : Type 0 where
   pub end : State
   pub legal : IsLegalTo run end

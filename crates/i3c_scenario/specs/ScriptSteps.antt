@@ -7,7 +7,7 @@ use Rattle.i3c_text.specs.declared.stop.Stop.{Stop}
 use Rattle.i3c_scenario.specs.declared.script.Script.{Script}
 use Rattle.i3c_script.specs.Obeying.{script}
 use Rattle.i3c_script.specs.Telling.{Prints}
-use Rattle.i3c_facts.specs.declared.holding.Before.{Before}
+use Rattle.i3c_facts.specs.declared.before.Before.{Before}
 use Rattle.i3c_scenario.specs.Expecting.{LastsAt, Standing}
 use Rattle.i3c_scenario.specs.Outcomes.{HasNoFeed, Output, Puts, PutsSome, written}
 use Rattle.i3c_scenario.specs.Scripts.{CountedRuns, LineRun, LineRuns, LinesLead, OutBefore, lines_bytes, lines_out, lines_refused, refusals_of, refused_text}
@@ -23,7 +23,7 @@ state running = record { script = script running.stage running.names; lines = ru
 abbrev pub progress : Script → Progress
 progress running = record { state = state running; refused = running.refused }
 
--- what a line comes to, with what is printed before and after it; nothing is said of a line that memory is short for
+-- the result of a line, with the output before and after it; nothing is said of a line that memory is short for
 abbrev pub Reads : Standing → List ℕ → List ℕ → List ℕ → Result (Unit {0}) (Stop Refusal) → Standing → Type 0
 Reads old line before after result new = Prints (λ said refused. LineRuns old line said refused new) before after result
 
@@ -33,7 +33,7 @@ noted now (Ok done) = now
 noted now (Err (Stop.Refused why)) = record now { before = Before.Refused why }
 noted now (Err Stop.Memory) = now
 
--- what a line comes to that was counted
+-- the result of a line that was counted
 abbrev pub ReadsCounted : Standing → List ℕ → List ℕ → List ℕ → Result (Unit {0}) (Stop Refusal) → Standing → Type 0
 ReadsCounted now line before after result new = Prints (λ said refused. CountedRuns now line said refused new) before after result
 
@@ -53,7 +53,7 @@ Outlasts now before after (Err Stop.Memory) (Ok done) new = ⊥
 Outlasts now before after (Err Stop.Memory) (Err (Stop.Refused why)) new = ⊥
 Outlasts now before after (Err Stop.Memory) (Err Stop.Memory) new = ⊤
 
--- a line was run, and what it puts out was put behind and counted
+-- a line was run, and its output was put behind and counted
 pub record LineDone (line : List ℕ) (old new : Output) (from to : Progress) : Type 0 where
   pub said : List ℕ
   pub refused : Option Refusal
@@ -76,7 +76,7 @@ LineStops ScriptFault.Write line old new from = LineLost line old new from
 LineStops ScriptFault.Read line old new from = ⊥
 LineStops ScriptFault.TooLarge line old new from = ⊥
 
--- what a line comes to
+-- the result of a line
 abbrev pub LineEnds : List ℕ → Output → Output → Progress → Progress → Result (Unit {0}) ScriptFault → Type 0
 LineEnds line old new from to result = MatchResult result (λ _. LineDone line old new from to) (λ fault. LineStops fault line old new from)
 
@@ -105,11 +105,11 @@ pub record RunStops (bytes : List ℕ) (old new : Output) (from : Progress) (fau
   pub same : bytes ≡ lines_bytes lines ++ rest
   pub out : OutOf fault lines old new
 
--- what these bytes come to, where so much of a line was held after them
+-- the result of these bytes, behind which part of a line is held
 abbrev pub Takes : List ℕ → List ℕ → Output → Output → Progress → Progress → Result (Unit {0}) ScriptFault → Type 0
 Takes bytes held old new from to result = MatchResult result (λ _. (rest : List ℕ) × RunsTo bytes rest old new from to × (held ≡ take 257 rest)) (RunStops bytes old new from)
 
--- what these bytes come to
+-- the result of these bytes
 abbrev pub Runs : List ℕ → List ℕ → Output → Output → Progress → Progress → Result (Unit {0}) ScriptFault → Type 0
 Runs bytes rest old new from to result = MatchResult result (λ _. RunsTo bytes rest old new from to) (RunStops bytes old new from)
 
@@ -128,7 +128,7 @@ pub record ReadWhole (known left old new : Option (List ℕ)) (from to : Progres
   pub consumed : Consumes known left read
   pub runs : RunsTo (read ++ 10 ∷ []) [] (written old) (written new) from to
 
--- a fault ended the reading of a script, some of whose lines were run
+-- a fault ended the reading of a script, part of whose lines were run
 pub record ReadPart (known left old new : Option (List ℕ)) (from : Progress) (fault : ScriptFault) : Type 0 where
   pub lines : List LineRun
   pub rest : List ℕ
@@ -137,6 +137,6 @@ pub record ReadPart (known left old new : Option (List ℕ)) (from : Progress) (
   pub first : IfSome known (λ script. lines_bytes lines ++ rest ≡ script ++ 10 ∷ [])
   pub out : OutBefore fault known left old new lines
 
--- what the reading of a script comes to
+-- the result of reading a script
 abbrev pub ReadsAll : Option (List ℕ) → Option (List ℕ) → Option (List ℕ) → Option (List ℕ) → Progress → Progress → Result (Unit {0}) ScriptFault → Type 0
 ReadsAll known left old new from to result = MatchResult result (λ _. ReadWhole known left old new from to) (ReadPart known left old new from)

@@ -45,9 +45,9 @@ abbrev pub Lead : ScriptState → List LineRun → ScriptState → Type 0
 Lead old [] new = new ≡ old
 Lead old (run ∷ rest) new = (mid : ScriptState) × IsRun old run mid × Lead mid rest new
 
--- of a script: what a line that was counted prints, why it is refused, if it is, and where the script is after it. A mark that
--- isn't refused is none of the lines before that a later fact speaks of. Behind what a command prints stands which
--- expectations that last no longer hold
+-- of a script: the output of a line that was counted, its refusal, if it has one, and the state of the script after it. A
+-- mark that isn't refused isn't the previous line of a later fact. The lasting expectations that no longer hold follow the
+-- command's output
 abbrev pub CountedRuns : Standing → List ℕ → List ℕ → Option Refusal → Standing → Type 0
 CountedRuns now line said refused new = (IsBad line × (said ≡ []) × (refused ≡ Some Refusal.BadLine) × (new ≡ went now now.script (Some Refusal.BadLine)))
     ⊎ (IsSkipped line × (said ≡ []) × (refused ≡ None) × (new ≡ now))
@@ -104,7 +104,9 @@ pub record IsWhole (known old new : Option (List ℕ)) (tally : Tally) : Type 0 
   pub counted : tally.refused ≡ min (lines_refused lines) 18446744073709551615
   pub unmet : tally.unmet ≡ run.end.unmet
 
--- what these lines put out, as far as it went out before a fault. Where a line lacks memory, or the reader fails, or the script is too large, each line before that was written whole. A failed read, or the size limit, may fall inside a line; that line isn't run
+-- the output of these lines, as far as it was written before a fault. If a line lacks memory, or the reader fails, or the
+-- script is too large, the output of the lines before was written whole. A failed read, or the size limit, may fall inside a
+-- line; that line isn't run
 abbrev pub OutBefore : ScriptFault → Option (List ℕ) → Option (List ℕ) → Option (List ℕ) → Option (List ℕ) → List LineRun → Type 0
 OutBefore ScriptFault.Memory known left old new lines = Appends old new (lines_out lines)
 OutBefore ScriptFault.Write known left old new lines = AppendsSome old new (lines_out lines)
@@ -120,6 +122,6 @@ pub record IsPart (known left old new : Option (List ℕ)) (fault : ScriptFault)
   pub first : IfSome known (λ script. lines_bytes lines ++ rest ≡ script ++ 10 ∷ [])
   pub out : OutBefore fault known left old new lines
 
--- what goes out of a script of known bytes, of which some are left in the end
+-- the output of a script of known bytes, of which some are left at the end
 abbrev pub LinesGoOut : Option (List ℕ) → Option (List ℕ) → Option (List ℕ) → Option (List ℕ) → Result Tally ScriptFault → Type 0
 LinesGoOut known left old new result = MatchResult result (IsWhole known old new) (IsPart known left old new)

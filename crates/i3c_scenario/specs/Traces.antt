@@ -17,7 +17,7 @@ use Rattle.i3c_scenario.specs.Outcomes.{AppendsSome}
 abbrev pub ascii : ℕ → ℕ
 ascii byte = if nat_lt byte 128 then byte else 63
 
--- the lines of what is decoded in a trace
+-- the lines of the decoded parts of a trace
 abbrev pub lines_text : List Symbol → List Decoded → List ℕ
 lines_text trace decoded = flat_map (line_text trace) decoded
 
@@ -42,7 +42,7 @@ fault_line TraceFault.NoStart = codes "refused NoStart" ++ 10 ∷ []
 fault_line TraceFault.NoStop = codes "refused NoStop" ++ 10 ∷ []
 fault_line TraceFault.OutOfMemory = []
 
--- the text is a trace, with these lines and so many refusals
+-- the text is a trace, with these lines and this number of refusals
 pub record IsTraceTold (text lines : List ℕ) (refused : ℕ) : Type 0 where
   pub trace : List Symbol
   pub is_trace : IsTrace trace
@@ -58,7 +58,7 @@ pub record IsFaultTold (text lines : List ℕ) (refused : ℕ) : Type 0 where
   pub told : lines ≡ fault_line fault
   pub counted : refused ≡ 1
 
--- the known bytes come to these lines, and to so many refusals
+-- the known bytes give these lines, and this number of refusals
 pub record CameTo (known : Option (List ℕ)) (lines : List ℕ) (refused : ℕ) : Type 0 where
   pub text : List ℕ
   pub read : IfSome known (λ bytes. text ≡ map ascii bytes)

@@ -10,7 +10,7 @@ use Rattle.i3c_scenario.specs.ScriptSteps.{Progress}
 use Rattle.i3c_script.specs.Obeying.{wire_on}
 use Rattle.i3c_scenario.specs.Expecting.{HasBegun}
 
--- what a viewer may be after it was shown a line, what the line printed, and the symbols that it sent
+-- a viewer after it was shown a line, the line's output, and the symbols that it sent
 abbrev pub Views : Type 0 → Type 1
 Views V = V → List ℕ → List ℕ → List Symbol → V → Type 0
 
@@ -45,7 +45,7 @@ LineViewed gives line old new from to = (printed : List ℕ) × (wire : List Sym
 abbrev pub LineFailed : {V : Type 0} → Fails V → List ℕ → V → V → Progress → ScriptFault → Type 0
 LineFailed fails line old new from fault = (printed : List ℕ) × (wire : List Symbol) × (to : Progress) × LineRan line printed wire from to × fails old line printed wire fault new
 
--- what a line comes to: with a fault of the run the viewer wasn't shown it
+-- the result of a line: with a fault of the run the viewer wasn't shown it
 abbrev pub LineEnds : {V : Type 0} → Views V → Fails V → List ℕ → V → V → Progress → Progress → Result (Unit {0}) ScriptFault → Type 0
 LineEnds gives fails line old new from to result =
     MatchResult result (λ _. LineViewed gives line old new from to) (λ fault. (new ≡ old) ⊎ LineFailed fails line old new from fault)
@@ -97,7 +97,7 @@ pub record ViewedTo {V : Type 0} (gives : Views V) (fails : Fails V) (known : Op
 abbrev pub ViewedEnds : {V : Type 0} → Views V → Fails V → Option (List ℕ) → V → V → Progress → ScriptFault → Type 0
 ViewedEnds gives fails known old new from fault = ViewedPart gives known old new from ⊎ ViewedTo gives fails known old new from fault
 
--- what a run comes to
+-- the result of a run
 abbrev pub RunsViewed : {V : Type 0} → Views V → Fails V → Option (List ℕ) → V → V → Progress → Progress → Result (Unit {0}) ScriptFault → Type 0
 RunsViewed gives fails known old new from to result = MatchResult result (λ _. ViewedWhole gives known old new from to) (ViewedEnds gives fails known old new from)
 

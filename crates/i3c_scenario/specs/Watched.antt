@@ -30,7 +30,7 @@ echo_text (byte ∷ line) = codes "> " ++ ((byte ∷ line) ++ 10 ∷ [])
 abbrev pub echoed : Watching → List ℕ → List ℕ
 echoed watching line = if watching.echo then echo_text line else []
 
--- a text, each of whose lines begins with this number, if lines are numbered
+-- a text whose lines each begin with this number, if lines are numbered
 abbrev pub numbered_by : Watching → ℕ → List ℕ → List ℕ
 numbered_by watching number text = if watching.numbers then numbered (decimal number ++ codes ": ") true text else text
 
@@ -74,7 +74,7 @@ pub record LineRan (watching : Watching) (number : ℕ) (line shows : List ℕ) 
   pub text : shows ≡ shown watching number (record { line = line; said = said; refused = refused })
   pub count : to.refused ≡ min (from.refused + refusals_of refused) 18446744073709551615
 
--- a line was run, and a beginning of what is shown of it went out
+-- a line was run, and a prefix of its output was written out
 pub record LineCut (watching : Watching) (number : ℕ) (line : List ℕ) (old new : Option (List ℕ)) (from : Progress) : Type 0 where
   pub said : List ℕ
   pub refused : Option Refusal
@@ -83,12 +83,13 @@ pub record LineCut (watching : Watching) (number : ℕ) (line : List ℕ) (old n
   pub does : LineRuns from.state line said refused to
   pub out : AppendsSome old new (shown watching number (record { line = line; said = said; refused = refused }))
 
--- what ends the run at a line: a fault, before which a beginning of what is shown of the line went out, or nothing; or that the line has no form
+-- what ends the run at a line: a fault, before which a prefix of the line's output was written out, or nothing; or that the
+-- line has no form
 abbrev pub LineFails : Watching → ℕ → List ℕ → Option (List ℕ) → Option (List ℕ) → Progress → WatchFault → Type 0
 LineFails watching number line old new from (WatchFault.Script fault) = (new ≡ old) ⊎ LineCut watching number line old new from
 LineFails watching number line old new from (WatchFault.NoForm reason) = IsBad line × (watching.strict ≡ true) × (new ≡ old)
 
--- what a line comes to
+-- the result of a line
 abbrev pub LineEndsWatched : Watching → ℕ → List ℕ → Option (List ℕ) → Option (List ℕ) → Progress → Progress → Result (Unit {0}) WatchFault → Type 0
 LineEndsWatched watching number line old new from to result =
     MatchResult result (λ _. LineWatched watching number line old new from to) (LineFails watching number line old new from)
@@ -102,7 +103,7 @@ pub record WatchedWhole (watching : Watching) (known old new : Option (List ℕ)
   pub out : Appends old new (shown_out watching 1 lines)
   pub count : min to.refused 18446744073709551615 ≡ min (from.refused + lines_refused lines) 18446744073709551615
 
--- the first lines of a script were run, and then a fault ended the run: a beginning of what is shown of them went out
+-- the first lines of a script were run, and then a fault ended the run: a prefix of their output was written out
 pub record WatchedPart (watching : Watching) (known old new : Option (List ℕ)) (from : Progress) : Type 0 where
   pub lines : List LineRun
   pub to : Standing
@@ -130,7 +131,7 @@ abbrev pub WatchedEnds : Watching → Option (List ℕ) → Option (List ℕ) �
 WatchedEnds watching known old new from (WatchFault.Script fault) = WatchedPart watching known old new from
 WatchedEnds watching known old new from (WatchFault.NoForm reason) = WatchedTo watching known old new from
 
--- what a run comes to
+-- the result of a run
 abbrev pub RunsWatched : Watching → Option (List ℕ) → Option (List ℕ) → Option (List ℕ) → Progress → Progress → Result (Unit {0}) WatchFault → Type 0
 RunsWatched watching known old new from to result = MatchResult result (λ _. WatchedWhole watching known old new from to) (WatchedEnds watching known old new from)
 

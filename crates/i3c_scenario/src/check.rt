@@ -14,11 +14,11 @@ use i3c_text::Text;
 use std::alloc::{AllocError, Global};
 use std::io::{Read, Write};
 
-/// Checks a script without running it. It tells each line that has no form and is no mark, with its number,
-/// and why. It also tells each line that means a device by a name that no line before it gives, with the first such name. It
-/// counts the lines that are told.
+/// Checks a script without running it. It tells each line that has no form and is no mark, with its number and the reason. It
+/// also tells each line with a name that no line before it gives, and the first of these names. It counts the lines that are
+/// told.
 ///
-/// Where a script is too large, or the reader fails, each line whose line feed came before that is checked.
+/// If a script is too large, or the reader fails, the lines that were whole by then are checked.
 pub fn check_script<R: Read, W: Write>(
     alloc: Global,
     reader: &mut R,
@@ -59,7 +59,7 @@ impl Check {
     ghost use Rattle.i3c_scenario.specs.Expecting.{IsMarked};
     ghost use Rattle.i3c_scenario.specs.Checks.{ChecksAll, Gives, IsStart, IsToldLine, LineChecked, NameTold, tells};
 
-    /// Before the first line.
+    /// The check before the first line.
     fn new(alloc: Global) -> Check
         ensures start { IsStart result.names }
         ensures told { result.told ≡ 0 }

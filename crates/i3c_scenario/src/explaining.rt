@@ -68,7 +68,7 @@ fn explain(
     }
 }
 
-/// Says where a text stops being a trace, and what is due there.
+/// Says where a text stops being a trace, and which symbol is expected there.
 fn explain_break(broken: &Break<'_>, notes: &mut String) -> Result<(), AllocError> {
     let (frame, symbol) = (broken.frame, broken.symbol);
     let due = match broken.due {

@@ -147,7 +147,7 @@ fn push_number(label: &[u8], number: usize, text: &mut Text) -> Result<(), Alloc
     text.push_decimal(number as u64)
 }
 
-/// Appends the text that stands there, and what is due in its place.
+/// Appends the text that is there, and the symbol expected in its place.
 fn push_cause(broken: &Break<'_>, text: &mut Text) -> Result<(), AllocError>
     ensures { OnOk result (text.new ≡ text.old ++ cause_text broken.now) }
 {
@@ -156,7 +156,7 @@ fn push_cause(broken: &Break<'_>, text: &mut Text) -> Result<(), AllocError>
     text.end()
 }
 
-/// Appends the text that stands where a symbol does, if there is one.
+/// Appends the text in the place of a symbol, if there is one.
 fn push_standing(broken: &Break<'_>, text: &mut Text) -> Result<(), AllocError>
     ensures { OnOk result (text.new ≡ text.old ++ parted_text (option_copied broken.now.part)) }
 {
@@ -166,7 +166,7 @@ fn push_standing(broken: &Break<'_>, text: &mut Text) -> Result<(), AllocError>
     }
 }
 
-/// Appends the text of what is no symbol, in quotes: its first bytes, if it is longer.
+/// Appends a text that is no symbol, in quotes: its first bytes, if it is longer.
 fn push_part(part: &[u8], text: &mut Text) -> Result<(), AllocError>
     ensures { OnOk result (text.new ≡ text.old ++ part_text part.now) }
 {
@@ -187,7 +187,7 @@ fn front_of(part: &[u8]) -> &[u8]
     }
 }
 
-/// What follows them, where the text has so many bytes.
+/// The text behind them, for a text of `count` bytes.
 fn more_text(count: usize) -> &'static [u8]
     ensures { result.now ≡ more_text count }
 {
@@ -213,7 +213,7 @@ fn printable(byte: u8) -> u8
     if byte < 32 || byte > 126 { b'?' } else { byte }
 }
 
-/// The text of what is due.
+/// The text of an expected symbol.
 fn due_text(due: Due) -> &'static [u8]
     ensures { result.now ≡ due_text due }
 {

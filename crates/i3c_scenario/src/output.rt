@@ -11,7 +11,7 @@ use memchr::memchr_iter;
 use std::alloc::AllocError;
 use std::io::{ErrorKind, Write};
 
-/// What lines print goes out once so many bytes of it are gathered.
+/// The output of lines is written out once this many bytes of it are gathered.
 const GATHERED: usize = 1024;
 
 /// What ends a line.
@@ -24,7 +24,7 @@ pub fn position_of_feed(bytes: &[u8]) -> Option<usize>
     first_feed(bytes)
 }
 
-/// Where the first line feed stands. As a rule it is near, which a search for all of them begins with.
+/// The place of the first line feed. As a rule it is near; a search for all of them begins the same way.
 fn first_feed(bytes: &[u8]) -> Option<usize>
     ensures { IsFirstByte (is_byte LINE_FEED) bytes.now result }
 {
@@ -71,7 +71,8 @@ pub(crate) fn write_gathered<W: Write>(gathered: &mut Text, out: &mut W) -> Resu
     Ok(())
 }
 
-/// Writes out what is gathered in the end, whatever the lines came to. But to a writer that failed nothing is written.
+/// Writes out the gathered output at the end, whatever the result of the lines. But it writes nothing to a writer that
+/// failed.
 pub(crate) fn write_last<W: Write>(
     outcome: Result<(), ScriptFault>,
     gathered: &[u8],

@@ -16,13 +16,13 @@ pub(crate) const CHUNK: usize = 8192;
 pub(crate) enum Piece {
     /// The input ended.
     End,
-    /// So many bytes came, no more than may still come.
+    /// This many bytes came; they are allowed.
     Within(usize),
-    /// More bytes came than may still come, which are so many.
+    /// More bytes came than are allowed; this many were.
     Beyond(usize),
 }
 
-/// Reads the next bytes of an input, of which so many may still come.
+/// Reads the next bytes of an input, of which at most `left` more are allowed.
 pub(crate) fn read_piece<R: Read>(
     reader: &mut R,
     chunk: &mut [u8],

@@ -10,14 +10,14 @@ use std::alloc::AllocError;
 /// Where a refusal is explained.
 const REFUSALS: &[u8] = b" (docs/FORMATS.md, Refusals of lines)\n";
 
-/// Where cuts are.
+/// Names the document about cuts.
 const CUTS: &[u8] = b" (docs/FORMATS.md, Cuts)\n";
 
-/// Where the promises are.
+/// Names the document about promises.
 const PROMISES: &[u8] = b" (docs/PROMISES.md)\n";
 
-/// What is known of a script before a line, for its explanation: the cuts that wait, and the identity of the device that
-/// was last attached to each slot.
+/// The state of a script before a line, for its explanation: the cuts that wait, and the identity of the device that was last
+/// attached to each slot.
 #[derive(Drop)]
 pub(crate) struct Known {
     cuts: Cuts,
@@ -33,8 +33,8 @@ impl Known {
         }
     }
 
-    /// Explains what a line came to that was just obeyed: why it was refused, which of the cuts that waited its frame never
-    /// reached, and whether it attached a device of an identity that is there. What is known is then that before the next.
+    /// Explains the result of a line that was just obeyed: why it was refused, which of the waiting cuts its frame never
+    /// reached, and whether it attached a second device of an identity. Then it is ready for the next line.
     pub(crate) fn explain(
         &mut self,
         script: &Script,
@@ -319,7 +319,7 @@ fn explain_cut(number: u64, name: &Name, bit: u16, text: &mut Text) -> Result<()
     text.push(CUTS)
 }
 
-/// Tells that a device came that has the identity of one that is there.
+/// Tells that a device came with the identity of a present one.
 fn explain_twin(
     script: &Script,
     number: u64,

@@ -6,8 +6,8 @@ use i3c_shared::{Closed, Entry};
 use i3c_step::{Event, Reply};
 use thiserror::Error;
 
-/// What became of the raises that were tried: over the slots of the devices, how many were posted, turned away by the
-/// bus, recorded, and waited at the end.
+/// The raises that were tried: over the slots of the devices, how many were posted, turned away by the bus, recorded, and
+/// waited at the end.
 #[derive(Clone, Copy, Debug, PartialEq, Eq, Drop)]
 pub struct StressReport {
     /// The tries: as many as devices times posts.
@@ -28,7 +28,7 @@ pub enum StressFault {
     /// There was no memory, or no thread could be started.
     #[error("out of memory")]
     Memory,
-    /// The bus refused what it never refuses where nobody else uses it, or its counts disagree.
+    /// The bus refused what it never refuses without other users, or its counts disagree.
     #[error("not balanced")]
     NotBalanced,
 }

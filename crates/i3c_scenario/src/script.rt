@@ -3,7 +3,7 @@ ghost use Rattle.std.specs.Io.KnownBytes.{IsAtEnd};
 ghost use Rattle.i3c_lines.specs.Gathering.{gathered};
 ghost use Rattle.i3c_scenario.specs.Outcomes.{HasNoFeed, output, written};
 ghost use Rattle.i3c_script.specs.Printed.{end_text};
-ghost use Rattle.i3c_facts.specs.declared.holding.Before.{Before as BeforeValue};
+ghost use Rattle.i3c_facts.specs.declared.before.Before.{Before as BeforeValue};
 ghost use Rattle.i3c_text.specs.declared.stop.Stop.{Stop as StopValue};
 ghost use Rattle.i3c_scenario.specs.Scripts.{LinesGoOut, refused_text};
 ghost use Rattle.i3c_lines.specs.Forms.{HasNoForm};
@@ -26,7 +26,7 @@ use std::alloc::{AllocError, Global};
 use std::io::{Read, Write};
 use std::mem;
 
-/// What is known of a script that was run to its end.
+/// The counts of a script that was run to its end.
 #[derive(Clone, Copy, Debug, PartialEq, Eq)]
 pub struct Tally {
     /// How many lines were refused.
@@ -35,11 +35,10 @@ pub struct Tally {
     pub unmet: u64,
 }
 
-/// Runs a script: its lines in order, as they are read, each of which prints its own. After a refused line the next
-/// is run.
+/// Runs a script: its lines in order, as they are read; each prints its output. After a refused line the next is run.
 ///
-/// A script has at most 1,048,576 bytes. Where more come, or where the reader fails, each line whose line feed came
-/// before that is run. At the end an open session is ended, and the bus retired.
+/// A script has at most 1,048,576 bytes. If more come, or if the reader fails, the lines that were whole by then are run. At
+/// the end an open session is ended, and the bus retired.
 pub fn run_script<R: Read, W: Write>(
     alloc: Global,
     reader: &mut R,
@@ -53,7 +52,7 @@ pub fn run_script<R: Read, W: Write>(
     // command says. All that they print goes out with `Ok`, and before a fault as much as that fault says
     ensures lines { LinesGoOut (R.remaining reader.old) (R.remaining reader.new) (W.contents writer.old) (W.contents writer.new) result }
 {
-    // before the script, whose room would else be cleared twice
+    // before the script, whose room would otherwise be cleared twice
     let Ok(mut chunk) = vec![in alloc; 0u8; CHUNK] else {
         // with no name given, as each script begins
         let _none = Names::new(alloc);
@@ -72,7 +71,7 @@ pub fn run_script<R: Read, W: Write>(
 struct Plain;
 
 /// The state of a running script: its bus and names, the partial line, the current command, that command's output, and output
-/// not yet written. For expectations it has the number of the line, what the last command came to, and those that last.
+/// not yet written. For expectations it has the number of the line, the result of the last command, and the lasting ones.
 pub(crate) struct Script {
     pub(crate) alloc: Global,
     pub(crate) stage: Stage,
@@ -90,7 +89,7 @@ pub(crate) struct Script {
 }
 
 impl Script {
-    /// A script of which nothing was read.
+    /// A script before its first line.
     pub(crate) fn new(alloc: Global) -> Script
         ensures held { gathered result.line ≡ [] }
         ensures refused { result.refused ≡ 0 }
@@ -234,8 +233,8 @@ impl Script {
         gather(self.text.as_bytes(), &mut self.gathered, out)
     }
 
-    /// Obeys a line, if it has a command or is a mark. `settle` notes a refusal. Whoever calls it is named by `K`, so that each
-    /// caller has it in line.
+    /// Obeys a line, if it has a command or is a mark. `settle` notes a refusal. `K` names the caller, so that each caller
+    /// has it in line.
     pub(crate) fn obey<K>(&mut self, line: &[u8]) -> Result<(), Stop<Refusal>>
         ensures held { self.new.line ≡ self.old.line }
         ensures gathered { self.new.gathered ≡ self.old.gathered }
@@ -325,7 +324,7 @@ impl Script {
         Ok(())
     }
 
-    /// Tests the expectations that last, behind a command that came to this.
+    /// Tests the lasting expectations, behind a command with this result.
     #[cold]
     #[inline(never)]
     fn outlast(&mut self, outcome: Result<(), Stop<Refusal>>) -> Result<(), Stop<Refusal>>

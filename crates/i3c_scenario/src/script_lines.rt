@@ -38,7 +38,7 @@ impl ScriptLines {
     ghost use Rattle.i3c_scenario.specs.Lines.{GivesLine, IsGivenOut, IsReadFrom, StaysAt, given, line_in_hand};
     ghost use Rattle.i3c_scenario.specs.declared.script_lines.Reading.{Reading as HowFar};
 
-    /// The lines of a script of which nothing was read.
+    /// The lines of a script before its first byte.
     pub fn new(alloc: Global) -> ScriptLines
         ensures bytes { result.bytes.items ≡ [] }
         ensures given { given result ≡ [] }

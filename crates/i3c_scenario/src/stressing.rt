@@ -134,7 +134,7 @@ fn stress_with<
         mut ports,
     } = begin::<L, M, N, R>(rt, alloc, active, session, frames, devices)?;
     let before = role.frames();
-    // nobody else takes this lock: it lends the server to the threads' scope
+    // no other thread takes this lock: it lends the server to the threads' scope
     let server = Mutex::new(Server {
         role: &mut role,
         policy,
@@ -235,7 +235,7 @@ struct Server<'a, L: Ledger, M: Ledger, N: Ledger, P> {
 }
 
 impl<'a, L: Ledger, M: Ledger, N: Ledger, P: Policy> Server<'a, L, M, N, P> {
-    /// Serves so many times.
+    /// Serves `times` times.
     fn serve_all<R: Threads + Wait + Sync, W: Watch>(
         &mut self,
         rt: &R,

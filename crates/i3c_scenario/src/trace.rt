@@ -145,7 +145,7 @@ fn refusals(decoded: &Decoded) -> u64
     }
 }
 
-/// Appends the line of what was decoded.
+/// Appends the line of a decoded part.
 #[inline(always)]
 fn push_decoded(decoded: &Decoded, trace: &[Symbol], text: &mut Text) -> Result<(), ScriptFault>
     ensures { MatchResult result (λ _. text.new ≡ text.old ++ line_text trace.now decoded.now)

@@ -15,9 +15,9 @@ use std::io::Read;
 /// How many symbols of a wire are kept.
 const KEPT: usize = 256;
 
-/// Who is shown each line of a script that runs.
+/// A viewer is shown each line of a script that runs.
 pub trait Viewer {
-    /// What a viewer may be after it was shown a line, what the line printed, and the symbols that it sent.
+    /// A viewer after it was shown a line, the line's output, and the symbols that it sent.
     ghost view_gives: { Self → List ℕ → List ℕ → List SymbolValue → Self → Type 0 };
 
     /// What a viewer may be where it fails at a line.
@@ -72,7 +72,7 @@ impl ViewedRun {
     ghost use Rattle.i3c_scenario.specs.Expecting.{HasBegun};
     ghost use Rattle.i3c_script.specs.Obeying.{wire_on};
 
-    /// A run of which nothing was read.
+    /// A run before its first line.
     fn new(alloc: Global) -> ViewedRun
         ensures begun { HasBegun (state result.script) }
         ensures refused { result.script.refused ≡ 0 }

@@ -43,7 +43,7 @@ impl Watching {
     }
 }
 
-/// Who is told why lines are refused.
+/// A witness is told why lines are refused.
 pub trait Witness {
     /// Is told this line, with its line feed.
     fn tell(&mut self, line: &[u8]);
@@ -60,7 +60,7 @@ pub enum WatchFault {
 
 /// Runs a script as `run_script` does, and shows more of it. What its lines print is the same.
 ///
-/// A run that is strict ends at the first line that has no form, which isn't run.
+/// A strict run ends at the first line without a form, and doesn't run it.
 pub fn run_watched<R: Read, W: Write, T: Witness>(
     alloc: Global,
     reader: &mut R,
@@ -104,7 +104,7 @@ impl WatchedRun {
     ghost use Rattle.i3c_scenario.specs.Watched.{EndsAt, IsFormed, LineEndsWatched, LineRan, RunsWatched, echoed, numbered_by};
     ghost use Rattle.i3c_scenario.specs.Expecting.{HasBegun};
 
-    /// A run of which nothing was read.
+    /// A run before its first line.
     fn new(alloc: Global, watching: Watching) -> WatchedRun
         ensures begun { HasBegun (state result.script) }
         ensures refused { result.script.refused ≡ 0 }
@@ -217,7 +217,7 @@ impl WatchedRun {
         }
     }
 
-    /// Explains what a line came to, if that is asked for.
+    /// Explains the result of a line, if that is asked for.
     fn explain(
         &mut self,
         number: u64,

@@ -2,7 +2,7 @@
 use Rattle.std.proofs.Common.{◌≡◌, ℕ, false, Option, Some, None, Result, refl, subst, sym}
 use Rattle.std.specs.Prelude.{MatchResult}
 use Rattle.i3c_bus.proofs.Nearby.{raised_near}
-use Rattle.i3c_facts.specs.declared.holding.Before.{Before}
+use Rattle.i3c_facts.specs.declared.before.Before.{Before}
 use Rattle.i3c_facts.specs.Holding.{came_to}
 use Rattle.i3c_lines.specs.declared.command.Command.{Command}
 use Rattle.i3c_lines.specs.declared.names.Name.{Name}

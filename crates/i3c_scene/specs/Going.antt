@@ -93,7 +93,7 @@ slot_present old name = present_in old.state (slot_named (place_in old.names nam
 abbrev pub Sets : Seen → Fixed → List ℕ → Option Refusal → Seen → Type 0
 Sets old kinds slots refused new = (settings : Settings) × IsSet kinds slots old.settings settings × Becomes (seen old.state settings old.cuts old.names) refused new
 
--- the same, where devices are excepted
+-- the same with excepted devices
 abbrev pub Excepts : Seen → Fixed → List Name → Option Refusal → Seen → Type 0
 Excepts old kinds but refused new = MatchResult (slots_named (slot_present old) but) (λ slots. Sets old kinds slots refused new) (λ why. IsRefused old why refused new)
 

@@ -20,7 +20,7 @@ last_of_frame st (Frame.SetNew at to) = 45
 last_of_frame st (Frame.Get what at) = 90
 last_of_frame st (Frame.SetLength way most to) = 54
 
--- and that of a command's frame; 0 where it sends none
+-- the number of the last bit that a command's frame can have; 0 if it sends none
 abbrev pub last_bit : State → Command → ℕ
 last_bit st (Command.Frame frame) = last_of_frame st frame
 last_bit st (Command.HandOver to) = 36

@@ -6,7 +6,7 @@ use Rattle.i3c_lines.specs.declared.names.Name.{Name}
 use Rattle.i3c_lines.specs.Naming.{slot_named}
 use Rattle.i3c_scene.specs.Scenes.{Seen, place_in}
 
--- the new scene's bus differs from the old one's in this slot at most, and nothing else differs
+-- the new scene's bus differs from the old one's in this slot at most, and the rest is unchanged
 pub record IsBehind (slot : ℕ) (old new : Seen) : Type 0 where
   pub state : IsNear slot old.state new.state
   pub settings : new.settings ≡ old.settings

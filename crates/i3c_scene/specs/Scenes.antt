@@ -8,23 +8,23 @@ use Rattle.i3c_lines.specs.Naming.{is_same}
 use Rattle.i3c_script.specs.declared.settings.Settings.{Settings}
 use Rattle.i3c_scene.specs.declared.named.Named.{Named}
 
--- the bus's state, what its lines have set, the cuts that wait for the next frame, and the names that were given
+-- the bus's state, the settings of its lines, the cuts that wait for the next frame, and the names that were given
 pub record Seen : Type 0 where
   pub state : State
   pub settings : Settings
   pub cuts : CutList
   pub names : List Named
 
--- the same of these
+-- a scene with this bus, these settings, cuts and names
 abbrev pub seen : State → Settings → CutList → List Named → Seen
 seen state settings cuts names = record { state = state; settings = settings; cuts = cuts; names = names }
 
--- what a name stands for, if it was given
+-- the place of a name, if it was given
 abbrev pub place_in : List Named → Name → Option Place
 place_in [] name = None
 place_in (named ∷ rest) name = if is_same named.name name then Some named.place else place_in rest name
 
--- whoever stood at a slot is gone from there
+-- the device at this slot is gone from there
 abbrev pub left_slot : ℕ → Place → Place
 left_slot slot (Place.Slot s) = if s == slot then Place.Gone else Place.Slot s
 left_slot slot (Place.Legacy address) = Place.Legacy address
@@ -38,7 +38,7 @@ abbrev pub put : Name → Place → List Named → List Named
 put name place [] = record { name = name; place = place } ∷ []
 put name place (named ∷ rest) = if is_same named.name name then record named { place = place } ∷ rest else named ∷ put name place rest
 
--- a slot is given a name; whoever had the slot is gone
+-- a slot is given a name; the name that had the slot is gone
 abbrev pub given : Name → ℕ → List Named → List Named
 given name slot names = put name (Place.Slot slot) (map (left slot) names)
 

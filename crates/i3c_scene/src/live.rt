@@ -104,7 +104,7 @@ impl Live {
     ghost use Rattle.i3c_lines.specs.Naming.{slot_named};
     ghost use Rattle.i3c_lines.specs.declared.command.Command.{Command as CommandValue};
     ghost use Rattle.i3c_script.specs.Stops.{Ends};
-    ghost use Rattle.i3c_facts.specs.declared.holding.Before.{Before as BeforeValue};
+    ghost use Rattle.i3c_facts.specs.declared.before.Before.{Before as BeforeValue};
     ghost use Rattle.i3c_facts.specs.Holding.{came_to};
     ghost use Rattle.i3c_scene.specs.Scenes.{place_in};
     ghost use Rattle.i3c_scene.specs.Trying.{Runs, all_hold, slot_at_risk};

@@ -14,7 +14,7 @@ pub struct Runner {
 
 impl Runner {
     ghost use Rattle.std.specs.Prelude.{◌≡◌, ◌<◌, ◌^◌, IfOk, IfSome, IsTrue, OnOk};
-    ghost use Rattle.i3c_facts.specs.declared.holding.Before.{Before as BeforeValue};
+    ghost use Rattle.i3c_facts.specs.declared.before.Before.{Before as BeforeValue};
     ghost use Rattle.i3c_scene.specs.Near.{IsBehind};
     ghost use Rattle.i3c_scene.specs.Trying.{Runs, all_hold};
 

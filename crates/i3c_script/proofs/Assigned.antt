@@ -52,7 +52,7 @@ stays_open hand session st settings cuts symbols ended text is fits =
     (λ why. (Reply.Refused BusRefusal.SessionOpen ≡ Reply.Refused why) × (st ≡ st))) (sym opened) (refl, refl) in
     ([], sym (append-nil text), (ran_of st settings no_cuts symbols ended, Reply.Refused BusRefusal.SessionOpen, unsent st st settings cuts symbols ended (Event.OpenDaa cuts) (Reply.Refused BusRefusal.SessionOpen) refl refused refl, (refl, refl, refl)))
 
--- so many rounds, each of which goes on, and what they printed
+-- `count` rounds, each of which goes on, and what they printed
 pub record SoFar (old now : Ran) (before after : List ℕ) (count : ℕ) : Type 0 where
   pub answers : List RoundReply
   pub rounds : Rounds old answers now
@@ -63,7 +63,6 @@ pub record SoFar (old now : Ran) (before after : List ℕ) (count : ℕ) : Type 
 longer : (before now new texts text : List ℕ) → now ≡ before ++ texts → new ≡ now ++ text → new ≡ before ++ (texts ++ text)
 longer before now new texts text e f = f ∙ ap (λ l. l ++ text) e ∙ append_assoc before texts text
 
--- one more round
 pub one_more : (old now new : Ran) (before text next : List ℕ) (count : ℕ) (answer : RoundReply) → SoFar old now before text count → now.cuts ≡ no_cuts → Moves now (Event.Round no_cuts) (Reply.Round answer) new
     → next ≡ text ++ round_text answer → goes_on answer ≡ true → SoFar old new before next (count + 1)
 one_more old now new before text next count answer s uncut move printed more = record {
@@ -74,7 +73,6 @@ one_more old now new before text next count answer s uncut move printed more = r
   text = longer before text next (rounds_text s.answers) (round_text answer) s.text printed;
 }
 
--- the last round
 pub last : (old now new : Ran) (before text next : List ℕ) (count : ℕ) (answer : RoundReply) (result : Result (Unit {0}) (Stop Refusal)) → SoFar old now before text count → now.cuts ≡ no_cuts → Moves now (Event.Round no_cuts) (Reply.Round answer) new
     → next ≡ text ++ round_text answer → goes_on answer ≡ false → Ends (λ refused. refused ≡ round_refusal answer) result → Prints (λ said refused. HasRounds old said refused new) before next result
 last old now new before text next count answer (Ok done) s uncut move printed over ends = (

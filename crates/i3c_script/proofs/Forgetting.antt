@@ -23,7 +23,7 @@ all_or last forgotten count records is = go (cases_lt (last - forgotten) (length
     go (inl fewer) = inr (omega (arith, is, fewer))
     go (inr more) = inl (drop_all count records (omega (arith, is, more)))
 
--- so many records that are dropped from the log, and counted
+-- `count` records are dropped from the log, and counted
 pub dropped : (last : ℕ) (old new : Settings) (before after : State) (count : ℕ) → count ≡ min (last - old.forgotten) (length before.records)
     → after ≡ record before { records = drop count before.records } → new ≡ record old { forgotten = old.forgotten + count } → Forgets last old before new after
 dropped last old new before after count is left counted =

@@ -1,4 +1,4 @@
--- How many whole frames symbols have, and what stands behind some of them.
+-- The number of whole frames that symbols have, and the symbols behind some of them.
 use Rattle.std.proofs.Common.{◌≡◌, ◌∙◌, ℕ, zero, suc, ◌+◌, ◌≤◌, List, [], ◌∷◌, ◌++◌, drop, length, ap, arith, refl}
 use Rattle.i3c_frame.specs.declared.symbols.Symbol.{Symbol}
 use Rattle.i3c_script.specs.Framing.{frames_in}
@@ -25,7 +25,7 @@ few (first ∷ begun) ((Symbol.LegacyWord byte ack) ∷ more) = let before = few
 after : (n : ℕ) → n + 1 ≡ suc n
 after n = omega arith
 
--- of a list whose rest behind so many elements is known, the rest behind one more
+-- the rest of a list behind n + 1 elements, if its rest behind n begins with x
 behind : {X : Type 0} (n : ℕ) (xs : List X) (x : X) (ys : List X) → drop n xs ≡ x ∷ ys → drop (suc n) xs ≡ ys
 behind zero [] x ys e = absurd cc
 behind (suc n) [] x ys e = absurd cc
@@ -35,7 +35,7 @@ behind (suc n) (y ∷ xs) x ys e = behind n xs x ys e
 pub behind_one : {X : Type 0} (n : ℕ) (xs : List X) (x : X) (ys : List X) → drop n xs ≡ x ∷ ys → drop (n + 1) xs ≡ ys
 behind_one n xs x ys e = ap (λ k. drop k xs) (after n) ∙ behind n xs x ys e
 
--- the same where nothing is left
+-- the same when nothing is left
 behind_all : {X : Type 0} (n : ℕ) (xs : List X) → drop n xs ≡ [] → drop (suc n) xs ≡ []
 behind_all zero [] e = refl
 behind_all (suc n) [] e = refl

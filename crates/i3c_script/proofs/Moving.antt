@@ -98,7 +98,7 @@ all_taken event cuts frame = ap (λ b. cond b no_cuts cuts) frame
 pub framed : (old new : Ran) (event : Event) (reply : Reply) → is_some (cuts_in event) ≡ true → Moves (record old { cuts = no_cuts }) event reply new → Moves old event reply new
 framed old new event reply frame m = record { wire = m.wire; step = m.step; sent = m.sent; kept = m.kept; settings = m.settings; cuts = m.cuts ∙ all_taken event no_cuts frame ∙ sym (all_taken event old.cuts frame); ended = m.ended }
 
--- what is printed is such, where it is something more exact
+-- a weaker property of output holds too
 pub prints_by : (Is Of : List ℕ → Option Refusal → Type 0) → ((said : List ℕ) (refused : Option Refusal) → Is said refused → Of said refused)
     → (before after : List ℕ) (result : Result (Unit {0}) (Stop Refusal)) → Prints Is before after result → Prints Of before after result
 prints_by Is Of of before after (Ok done) (said, text, is) = (said, text, of said None is)

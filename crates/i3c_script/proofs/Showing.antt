@@ -64,7 +64,7 @@ pub legacies_none : (names : Names) → legacies_text names 0 ≡ []
 unfolding legacies_text
 legacies_none names = refl
 
--- a text that is printed behind another one, which so many parts are printed of
+-- a text that is printed behind another one in parts, and one more part
 pub printed_more : (before now new parts part : List ℕ) → now ≡ before ++ parts → new ≡ now ++ part → new ≡ before ++ (parts ++ part)
 printed_more before now new parts part e f = f ∙ ap (λ l. l ++ part) e ∙ append_assoc before parts part
 
@@ -86,7 +86,7 @@ abbrev pub spaced : List Symbol → List ℕ
 spaced [] = []
 spaced (symbol ∷ rest) = 32 ∷ (text_of symbol ++ spaced rest)
 
--- what is left to print of symbols, after so many
+-- the text of symbols that is left to print after the first ones
 abbrev pub left_text : ℕ → List Symbol → List ℕ
 left_text zero symbols = join_with_byte 32 (map text_of symbols)
 left_text (suc n) symbols = spaced symbols

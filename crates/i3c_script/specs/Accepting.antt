@@ -28,8 +28,8 @@ pub record IsSet (accepted : Fixed) (slots : List ℕ) (old new : Settings) : Ty
   pub but : new.but.items ≡ slots
   pub forgotten : new.forgotten ≡ old.forgotten
 
--- the records up to a number leave the log, which keeps the others, and are counted: so many, that the last of them has that
--- number, if it was in the log. Nothing else changes
+-- the records up to a number leave the log, which keeps the others, and are counted: the last of them has that number, if it
+-- was in the log. The rest is unchanged
 pub record Forgets (last : ℕ) (old : Settings) (before : State) (new : Settings) (after : State) : Type 0 where
   pub gone : List Record
   pub split : before.records ≡ gone ++ after.records

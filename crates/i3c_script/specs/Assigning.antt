@@ -51,7 +51,7 @@ abbrev pub AreAll : List RoundReply → Type 0
 AreAll [] = ⊥
 AreAll (answer ∷ earlier) = GoOn earlier × ((goes_on answer ≡ false) ⊎ (length (answer ∷ earlier) ≡ SLOTS))
 
--- what rounds print
+-- the lines that rounds print
 abbrev pub rounds_text : List RoundReply → List ℕ
 rounds_text [] = []
 rounds_text (answer ∷ earlier) = rounds_text earlier ++ round_text answer

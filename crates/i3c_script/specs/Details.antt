@@ -14,7 +14,7 @@ use Rattle.i3c_script.specs.declared.tenures.Tenure.{Tenure}
 use Rattle.i3c_script.specs.Printed.{show_text}
 use Rattle.i3c_script.specs.Tenures.{tenures_text}
 
--- what a device is
+-- the identity and kind of a device, as `show all` prints them
 abbrev pub registers_text : Identity → List ℕ
 registers_text identity = codes " pid " ++ (hex_text 12 identity.pid ++ (codes " bcr " ++ (byte_text identity.bcr.0 ++ (codes " dcr " ++ byte_text identity.dcr.0))))
 
@@ -46,7 +46,7 @@ details_text (Some name) (Some d) = described_text name d.identity (kinds_tokens
 details_text None device = []
 details_text (Some name) None = []
 
--- the present devices of so many slots, the lowest slot first
+-- the present devices of the slots below a number, the lowest slot first
 unfoldable pub all_details_text : State → Names → ℕ → List ℕ
 all_details_text st names zero = []
 all_details_text st names (suc slot) = all_details_text st names slot ++ details_text (slice_index_or (slot_names names) slot None) (device_at st slot)
@@ -61,7 +61,8 @@ abbrev pub session_text : Bool → List ℕ
 session_text true = codes "session open" ++ 10 ∷ []
 session_text false = codes "session closed" ++ 10 ∷ []
 
--- `show all`: what `show` prints, then the present devices, the list, the session, and who was active at which records
+-- `show all`: what `show` prints, then the present devices, the list, the session, and the active controllers with their
+-- records
 abbrev pub show_all_text : ℕ → State → Names → List Tenure → List ℕ
 show_all_text forgotten st names ended =
     show_text forgotten st names ++ (all_details_text st names SLOTS ++ (list_text st.listed ++ (session_text st.in_session ++ tenures_text ended st.active (forgotten + length st.records))))

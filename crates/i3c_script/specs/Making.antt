@@ -31,12 +31,12 @@ abbrev pub replies_of : List Made → List Reply
 replies_of [] = []
 replies_of (made ∷ rest) = made.reply ∷ replies_of rest
 
--- those of rounds, whose answers stand newest first
+-- the events of rounds with their replies; the newest answer comes first
 abbrev pub rounds_made : (old : Ran) (answers : List RoundReply) (new : Ran) → Rounds old answers new → List Made
 rounds_made old [] new same = []
 rounds_made old (answer ∷ earlier) new (mid, before, moved) = rounds_made old earlier mid before ++ one (Event.Round mid.cuts) (Reply.Round answer)
 
--- those of a session: its rounds, and its end
+-- the events of a session with their replies: its rounds, and its end
 abbrev pub session_made : (old : Ran) (said : List ℕ) (refused : Option Refusal) (new : Ran) → HasSession old said refused new → List Made
 session_made old said refused new (last, rounds, ended) = rounds_made old rounds.0 last rounds.1 ++ one Event.EndDaa Reply.Ended
 
@@ -45,11 +45,11 @@ abbrev pub follows_made : (reply : Reply) (opened : Ran) (said : List ℕ) (refu
 follows_made (Reply.Opened served) opened said refused new (text, session, told) = session_made opened text refused new session
 follows_made _ opened said refused new follows = []
 
--- those of `daa`: its opening, and what follows
+-- the events of `daa` with their replies: its opening, and those that follow
 abbrev pub assigns_made : (old : Ran) (said : List ℕ) (refused : Option Refusal) (new : Ran) → Assigns old said refused new → List Made
 assigns_made old said refused new (opened, reply, moved, follows) = one (Event.OpenDaa old.cuts) (reply_from old.settings.forgotten reply) ++ follows_made reply opened said refused new follows
 
--- that of an event which a command asks for; its reply counts the records that left the log too
+-- the event that a command asks for, with its reply, which counts the records that left the log too
 abbrev pub answer_made : (old : Ran) (names : Names) (event : Event) (said : List ℕ) (refused : Option Refusal) (new : Ran) → Answers old names event said refused new → List Made
 answer_made old names event said refused new (reply, moved, told) = one event (reply_from old.settings.forgotten reply)
 
@@ -59,13 +59,13 @@ abbrev pub slot_made : (slot : Result ℕ Refusal) (old : Ran) (names : Names) (
 slot_made (Ok slot) old names event said refused new answers = answer_made old names (event slot) said refused new answers
 slot_made (Err why) old names event said refused new refuses = []
 
--- that of a device which enters: none where it is refused before
+-- the event of a device that enters, with its reply: none if it is refused before
 abbrev pub enters_made : (entrance : Result ℕ Refusal) (old : Ran) (names named : Names) (name : Name) (event : ℕ → Event) (said : List ℕ) (refused : Option Refusal) (new : Ran)
     → MatchResult entrance (λ slot. NamesSlot names named name slot × Answers old named (event slot) said refused new) (λ why. (named ≡ names) × (new ≡ old) × IsRefused why said refused) → List Made
 enters_made (Ok slot) old names named name event said refused new enters = answer_made old named (event slot) said refused new enters.1
 enters_made (Err why) old names named name event said refused new refuses = []
 
--- those of a command other than `attach` on a bus
+-- the events of a command other than `attach` on a bus, with their replies
 abbrev pub does_made : (old : Ran) (names : Names) (command : Command) (said : List ℕ) (refused : Option Refusal) (new : Ran) → Does old names command said refused new → List Made
 does_made old names (Command.Frame frame) said refused new (fixed, accepts, answers) = answer_made old names (event_of frame fixed old.cuts) said refused new answers
 does_made old names (Command.DropOff name) said refused new does = slot_made (slot_meant names name) old names Event.DropOff said refused new does
@@ -79,7 +79,7 @@ does_made old names Command.End said refused new does = answer_made old names Ev
 does_made old names Command.Daa said refused new does = assigns_made old said refused new does
 does_made old names _ said refused new does = []
 
--- those of a command on a bus
+-- the events of a command on a bus, with their replies
 abbrev pub on_bus_made : (old : Ran) (names : Names) (command : Command) (said : List ℕ) (refused : Option Refusal) (new : Ran) (named : Names) → ObeysOn old names command said refused new named → List Made
 on_bus_made old names (Command.Attach name setup) said refused new named (entrance, is, enters) = enters_made entrance old names named name (λ slot. Event.Attach slot setup) said refused new enters
 on_bus_made old names (Command.Frame frame) said refused new named (same, does) = does_made old names (Command.Frame frame) said refused new does
@@ -105,7 +105,7 @@ on_bus_made old names (Command.Legacy name address lvr) said refused new named (
 on_bus_made old names (Command.Declare address identity) said refused new named (same, does) = does_made old names (Command.Declare address identity) said refused new does
 on_bus_made old names (Command.Main name setup) said refused new named (same, does) = does_made old names (Command.Main name setup) said refused new does
 
--- those of a command: none before the bus
+-- the events of a command, with their replies: none before the bus
 abbrev pub command_made : (stage : Stage) (names : Names) (command : Command) (said : List ℕ) (refused : Option Refusal) (new : ScriptState) → ObeysAt stage names command said refused new → List Made
 command_made (Stage.Before board) names command said refused new obeys = []
 command_made (Stage.Running old) names command said refused new (ran, is, obeys) = on_bus_made old names command said refused ran new.names obeys

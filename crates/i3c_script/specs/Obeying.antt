@@ -79,11 +79,11 @@ abbrev pub legacy_refusal : Board → Names → Name → ℕ → Option Refusal
 legacy_refusal board names name address =
     if is_some (place_named names name) then Some Refusal.NameTaken else option_map Refusal.Legacy (first_fault board address)
 
--- and `declare`
+-- why `declare` is refused, if it is
 abbrev pub declare_refusal : Board → ℕ → Identity → Option Refusal
 declare_refusal board address identity = option_map Refusal.Declare (first_declare_fault board address identity)
 
--- and `main`
+-- why `main` is refused, if it is
 abbrev pub main_refusal : Names → Name → Bcr → Option Refusal
 main_refusal names name bcr =
     if is_some (place_named names name) then Some Refusal.NameTaken else

@@ -40,7 +40,7 @@ end_text (Err (Stop.Refused why)) = codes "refused " ++ (refusal_text why ++ 10 
 abbrev pub number_text : List ℕ → ℕ → List ℕ
 number_text tokens number = tokens ++ (decimal number ++ 10 ∷ [])
 
--- what became of a request
+-- the result of a request
 abbrev pub served_text : Served → List ℕ
 served_text Served.Quiet = codes "quiet" ++ 10 ∷ []
 served_text (Served.Recorded place) = number_text (codes "recorded ") place
@@ -92,7 +92,7 @@ identity_text identity = hex_text 12 identity.pid ++ (field_text identity.bcr.0 
 abbrev pub assigned_text : ℕ → Identity → List ℕ
 assigned_text a identity = codes "assigned " ++ (byte_text a ++ (codes " " ++ identity_text identity))
 
--- a round
+-- the line that a round prints
 abbrev pub round_text : RoundReply → List ℕ
 round_text (RoundReply.Assigned a identity) = assigned_text a identity
 round_text RoundReply.Nobody = codes "nobody" ++ 10 ∷ []
@@ -143,7 +143,7 @@ attached_text names Subject.Nothing = []
 abbrev pub active_text : ℕ → List ℕ
 active_text a = codes "active " ++ (byte_text a ++ 10 ∷ [])
 
--- what a handover served, and who is active now
+-- what a handover served, and the active controller's address then
 abbrev pub handed_text : Subject → Served → List ℕ
 handed_text (Subject.HandedTo to) served = request_text served ++ active_text to
 handed_text (Subject.Attached slot) served = []
@@ -192,17 +192,17 @@ device_text (Some name) (Some d) = letters name ++ (codes " " ++ (byte_or_none d
 device_text None device = []
 device_text (Some name) None = []
 
--- the present devices of so many slots, the lowest slot first
+-- the present devices of the slots below a number, the lowest slot first
 unfoldable pub devices_text : State → Names → ℕ → List ℕ
 devices_text st names zero = []
 devices_text st names (suc slot) = devices_text st names slot ++ device_text (slice_index_or (slot_names names) slot None) (device_at st slot)
 
--- a legacy target
+-- the line of a legacy target, if it has a name
 abbrev pub legacy_text : Option Name → ℕ → List ℕ
 legacy_text None a = []
 legacy_text (Some name) a = letters name ++ (codes " " ++ (byte_text a ++ (codes " legacy" ++ 10 ∷ [])))
 
--- the legacy targets of so many static addresses, the lowest address first
+-- the legacy targets of the static addresses below a number, the lowest address first
 unfoldable pub legacies_text : Names → ℕ → List ℕ
 legacies_text names zero = []
 legacies_text names (suc a) = legacies_text names a ++ legacy_text (slice_index_or (legacy_names names) a None) a
@@ -220,16 +220,16 @@ abbrev pub numbered_text : ℕ → List Record → List ℕ
 numbered_text number [] = []
 numbered_text number (r ∷ rest) = codes "record " ++ (decimal number ++ (record_text r ++ numbered_text (suc number) rest))
 
--- the records behind the first so many, the oldest first, each with its number, where so many have left the log before
+-- the records behind the first `count`, the oldest first, each with its number, where `forgotten` ones have left the log
 abbrev pub behind_text : ℕ → ℕ → List Record → List ℕ
 behind_text count forgotten records = numbered_text (suc (forgotten + count)) (drop count records)
 
--- how many records are in the log, and each behind the first so many, where so many have left the log before
+-- the number of records in the log, and each behind the first `count`, where `forgotten` ones have left the log
 abbrev pub records_text : ℕ → ℕ → List Record → List ℕ
 records_text count forgotten records = number_text (codes "records ") (length records) ++ behind_text count forgotten records
 
--- the active controller's address, the present devices, the legacy targets, and the records of the log behind the first so
--- many, where so many have left it before
+-- the active controller's address, the present devices, the legacy targets, and the records of the log behind the first
+-- `count`, where `forgotten` ones have left it
 abbrev pub show_behind_text : ℕ → ℕ → State → Names → List ℕ
 show_behind_text count forgotten st names =
     codes "active " ++ (byte_or_none (address_of (device_at st st.active)) ++ (10 ∷ (devices_text st names SLOTS ++ (legacies_text names ADDRESSES ++ records_text count forgotten st.records))))
@@ -242,11 +242,11 @@ show_text forgotten st names = show_behind_text 0 forgotten st names
 abbrev pub symbols_text : List Symbol → List ℕ
 symbols_text wire = join_with_byte 32 (map text_of wire) ++ 10 ∷ []
 
--- `frames`: the last so many whole frames, the oldest first, each as `symbols` prints symbols
+-- `frames`: the last `count` whole frames, the oldest first, each as `symbols` prints symbols
 abbrev pub frames_text : ℕ → List Symbol → List ℕ
 frames_text count wire = flat_map symbols_text (keep_last count (whole_frames wire))
 
--- one of some symbols: all but the first stand behind a space
+-- one of some symbols: each but the first follows a space
 abbrev pub nth_text : ℕ → Option Symbol → List ℕ
 nth_text n None = []
 nth_text zero (Some symbol) = text_of symbol
@@ -257,12 +257,12 @@ abbrev pub asker_text : Option Name → List ℕ
 asker_text None = []
 asker_text (Some name) = codes " " ++ letters name
 
--- the names of those of so many slots whose devices drive this request, the lowest slot first
+-- the names of the devices that drive this request, of the slots below a number, the lowest slot first
 unfoldable pub askers_text : State → Names → Request → ℕ → List ℕ
 askers_text st names r zero = []
 askers_text st names r (suc slot) = askers_text st names r slot ++ (if drives st r slot then asker_text (slice_index_or (slot_names names) slot None) else [])
 
--- the names of whoever drives the first request, if there is one
+-- the names of the devices that drive the first request, if there is one
 abbrev pub asking_text : State → Names → Option Request → List ℕ
 asking_text st names None = []
 asking_text st names (Some r) = askers_text st names r SLOTS

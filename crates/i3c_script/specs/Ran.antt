@@ -7,8 +7,8 @@ use Rattle.i3c_frame.specs.declared.symbols.Symbol.{Symbol}
 use Rattle.i3c_script.specs.declared.settings.Settings.{Settings}
 use Rattle.i3c_script.specs.declared.tenures.Tenure.{Tenure}
 
--- the bus's state, what its lines have set, the cuts that wait for the next frame, the last symbols of the wire, and the times of
--- controllers that ended
+-- the bus's state, the settings of its lines, the cuts that wait for the next frame, the last symbols of the wire, and the
+-- tenures that ended
 pub record Ran : Type 0 where
   pub state : State
   pub settings : Settings
@@ -20,7 +20,7 @@ pub record Ran : Type 0 where
 abbrev pub ran_of : State → Settings → CutList → List Symbol → List Tenure → Ran
 ran_of state settings cuts symbols ended = record { state = state; settings = settings; cuts = cuts; wire = keep_last 256 symbols; ended = ended }
 
--- symbols are the last of a wire, of which the last ones are kept
+-- these symbols are the last ones of a wire, which keeps no more than its last symbols
 abbrev pub IsEnd : List Symbol → List Symbol → Type 0
 IsEnd wire symbols = (before : List Symbol) × (wire ≡ keep_last 256 (before ++ symbols))
 

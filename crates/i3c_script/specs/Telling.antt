@@ -19,7 +19,7 @@ pub record IsTold (names : Names) (subject : Subject) (reply : Reply) (said : Li
 abbrev pub Prints : (List ℕ → Option Refusal → Type 0) → List ℕ → List ℕ → Result (Unit {0}) (Stop Refusal) → Type 0
 Prints Is old new result = Ends (λ refused. (said : List ℕ) × (new ≡ old ++ said) × Is said refused) result
 
--- a reply counts so many more records, unless the number is too large
+-- a reply counts `forgotten` more records, unless the number is too large
 abbrev pub Counts : ℕ → Reply → Reply → Result (Unit {0}) (Stop Refusal) → Type 0
 Counts forgotten old new (Ok done) = new ≡ reply_from forgotten old
 Counts forgotten old new (Err Stop.Memory) = ⊤

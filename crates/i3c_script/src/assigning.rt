@@ -20,8 +20,8 @@ use i3c_lines::Refusal;
 use i3c_text::{Stop, Text};
 use std::alloc::AllocError;
 
-/// `daa`: opens a session, in which these are cut, runs its rounds and ends it. Whoever asks while it is opened is turned
-/// down. It answers the role or session in hand afterwards, and what the line comes to.
+/// `daa`: opens a session, in which these are cut, runs its rounds and ends it. A request at its opening is turned down. It
+/// answers the role or session in hand afterwards, and the line's result.
 pub(crate) fn assign(
     hand: Hand,
     bus: &mut Bus,
@@ -83,7 +83,7 @@ fn run_rounds(
     ensures fits { HandFits (HandValue.Session session.now) bus.new.state }
 {
     let cuts = Cuts::new();
-    // of so many rounds one is the last, by the law `sessions_end` of the bus
+    // one of this many rounds is the last, by the law `sessions_end` of the bus
     for _ in 0..SLOTS {
         let Ok(answer) = run_round(session, bus, wires, &cuts, text) else {
             return Err(Stop::Memory);

@@ -15,8 +15,8 @@ use i3c_lines::{Name, Names};
 use i3c_text::Text;
 use std::alloc::AllocError;
 
-/// Prints the bus as `show` does, then what each present device is, by slot, whether the list of devices is current,
-/// whether a session is open, and who was active when interrupts were recorded.
+/// Prints the bus as `show` does, then each present device, by slot, whether the list of devices is current, whether a
+/// session is open, and the active controllers with their records.
 pub(crate) fn show_all(
     bus: &Bus,
     names: &Names,
@@ -33,7 +33,7 @@ pub(crate) fn show_all(
     show_times(bus, settings, ended, text)
 }
 
-/// Prints who was active when interrupts were recorded.
+/// Prints the active controllers, with the numbers of the records of each.
 fn show_times(
     bus: &Bus,
     settings: &Settings,

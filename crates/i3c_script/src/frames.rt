@@ -8,7 +8,7 @@ use i3c_frame::Symbol;
 use i3c_text::Text;
 use std::alloc::AllocError;
 
-/// Prints the last so many whole frames of some symbols, the oldest first, a line for each.
+/// Prints the last `count` whole frames of some symbols, the oldest first, a line for each.
 pub(crate) fn show_frames(
     symbols: &[Symbol],
     count: usize,
@@ -33,7 +33,7 @@ fn frame_count(symbols: &[Symbol]) -> usize
     count
 }
 
-/// The symbols behind so many whole frames.
+/// The symbols behind the first `count` whole frames.
 fn behind_frames(symbols: &[Symbol], count: usize) -> &[Symbol]
     ensures { whole_frames result.now ≡ drop count (whole_frames symbols.now) }
 {

@@ -7,7 +7,7 @@ use i3c_bus::{Refusal as BusRefusal, Reply};
 use i3c_lines::Refusal;
 use i3c_text::Stop;
 
-/// What a line comes to by the bus's reply: the one place for refusals and for want of memory.
+/// The result of a line by the bus's reply: the one place for refusals and for want of memory.
 pub fn outcome_of(reply: &Reply) -> Result<(), Stop<Refusal>>
     ensures { Ends (λ refused. (reply.now ≢ ReplyValue.OutOfMemory) × (refused ≡ reply_refusal reply.now)) result }
 {
@@ -27,7 +27,7 @@ pub fn outcome_of(reply: &Reply) -> Result<(), Stop<Refusal>>
     }
 }
 
-/// What a line comes to by the answer to a frame's own part.
+/// The result of a line by the answer to a frame's own part.
 fn outcome_of_answer(answer: &Answer) -> Result<(), Stop<Refusal>>
     ensures refused { Ends (λ refused. refused ≡ answer_refusal answer.now) result }
     ensures fed { result ≢ Err Stop.Memory }
@@ -41,7 +41,7 @@ fn outcome_of_answer(answer: &Answer) -> Result<(), Stop<Refusal>>
     }
 }
 
-/// What a line comes to by a round's answer.
+/// The result of a line by a round's answer.
 pub(crate) fn outcome_of_round(answer: &RoundReply) -> Result<(), Stop<Refusal>>
     ensures refused { Ends (λ refused. refused ≡ round_refusal answer.now) result }
     ensures fed { result ≢ Err Stop.Memory }

@@ -25,9 +25,9 @@ use std::marker::Model;
 use std::mem;
 
 /// A bus, its role or session, the last symbols of its wire, what its lines have set, the cuts that wait for the next frame,
-/// and who was active before.
+/// and its former active controllers.
 ///
-/// Its role stands in an `Option`, so that an event can take it from a stage that is lent, and give one back.
+/// The role is in an `Option`, so that an event can take it from a stage that is lent, and give one back.
 pub struct Running {
     bus: Bus,
     hand: Option<Hand>,
@@ -111,7 +111,7 @@ impl Running {
         &self.cuts
     }
 
-    /// Obeys a line, and prints what came of it. Whoever calls it is named by `K`, so that each caller has it in line.
+    /// Obeys a line, and prints the result. `K` names the caller, so that each caller has it in line.
     pub(crate) fn obey<K>(
         &mut self,
         names: &mut Names,
@@ -360,7 +360,7 @@ impl Running {
         self.settings.forget(&mut self.bus, last);
     }
 
-    /// The cuts that wait, of which none is left.
+    /// The cuts that wait; none is left.
     fn take_cuts(&mut self) -> Cuts
         ensures taken { result ≡ self.old.cuts }
         ensures left { self.new ≡ record self.old { cuts = no_cuts } }
@@ -455,7 +455,7 @@ impl Running {
         }
     }
 
-    /// `frames`: the last so many whole frames of these symbols.
+    /// `frames`: the last `count` whole frames of these symbols.
     #[inline(never)]
     fn show_frames(&mut self, count: u16, text: &mut Text) -> Result<(), Stop<Refusal>>
         ensures same { self.new ≡ self.old }

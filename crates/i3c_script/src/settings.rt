@@ -33,7 +33,7 @@ impl Settings {
     ghost use Rattle.i3c_script.specs.Accepting.{Accepts, Forgets, at_first};
     ghost use Rattle.i3c_script.specs.Sums.{IsSum};
 
-    /// Those of a new bus: each request is accepted, and no record has left.
+    /// The settings of a new bus: each request is accepted, and no record has left.
     pub fn new() -> Settings
         ensures { result ≡ at_first }
     {
@@ -99,7 +99,7 @@ impl Settings {
         self.accepted_of_some(bus)
     }
 
-    /// The same where devices are excepted.
+    /// The same with excepted devices.
     // kept apart, so that a frame pays for no more than the question whether any is
     #[inline(never)]
     fn accepted_of_some(&self, bus: &Bus) -> Fixed
@@ -112,7 +112,7 @@ impl Settings {
     }
 }
 
-/// So many records, and more of them.
+/// The sum of two numbers of records.
 ///
 /// # Errors
 ///
@@ -133,7 +133,7 @@ fn is_same_policy(policy: &Fixed, other: &Fixed) -> bool
     *policy == *other
 }
 
-/// Whether the same slots stand in the same order.
+/// Whether the slots are the same in the same order.
 fn are_same_slots(slots: &[Slot], others: &[Slot]) -> bool
     ensures { IsTrue result ↔ (slots.now ≡ others.now) }
 {

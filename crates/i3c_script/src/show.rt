@@ -73,8 +73,8 @@ pub(crate) fn show_main(
     show_place(b" slot 0 at ", address, text)
 }
 
-/// Prints the bus: who is active, the present devices by slot, the legacy targets by address, and the records, where so many
-/// have left the log.
+/// Prints the bus: the active controller, the present devices by slot, the legacy targets by address, and the records, where
+/// `forgotten` ones have left the log.
 pub fn show_bus(
     bus: &Bus,
     names: &Names,

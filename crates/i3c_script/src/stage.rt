@@ -16,8 +16,8 @@ use i3c_text::{Stop, Text};
 use std::alloc::{AllocError, Global};
 use std::mem;
 
-/// Where a script stands. It holds the bus, so lines are run on a stage that is lent, and it is retired at the
-/// script's end.
+/// How far a script has come. It holds the bus, so lines are run on a stage that is lent, and it is retired at the script's
+/// end.
 pub enum Stage {
     /// Before the bus is made, legacy targets and identities are declared at static addresses.
     Before(Legacies),
@@ -38,7 +38,7 @@ impl Stage {
         Stage::Before(Legacies::new())
     }
 
-    /// Obeys a line, and prints what came of it. Whoever calls it is named by `K`, so that each caller has it in line.
+    /// Obeys a line, and prints the result. `K` names the caller, so that each caller has it in line.
     pub fn obey<K>(
         &mut self,
         alloc: Global,

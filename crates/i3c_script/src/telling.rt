@@ -118,7 +118,7 @@ pub(crate) fn count_from(forgotten: usize, reply: &mut Reply) -> Result<(), Stop
     }
 }
 
-/// The same where some have left.
+/// The same when records have left the log.
 // kept apart, so that a line pays for no more than the question whether any has
 #[inline(never)]
 fn number_from(forgotten: usize, reply: &mut Reply) -> Result<(), AllocError>
@@ -133,7 +133,7 @@ fn number_from(forgotten: usize, reply: &mut Reply) -> Result<(), AllocError>
     }
 }
 
-/// The same of what became of a request.
+/// The same of the result of a request.
 fn number_served(forgotten: usize, served: &mut Served) -> Result<(), AllocError>
     ensures { OnOk result (served.new ≡ counted_from forgotten served.old) }
 {
@@ -146,7 +146,7 @@ fn number_served(forgotten: usize, served: &mut Served) -> Result<(), AllocError
     Ok(())
 }
 
-/// Prints what a raise came to, as `tell` does for a reply.
+/// Prints the result of a raise, as `tell` does for a reply.
 #[inline(always)]
 pub(crate) fn tell_raised(
     raised: Result<u64, RaiseRefusal>,
@@ -181,7 +181,7 @@ pub(crate) fn tell_attached(
     }
 }
 
-/// Prints what a drop-off came to, as `tell` does for a reply.
+/// Prints the result of a drop-off, as `tell` does for a reply.
 pub(crate) fn tell_dropped(
     dropped: Result<(), DropRefusal>,
     text: &mut Text,
@@ -197,7 +197,7 @@ pub(crate) fn tell_dropped(
     }
 }
 
-/// Prints what a wish to join came to, as `tell` does for a reply.
+/// Prints the result of a wish to join, as `tell` does for a reply.
 pub(crate) fn tell_join(
     asked: Result<(), JoinRefusal>,
     text: &mut Text,
@@ -213,7 +213,7 @@ pub(crate) fn tell_join(
     }
 }
 
-/// Prints what a wish for the role came to, as `tell` does for a reply.
+/// Prints the result of a wish for the role, as `tell` does for a reply.
 pub(crate) fn tell_role(
     asked: Result<(), RoleRefusal>,
     text: &mut Text,
@@ -229,7 +229,7 @@ pub(crate) fn tell_role(
     }
 }
 
-/// Prints what a reply has to say, but for refusals.
+/// Prints a reply that is no refusal.
 fn show_reply(
     names: &Names,
     subject: Subject,
@@ -284,7 +284,7 @@ fn show_attached(names: &Names, subject: Subject, text: &mut Text) -> Result<(),
     }
 }
 
-/// Prints what became of the request in a frame's first header.
+/// Prints the result of the request in a frame's first header.
 fn show_served(served: &Served, text: &mut Text) -> Result<(), AllocError>
     ensures { OnOk result (text.new ≡ text.old ++ served_text served.now) }
 {
@@ -312,7 +312,7 @@ pub(crate) fn show_request(served: &Served, text: &mut Text) -> Result<(), Alloc
     }
 }
 
-/// Prints what a frame served, and what its own part came to, if it was carried out.
+/// Prints what a frame served, and the result of its own part, if it was carried out.
 fn show_framed(subject: Subject, framed: &Framed, text: &mut Text) -> Result<(), AllocError>
     ensures { OnOk result (text.new ≡ text.old ++ framed_text subject framed.now) }
 {
@@ -349,7 +349,7 @@ fn show_opened(served: &Served, text: &mut Text) -> Result<(), AllocError>
     text.push(b"open\n")
 }
 
-/// Prints what was served while the role was handed over, and the address of who has it.
+/// Prints what was served while the role was handed over, and the address of its holder.
 fn show_handed(subject: Subject, served: &Served, text: &mut Text) -> Result<(), AllocError>
     ensures { OnOk result (text.new ≡ text.old ++ handed_text subject served.now) }
 {

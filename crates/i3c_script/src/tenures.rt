@@ -11,13 +11,13 @@ use std::alloc::AllocError;
 /// A controller's time as the active one, which ended: its slot, and how many records there were then.
 #[derive(Clone, Copy)]
 pub struct Tenure {
-    /// The slot of who was active.
+    /// The slot of the active controller.
     pub slot: Slot,
     /// How many interrupts were recorded when it handed the role over.
     pub records: usize,
 }
 
-/// Ends the time of who was active, with so many records, where this reply says that the role was handed over.
+/// Ends the tenure of the active controller, at this number of records, if the reply says that the role was handed over.
 pub(crate) fn end_tenure(
     ended: &mut Vec<Tenure>,
     reply: &Reply,
@@ -39,7 +39,7 @@ fn is_handed(reply: &Reply) -> bool
     matches!(reply, Reply::Handed(_))
 }
 
-/// Prints who was active when interrupts were recorded: each whose time ended, and who is now.
+/// Prints the active controllers, with the numbers of the records of each: the tenures that ended, and the present one.
 pub(crate) fn show_tenures(
     ended: &[Tenure],
     active: Slot,

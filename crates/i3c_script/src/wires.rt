@@ -15,7 +15,7 @@ use std::marker::Model;
 /// How many symbols are kept.
 const SYMBOLS: usize = 256;
 
-/// How many symbols may wait to be kept, of which the last ones are.
+/// The number of symbols that may wait; only the last of them are kept.
 const FRESH: usize = 4096;
 
 /// The last symbols of the wire, at most 256 of them.
@@ -24,7 +24,7 @@ const FRESH: usize = 4096;
 #[derive(Drop)]
 pub(crate) struct Wires {
     kept: HeapCircularBuffer<Symbol>,
-    // those that came since, of which the last ones are kept when there is no more room
+    // the later symbols; the last of them are kept when there is no more room
     fresh: Vec<Symbol>,
 }
 
@@ -78,7 +78,7 @@ impl Wires {
         symbols.extend_from_slice(&self.fresh)
     }
 
-    /// Prints the last so many whole frames of the symbols, the oldest first, a line for each.
+    /// Prints the last `count` whole frames of the symbols, the oldest first, a line for each.
     pub fn show_frames(&mut self, count: u16, text: &mut Text) -> Result<(), AllocError>
         ensures same { self.new ≡ self.old }
         ensures told { OnOk result (text.new ≡ text.old ++ frames_text count (keep_last SYMBOLS self.old)) }

@@ -138,7 +138,7 @@ frame_booked books old new event reply was g frame steady =
     (ap (λ (b : BooksValue). b.active) was ∙ sym (grown_active old new event reply g steady.0))
     (ap (λ (b : BooksValue). b.session) was ∙ sym (ap sessions_in steady.1))
 
--- a refused one
+-- a refused event
 pub refused_booked : (books : BooksValue) (old new : Log) (event : Event) (reply : Reply) (why : Refusal) → books ≡ books_of old → Grows old event reply new → is_frame event ≡ true → reply ≡ Reply.Refused why → book_frame books ≡ books_of new
 refused_booked books old new event reply why was g frame is = frame_booked books old new event reply was g frame (same_reply reply (Reply.Refused why) old.state.in_session is (refl, refl))
 
@@ -168,7 +168,7 @@ opened_booked books old new cuts reply served was g is =
     (ap (λ (b : BooksValue). b.active) was ∙ sym (grown_active old new (Event.OpenDaa cuts) reply g (ap is_handed is)))
     (ap (λ r. sessions_in (session_after r old.state.in_session)) (sym is))
 
--- an ended one
+-- an ended session
 pub ended_booked : (books : BooksValue) (old new : Log) (reply : Reply) → books ≡ books_of old → Grows old Event.EndDaa reply new → reply ≡ Reply.Ended → record (book_frame books) { session = 0 } ≡ books_of new
 ended_booked books old new reply was g is =
     framed books old new Event.EndDaa reply books.active 0 was g refl
@@ -199,14 +199,14 @@ closed_counted books old seen last (Some held) run was takes ran h = (
   ap (λ (b : BooksValue). b.frames) (h ∙ was) ∙ sym (taken_frames old seen last takes) ∙ sym (ap frames_in ran),
 )
 
--- whose shares come to what is booked has a role while no session is open, and a session while one is
+-- a holder whose shares are all that is booked has a role while no session is open, and a session while one is
 pub is_closed : (log : Log) (books shares : BooksValue) → shares ≡ books → books ≡ books_of log → shares.session ≡ 0 → log.state.in_session ≡ false
 is_closed log books shares whole was role = none_open log.state.in_session (sym (ap (λ (b : BooksValue). b.session) (whole ∙ was)) ∙ role)
 
 pub is_opened : (log : Log) (books shares : BooksValue) → shares ≡ books → books ≡ books_of log → shares.session ≡ 1 → log.state.in_session ≡ true
 is_opened log books shares whole was session = one_open log.state.in_session (sym (ap (λ (b : BooksValue). b.session) (whole ∙ was)) ∙ session)
 
--- the run has one frame event more than such shares count
+-- the run has one frame event more than these shares count
 pub one_more : (books shares : BooksValue) (old new : Log) (event : Event) (reply : Reply) → shares ≡ books → books ≡ books_of old → Grows old event reply new → is_frame event ≡ true → frames_in new.run ≡ shares.frames + 1
 one_more books shares old new event reply whole was g frame =
     grown_frames old new event reply g frame ∙ ap (λ (b : BooksValue). b.frames + 1) (sym (whole ∙ was))

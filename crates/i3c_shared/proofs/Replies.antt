@@ -12,7 +12,7 @@ use Rattle.i3c_step.specs.Serving.{recorded_at}
 use Rattle.i3c_step.specs.Step.{Acts, IsShort, Step, checks, first_refusal, may_want_memory}
 use Rattle.i3c_shared.specs.Replying.{is_ask_reply, is_attach_reply, is_drop_reply, is_end_reply, is_hand_reply, is_open_reply, is_round_reply}
 
--- a test of replies that holds of each refusal and of what an event acts as holds of its steps
+-- a test of replies that holds of each refusal and of each effect of an event holds of the event's steps
 module _ (Is : Reply → Bool) (old : State) (event : Event) (reply : Reply) (new : State) where
   any_refusal : may_want_memory event ≡ false → ((why : Refusal) → Is (Reply.Refused why) ≡ true) → (Acts old event reply new → Is reply ≡ true) → Step old event reply new → Is reply ≡ true
   any_refusal memory refused acts h = go (first_refusal (checks old event)) h

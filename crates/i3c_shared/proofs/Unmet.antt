@@ -28,7 +28,7 @@ abbrev isnt_none : Refusal → Bool
 isnt_none Refusal.NoSession = false
 isnt_none why = true
 
--- each test that holds stands for another
+-- each test that holds gives a refusal that passes the predicate
 abbrev all_other : (Refusal → Bool) → Checks → Bool
 all_other is [] = true
 all_other is (check ∷ rest) = (is check.1 || not check.0) && all_other is rest

@@ -1,4 +1,4 @@
--- What became of a port's posts, over a whole run.
+-- The posts of a port over a whole run: how many were recorded, lost, or still wait.
 use Rattle.std.specs.Prelude.{◌≡◌, ℕ, ◌+◌, ◌&&◌, List, [], ◌∷◌, ◌++◌, length, Option, Some, is_some, if◌then◌else◌}
 use Rattle.rtrb.specs.Ring.{sent}
 use Rattle.i3c_base.specs.declared.device.Setup.{Setup}
@@ -42,7 +42,7 @@ pub record IsHistoryOf (run : List Entry) (new start : State) (h : History) : Ty
   pub replies : history.replies_of h ≡ replies_of run
   pub reached : reached start h ≡ new
 
--- of each port handed in to a close, if its ring was here and its device is still there: its posts are the refused raises,
+-- the posts of each port handed in to a close, if its ring was here and its device is still there, are the refused raises,
 -- those that were recorded in the device's stay, and those that wait
 abbrev pub PostsAreAccountedFor : Type 0
 PostsAreAccountedFor = (old : KeptValue) (role : Option HeldValue) (ports : List PortValue) (run : List Entry) (records : List Record) (waiting : List ℕ) (closes : Closes old role ports run records waiting)

@@ -23,7 +23,7 @@ frames_in run = count_by (λ (e : Entry). is_frame e.event) run
 abbrev pub sessions_in : Bool → ℕ
 sessions_in is_open = if is_open then 1 else 0
 
--- nothing is booked
+-- the books before the bus starts
 abbrev pub no_books : BooksValue
 no_books = record { active = 0; session = 0; frames = 0 }
 
@@ -45,7 +45,7 @@ pub record IsHeld (log : Log) (is_open : Bool) (held : HeldValue) : Type 0 where
   pub session : log.state.in_session ≡ is_open
   pub frames : held.frames ≡ frames_in log.run
 
--- what the shares of a role come to, and with 1 those of a session
+-- the amounts of a role's shares, and with 1 those of a session
 abbrev pub shares_of : ℕ → HeldValue → BooksValue
 shares_of session held = record { active = held.holder; session = session; frames = held.frames }
 

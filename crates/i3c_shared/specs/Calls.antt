@@ -1,4 +1,4 @@
--- What each call does to what lies under the lock, by its answer.
+-- The effect of each call on the state under the lock, by its answer.
 use Rattle.std.specs.Prelude.{◌≡◌, ◌≢◌, ℕ, ◌+◌, ⊤, MatchOption, Bool, true, false, not, ◌&&◌, [], Option, Some, None, ◌⊎◌, is_some, Result, Ok, Err}
 use Rattle.rtrb.specs.Ring.{IsPair, sent}
 use Rattle.i3c_base.specs.declared.answers.Answer.{Answer}
@@ -78,7 +78,7 @@ abbrev pub Drops : KeptValue → KeptValue → PortValue → Result Left (PortVa
 Drops old new port (Ok left) = DropsWith old new port.slot (left_reply left)
 Drops old new port (Err refused) = SamePort port refused.0 × DropsNot old new port.slot refused.1
 
--- a wish
+-- a wish, by its answer
 abbrev pub AsksFor : KeptValue → KeptValue → Event → Result (Unit {0}) CallFault → Type 0
 AsksFor old new event (Ok done) = Does old event Reply.Asked new
 AsksFor old new event (Err (CallFault.Refused why)) = Does old event (Reply.Refused why) new

@@ -1,4 +1,4 @@
--- When a bus may be closed, and what it was.
+-- When a bus may be closed, and what is left of it.
 use Rattle.std.specs.Prelude.{◌≡◌, ℕ, ◌<◌, Bool, true, false, ◌||◌, ◌&&◌, List, length, slice_index, Option, is_none, MatchOption, ⊤}
 use Rattle.i3c_base.specs.declared.range.TheConstants.{SLOTS}
 use Rattle.i3c_base.specs.declared.requests.Record.{Record}
@@ -17,12 +17,13 @@ use Rattle.i3c_shared.specs.Values.{HeldValue, KeptValue, Log, PortValue, Rings}
 abbrev pub is_role_out : KeptValue → Option HeldValue → Bool
 is_role_out k role = k.log.state.in_session || (is_none role && is_none k.parked)
 
--- so many interrupts wait on the bus, by slot
+-- the numbers of the interrupts that wait on the bus, by slot
 pub record AreWaiting (waiting : List ℕ) (st : State) : Type 0 where
   pub slots : length waiting ≡ SLOTS
   pub each : (s : ℕ) → s < SLOTS → slice_index waiting s ≡ waiting_of (device_at st s)
 
--- posts are taken up for the last time: the run is legal and leads to a state that has these records, and in which so many interrupts wait
+-- posts are taken up for the last time: the run is legal and leads to a state that has these records and these numbers of
+-- waiting interrupts
 pub record TakesLast (old : Log) (run : List Entry) (records : List Record) (waiting : List ℕ) : Type 0 where
   pub seen : Rings
   pub looked : AllLooked old.rings seen
@@ -37,8 +38,8 @@ pub record TakesLast (old : Log) (run : List Entry) (records : List Record) (wai
 abbrev pub IsCounted : Option HeldValue → List Entry → State → Type 0
 IsCounted role run end = MatchOption role ⊤ (λ held. (held.holder ≡ end.active) × (held.frames ≡ frames_in run))
 
--- a close that is accepted: a role that was handed in is this bus's, and of each port handed in whose ring was here, the raises
--- are all that it posted
+-- an accepted close: the role that was handed in is this bus's, and the raises of each port with its ring here are all that
+-- it posted
 pub record Closes (old : KeptValue) (role : Option HeldValue) (ports : List PortValue) (run : List Entry) (records : List Record) (waiting : List ℕ) : Type 0 where
   pub role_in : is_role_out old role ≡ false
   pub ports_in : NoneMissing old.log.rings ports

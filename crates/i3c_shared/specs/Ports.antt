@@ -27,7 +27,7 @@ IsMissing rings ports s = (is_out rings s ≡ true) × ¬ HasPort ports s
 abbrev pub NoneMissing : Rings → List PortValue → Type 0
 NoneMissing rings ports = (s : ℕ) → ¬ IsMissing rings ports s
 
--- the lowest such slot
+-- the lowest missing slot
 abbrev pub IsFirstMissing : Rings → List PortValue → ℕ → Type 0
 IsFirstMissing rings ports s = IsMissing rings ports s × ((t : ℕ) → t < s → ¬ IsMissing rings ports t)
 
@@ -36,7 +36,7 @@ pub record SamePorts (old new : List PortValue) : Type 0 where
   pub count : length new ≡ length old
   pub each : (k : ℕ) (p q : PortValue) → IsAt old k p → IsAt new k q → SamePort p q
 
--- of each of these ports whose ring this is: what is known of it is all that the port posted
+-- all that was posted is known of the ring of each of these ports, if this ring is its own
 abbrev pub AllCovered : Rings → List PortValue → Type 0
 AllCovered rings ports = (k : ℕ) (p : PortValue) → IsAt ports k p → IsEndOf p (ring_at rings p.slot) → IsWhole p (ring_at rings p.slot)
 
@@ -44,14 +44,14 @@ AllCovered rings ports = (k : ℕ) (p : PortValue) → IsAt ports k p → IsEndO
 abbrev pub AllWhole : Rings → Rings → List PortValue → Type 0
 AllWhole old new ports = (k : ℕ) (p : PortValue) → IsAt ports k p → IsEndOf p (ring_at old p.slot) → IsWhole p (ring_at new p.slot)
 
--- of each of these ports whose ring was here: the raises are all that it posted
+-- the raises of each of these ports, if its ring was here, are all that it posted
 abbrev pub AllPosted : Rings → List PortValue → List Entry → Type 0
 AllPosted rings ports run = (k : ℕ) (p : PortValue) → IsAt ports k p → IsEndOf p (ring_at rings p.slot) → raises_of p.slot run ≡ sent p.producer
 
--- of each of these ports whose ring this is: what was taken and what is known was posted first
+-- the items taken from and known in the ring of each of these ports, if this ring is its own, were posted first
 abbrev pub AllBegun : Rings → List PortValue → Type 0
 AllBegun rings ports = (k : ℕ) (p : PortValue) → IsAt ports k p → IsEndOf p (ring_at rings p.slot) → IsBegun p (ring_at rings p.slot)
 
--- of each of these ports whose ring was here: the raises are the first of its posts, in order
+-- the raises of each of these ports, if its ring was here, are the first of its posts, in order
 abbrev pub AllPostedFirst : Rings → List PortValue → List Entry → Type 0
 AllPostedFirst rings ports run = (k : ℕ) (p : PortValue) → IsAt ports k p → IsEndOf p (ring_at rings p.slot) → IsPrefix (raises_of p.slot run) (sent p.producer)

@@ -60,7 +60,7 @@ abbrev pub raises_below : ℕ → Rings → List Event
 raises_below zero rings = []
 raises_below (suc n) rings = raises_below n rings ++ raises_at n (known_of (ring_at rings n))
 
--- those of all slots
+-- the raises of the posts known in all slots' rings
 abbrev pub raises_in : Rings → List Event
 raises_in rings = raises_below (length rings) rings
 
@@ -73,7 +73,7 @@ abbrev pub IsEndOf : PortValue → Option Reading → Type 0
 IsEndOf p None = ⊥
 IsEndOf p (Some c) = IsPair p.producer c
 
--- it is, and what was taken and what is known are all posts
+-- the ring is the port's own, and the items taken and known are all posts
 abbrev pub IsWhole : PortValue → Option Reading → Type 0
 IsWhole p None = ⊥
 IsWhole p (Some c) = received c ++ known_items c ≡ sent p.producer

@@ -58,7 +58,7 @@ pub record Stays (old new : Log) : Type 0 where
 abbrev pub IsReady : IntakeValue → Type 0
 IsReady k = (SLOTS * POSTS + 1 ≤ k.spare) × (k.room ≡ true)
 
--- neither a raise nor an attachment
+-- the event is neither a raise nor an attachment
 abbrev pub IsOther : Event → Type 0
 IsOther (Attach s setup) = ⊥
 IsOther (Raise s byte) = ⊥

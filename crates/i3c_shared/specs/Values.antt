@@ -31,8 +31,8 @@ pub record IntakeValue : Type 0 where
   pub room : Bool
   pub spare : ℕ
 
--- what the books of the three ledgers come to, or all shares of them: the active slot, 1 while a session is open, and the
--- number of frame events
+-- the amounts in the books of the three ledgers, or of all shares of them: the active slot, 1 while a session is open, and
+-- the number of frame events
 pub record BooksValue : Type 0 where
   pub active : ℕ
   pub session : ℕ
@@ -43,7 +43,7 @@ pub record HeldValue : Type 0 where
   pub holder : ℕ
   pub frames : ℕ
 
--- what lies under the lock: the log, the books, and the parked role
+-- the state under the lock: the log, the books, and the parked role
 pub record KeptValue : Type 0 where
   pub log : Log
   pub books : BooksValue

@@ -4,8 +4,8 @@ use i3c_base::Slot;
 use std::marker::Model;
 use std::sync::ledger::{Blank, Book, Ledger, Share};
 
-/// The books of a bus's three ledgers. They are seen as what they come to: the active controller's slot, 1 while a
-/// session is open, and the number of frame events in the run.
+/// The books of a bus's three ledgers. They are seen as their amounts: the active controller's slot, 1 while a session is
+/// open, and the number of frame events in the run.
 #[derive(Drop)]
 pub struct Books<L: Ledger, M: Ledger, N: Ledger> {
     active: Book<L>,
@@ -21,8 +21,8 @@ impl<L: Ledger, M: Ledger, N: Ledger> Model for Books<L, M, N> {
     ghost view = { λ b. record { active = b.active.total; session = b.session.total; frames = b.frames.total } };
 }
 
-/// All shares of the three ledgers, which a role or session has in hand, with the slot and the count that they stand for.
-/// They are seen as their amounts.
+/// All shares of the three ledgers, for a role or session, with the slot and the count that they hold. They are seen as their
+/// amounts.
 pub struct Shares<L: Ledger, M: Ledger, N: Ledger> {
     pub(crate) holder: Slot,
     pub(crate) count: u64,
@@ -94,7 +94,7 @@ impl<L: Ledger, M: Ledger, N: Ledger> Books<L, M, N> {
         (books, shares)
     }
 
-    /// Changes nothing, and tells that the shares come to what is booked: there are no others.
+    /// Changes nothing, and tells that the shares are all that is booked.
     pub(crate) fn audit(&mut self, shares: &mut Shares<L, M, N>)
         ensures same { (self.new ≡ self.old) × (shares.new ≡ shares.old) }
         ensures whole { shares.old ≡ self.old }
@@ -104,7 +104,7 @@ impl<L: Ledger, M: Ledger, N: Ledger> Books<L, M, N> {
         self.frames.audit(&mut shares.frames);
     }
 
-    /// The same of a role, if there is one.
+    /// Audits the shares of a role, if there is one.
     pub(crate) fn audit_role(&mut self, role: &mut Option<HeldRole<L, M, N>>)
         ensures same { (self.new ≡ self.old) × (role.new ≡ role.old) }
         ensures whole { MatchOption role.old ⊤ (λ held. shares_of 0 held ≡ self.old) }

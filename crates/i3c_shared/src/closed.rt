@@ -2,7 +2,7 @@ use i3c_base::SLOTS;
 use i3c_bus::Records;
 use i3c_recorder::Run;
 
-/// What a bus was: its run, its records, and the interrupts that wait.
+/// What is left of a closed bus: its run, its records, and the interrupts that wait.
 #[derive(Drop)]
 pub struct Closed {
     /// The events that the bus went through, with their replies.

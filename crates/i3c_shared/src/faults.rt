@@ -75,7 +75,7 @@ pub enum CloseFault {
     /// The role wasn't handed in and isn't parked, or an assignment is under way.
     #[error("the role is out")]
     RoleOut,
-    /// The slot's port is out and isn't handed in: the lowest such slot.
+    /// The slot's port is out and isn't handed in; no lower slot's is.
     #[error("a port is out")]
     PortOut(Slot),
     /// There was no memory. Nothing changed.

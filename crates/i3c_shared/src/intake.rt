@@ -132,8 +132,7 @@ impl Intake {
         self.recorder.reserve(ADDED)
     }
 
-    /// The same with a port in hand, which may be of any ring: what is seen of its slot's ring is all that it posted, if
-    /// that ring is its own.
+    /// The same with a port in hand, which may be of any ring. If its slot's ring is its own, all that it posted is seen.
     fn ready_for(&mut self, port: &mut Port) -> Result<(), OutOfMemory>
         ensures same { Stays self.old.log self.new.log }
         ensures few { AllFew self.new.log.rings }
@@ -161,8 +160,8 @@ impl Intake {
         drain(&mut self.recorder, &mut self.rings);
     }
 
-    /// One event that is neither a raise nor an attachment.
-    fn make<T: Tap>(&mut self, event: Event, tap: &mut T) -> Reply
+    /// Applies one event that is neither a raise nor an attachment.
+    fn apply<T: Tap>(&mut self, event: Event, tap: &mut T) -> Reply
         requires room { (0 < self.old.spare) × (self.old.room ≡ true) }
         requires other { IsOther event }
         ensures memory { result ≢ ReplyValue.OutOfMemory }
@@ -172,9 +171,13 @@ impl Intake {
         self.recorder.apply(event, tap)
     }
 
-    /// Takes up what is posted, and then makes one event that is neither a raise nor an attachment. The tap is told the
+    /// Takes posts up, and then applies one event that is neither a raise nor an attachment. The tap is told the
     /// wire of that event.
-    pub(crate) fn carry<T: Tap>(&mut self, event: Event, tap: &mut T) -> Result<Reply, OutOfMemory>
+    pub(crate) fn take_and_apply<T: Tap>(
+        &mut self,
+        event: Event,
+        tap: &mut T,
+    ) -> Result<Reply, OutOfMemory>
         requires { IsOther event }
         ensures { MatchResult result
             (λ reply. (reply ≢ ReplyValue.OutOfMemory) × TellsOf T.note_gives tap.old tap.new self.old.log event reply self.new.log)
@@ -182,11 +185,15 @@ impl Intake {
     {
         self.ready()?;
         self.take_up();
-        Ok(self.make(event, tap))
+        Ok(self.apply(event, tap))
     }
 
     /// The same with a port in hand: if its slot's ring is its own, all that it posted is taken up.
-    pub(crate) fn carry_for(&mut self, event: Event, port: &mut Port) -> Result<Reply, OutOfMemory>
+    pub(crate) fn take_and_apply_for(
+        &mut self,
+        event: Event,
+        port: &mut Port,
+    ) -> Result<Reply, OutOfMemory>
         requires { IsOther event }
         ensures port { SamePort port.old port.new }
         ensures grows { MatchResult result (λ reply. (reply ≢ ReplyValue.OutOfMemory) × Grows self.old.log event reply self.new.log) (λ _. Stays self.old.log self.new.log) }
@@ -195,10 +202,10 @@ impl Intake {
     {
         self.ready_for(port)?;
         self.take_up();
-        Ok(self.make(event, &mut Silent))
+        Ok(self.apply(event, &mut Silent))
     }
 
-    /// Takes up what is posted, and then sends a frame under the role.
+    /// Takes posts up, and then sends a frame under the role.
     pub(crate) fn command<P: Policy, T: Tap>(
         &mut self,
         command: Command,
@@ -214,11 +221,11 @@ impl Intake {
     {
         self.ready()?;
         self.take_up();
-        Ok(self.send(command, policy, tap, cuts))
+        Ok(self.frame(command, policy, tap, cuts))
     }
 
-    /// A frame under the role.
-    fn send<P: Policy, T: Tap>(
+    /// Sends one frame under the role.
+    fn frame<P: Policy, T: Tap>(
         &mut self,
         command: Command,
         policy: &mut P,
@@ -234,7 +241,7 @@ impl Intake {
         self.recorder.frame(command, policy, tap, cuts)
     }
 
-    /// Takes up what is posted, and then attaches a device: where that is accepted, its port goes out with this ring.
+    /// Takes posts up, and then attaches a device: if that is accepted, its port goes out with this ring.
     pub(crate) fn attach(
         &mut self,
         slot: Slot,
@@ -248,11 +255,11 @@ impl Intake {
     {
         self.ready()?;
         self.take_up();
-        Ok(self.put(slot, setup, ring))
+        Ok(self.apply_attach(slot, setup, ring))
     }
 
-    /// An attachment: where it is accepted, its port goes out with this ring.
-    fn put(&mut self, slot: Slot, setup: Setup, ring: Consumer<Option<u8>>) -> Reply
+    /// Applies an attachment: if it is accepted, its port goes out with this ring.
+    fn apply_attach(&mut self, slot: Slot, setup: Setup, ring: Consumer<Option<u8>>) -> Reply
         requires room { (0 < self.old.spare) × (self.old.room ≡ true) }
         requires fresh { (received ring ≡ []) × (consumer_capacity ring ≡ POSTS) }
         ensures { (taken : Log) × Makes self.old.log (EventValue.Attach slot setup) result taken × PutsOut slot ring result taken self.new.log }
@@ -272,8 +279,8 @@ impl Intake {
         take_in(&mut self.rings, slot);
     }
 
-    /// Takes up what is posted, and takes it apart. With all ports in hand whose rings are here, all that was posted is
-    /// taken up. Where there is no memory, it comes back.
+    /// Takes posts up for the last time, and takes the bus apart. With all ports in hand whose rings are here, all posts are
+    /// taken up. Without memory it comes back whole.
     pub(crate) fn retire(self, ports: &mut Vec<Port>) -> Result<Closed, Intake>
         ensures ports { SamePorts ports.old.items ports.new.items }
         ensures closed { IfOk result (λ c. (seen : Seen) × (end : Log) × AllLooked self.log.rings seen × TakesUp self.log seen end × (c.run.entries ≡ end.run) × (c.records ≡ end.state.records) × AreWaiting c.waiting end.state × IsLegalTo end.run end.state) }
@@ -495,7 +502,7 @@ fn drain(recorder: &mut Recorder, rings: &mut Rings)
     }
 }
 
-/// Whether what is known of its slot's ring is all that a port posted, where that ring is its own.
+/// Whether all that a port posted is known, if its slot's ring is its own.
 fn covers_one(rings: &mut Rings, port: &mut Port) -> bool
     requires { length rings.old.items ≡ SLOTS }
     ensures rings { rings.new.items ≡ rings.old.items }

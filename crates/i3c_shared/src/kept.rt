@@ -19,15 +19,15 @@ use std::marker::Model;
 use std::mem;
 use std::sync::ledger::{Blank, Ledger};
 
-/// What lies under the lock: the bus with its run, the rings of the ports that are out, the books of three ledgers, and
-/// the parked role.
+/// The state under the lock: the bus with its run, the rings of the ports that are out, the books of three ledgers, and the
+/// parked role.
 ///
-/// Each call first takes up what its devices posted, at most eight posts of each port, in the order of the slots, each
-/// as one raise; then comes its own event. A call that answers `SlotTaken` for an empty slot takes up nothing and is no
-/// event; nor is one that answers `OutOfMemory`, before which nothing is taken.
+/// Each call first takes up what its devices posted, at most eight posts of each port, in the order of the slots, each as one
+/// raise; then comes its own event. A call that answers `SlotTaken` for an empty slot takes up nothing and is no event; nor
+/// is one that answers `OutOfMemory`, before which nothing is taken.
 ///
-/// All shares of the ledgers are in the one role or session of the bus, in a thread's hand or parked. So what a thread
-/// holds is the active controller's, is a session just while one is open, and counts each frame event of the run.
+/// All shares of the ledgers are in the one role or session of the bus, in a thread's hand or parked. So what a thread holds
+/// is the active controller's, is a session just while one is open, and counts each frame event of the run.
 pub struct Kept<L: Ledger, M: Ledger, N: Ledger> {
     alloc: Global,
     intake: Intake,
@@ -142,8 +142,8 @@ impl<L: Ledger, M: Ledger, N: Ledger> Kept<L, M, N> {
         Ok(Port::new(slot, producer))
     }
 
-    /// An event of a port's device, which is no frame.
-    fn carry_for(&mut self, event: Event, port: &mut Port) -> Result<Reply, OutOfMemory>
+    /// Applies an event of a port's device, which is no frame.
+    fn apply_for(&mut self, event: Event, port: &mut Port) -> Result<Reply, OutOfMemory>
         requires other { IsOther event }
         requires local { is_frame event ≡ false }
         ensures kept { (self.new.books ≡ self.old.books) × (self.new.parked ≡ self.old.parked) }
@@ -152,7 +152,7 @@ impl<L: Ledger, M: Ledger, N: Ledger> Kept<L, M, N> {
         ensures prefix { IsEndOf port.old (ring_at self.old.log.rings port.old.slot) → IsPrefix (raises_of port.old.slot self.new.log.run) (sent port.new.producer) }
         ensures all { OnOk result (IsEndOf port.old (ring_at self.old.log.rings port.old.slot) → raises_of port.old.slot self.new.log.run ≡ sent port.new.producer) }
     {
-        self.intake.carry_for(event, port)
+        self.intake.take_and_apply_for(event, port)
     }
 
     /// The port's device drops off, and the port is spent: `WasGone` where a cut had taken the device away. The active
@@ -165,7 +165,7 @@ impl<L: Ledger, M: Ledger, N: Ledger> Kept<L, M, N> {
     {
         let mut port = port;
         let slot = port.slot();
-        let Ok(reply) = self.carry_for(Event::DropOff(slot), &mut port) else {
+        let Ok(reply) = self.apply_for(Event::DropOff(slot), &mut port) else {
             return Err((port, DropFault::OutOfMemory));
         };
         match dropped(reply) {
@@ -186,7 +186,7 @@ impl<L: Ledger, M: Ledger, N: Ledger> Kept<L, M, N> {
         ensures all { (result ≢ Err CallFaultValue.OutOfMemory) → IsEndOf port.old (ring_at self.old.log.rings port.old.slot) → raises_of port.old.slot self.new.log.run ≡ sent port.new.producer }
     {
         let event = Event::AskRole(port.slot());
-        let Ok(reply) = self.carry_for(event, port) else {
+        let Ok(reply) = self.apply_for(event, port) else {
             return Err(CallFault::OutOfMemory);
         };
         match asked(reply) {
@@ -203,7 +203,7 @@ impl<L: Ledger, M: Ledger, N: Ledger> Kept<L, M, N> {
         ensures all { (result ≢ Err CallFaultValue.OutOfMemory) → IsEndOf port.old (ring_at self.old.log.rings port.old.slot) → raises_of port.old.slot self.new.log.run ≡ sent port.new.producer }
     {
         let event = Event::AskJoin(port.slot());
-        let Ok(reply) = self.carry_for(event, port) else {
+        let Ok(reply) = self.apply_for(event, port) else {
             return Err(CallFault::OutOfMemory);
         };
         match asked(reply) {
@@ -253,7 +253,7 @@ impl<L: Ledger, M: Ledger, N: Ledger> Kept<L, M, N> {
     {
         let HeldRole { mut shares } = role;
         self.books.audit(&mut shares);
-        let Ok(reply) = self.intake.carry(Event::OpenDaa(cuts), tap) else {
+        let Ok(reply) = self.intake.take_and_apply(Event::OpenDaa(cuts), tap) else {
             return Err((HeldRole { shares }, CallFault::OutOfMemory));
         };
         self.books.count(&self.intake, &mut shares);
@@ -280,7 +280,7 @@ impl<L: Ledger, M: Ledger, N: Ledger> Kept<L, M, N> {
         ensures told { TellsIf T.note_gives tap.old tap.new self.old.log (EventValue.Round cuts) (round_reply result) self.new.log }
     {
         self.books.audit(&mut session.shares);
-        let Ok(reply) = self.intake.carry(Event::Round(cuts), tap) else {
+        let Ok(reply) = self.intake.take_and_apply(Event::Round(cuts), tap) else {
             return Err(CallFault::OutOfMemory);
         };
         self.books.count(&self.intake, &mut session.shares);
@@ -305,7 +305,7 @@ impl<L: Ledger, M: Ledger, N: Ledger> Kept<L, M, N> {
     {
         let HeldSession { mut shares } = session;
         self.books.audit(&mut shares);
-        let Ok(reply) = self.intake.carry(Event::EndDaa, tap) else {
+        let Ok(reply) = self.intake.take_and_apply(Event::EndDaa, tap) else {
             return Err((HeldSession { shares }, CallFault::OutOfMemory));
         };
         self.books.count(&self.intake, &mut shares);
@@ -318,8 +318,8 @@ impl<L: Ledger, M: Ledger, N: Ledger> Kept<L, M, N> {
         }
     }
 
-    /// The active controller offers its role to a device at an address (GETACCCR, I3C Basic 5.1.9.3.16): it is parked
-    /// for whoever took it, or comes back.
+    /// The active controller offers its role to a device at an address (GETACCCR, I3C Basic 5.1.9.3.16): it is parked for the
+    /// device that took it, or comes back.
     pub fn hand_over<T: Tap>(
         &mut self,
         role: HeldRole<L, M, N>,
@@ -335,7 +335,7 @@ impl<L: Ledger, M: Ledger, N: Ledger> Kept<L, M, N> {
     {
         let HeldRole { mut shares } = role;
         self.books.audit(&mut shares);
-        let Ok(reply) = self.intake.carry(Event::HandOver(to, cuts), tap) else {
+        let Ok(reply) = self.intake.take_and_apply(Event::HandOver(to, cuts), tap) else {
             return Err((HeldRole { shares }, HandOverFault::OutOfMemory));
         };
         self.books.count(&self.intake, &mut shares);
@@ -363,7 +363,7 @@ impl<L: Ledger, M: Ledger, N: Ledger> Kept<L, M, N> {
     }
 
     /// Ends the bus. Its role has to be handed in or parked, with no session open, and each port that is out handed in;
-    /// else all comes back.
+    /// otherwise all comes back.
     pub fn close(
         self,
         role: Option<HeldRole<L, M, N>>,
@@ -412,7 +412,7 @@ impl<L: Ledger, M: Ledger, N: Ledger> Kept<L, M, N> {
         self.intake.in_session() || role.is_none() && self.parked.is_none()
     }
 
-    /// The same, where nothing is out.
+    /// The same when neither a port nor the role is out.
     fn close_all(
         self,
         role: Option<HeldRole<L, M, N>>,

@@ -58,8 +58,8 @@ impl Port {
         self.slot
     }
 
-    /// Posts a raise, with its mandatory byte where one is due. It waits for nobody and takes no memory. It answers
-    /// `Full` where eight posts are untaken, and nothing is posted then.
+    /// Posts a raise, with its mandatory byte if the device sends one. It waits for nobody and takes no memory. It answers
+    /// `Full` if eight posts are untaken, and posts nothing then.
     pub fn post(&mut self, byte: Option<u8>) -> Result<(), Full>
         ensures port { (self.new.slot ≡ self.old.slot) × SameProducer self.old.producer self.new.producer }
         ensures posts { MatchResult result (λ _. sent self.new.producer ≡ sent self.old.producer ++ byte ∷ []) (λ full. (full.0 ≡ byte) × (sent self.new.producer ≡ sent self.old.producer)) }

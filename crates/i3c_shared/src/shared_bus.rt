@@ -14,11 +14,11 @@ use std::sync::{Mutex, Wait};
 
 /// A bus that threads share: its calls may wait for its one lock. It must be closed or let go.
 ///
-/// Each call is the method of the same name on what lies under the lock. What holds of that is `Kept`'s to say; here
-/// stands what comes back to the caller. The types `L`, `M` and `N` name three ledgers of this bus alone: the active
-/// controller's slot, whether a session is open, and the number of frame events in the run. The shares of all three are
-/// in the bus's one role or session, so that what it counts is what the run has. A call that says that it counts one more
-/// has added one frame event to the run under the lock.
+/// Each call is the method of the same name on the state under the lock. `Kept` has the contracts of that; here are those of
+/// the results. The types `L`, `M` and `N` name three ledgers of this bus alone: the active controller's slot, whether a
+/// session is open, and the number of frame events in the run. The shares of all three are in the bus's one role or session,
+/// so that it counts the events of the run. A call that says that it counts one more has added one frame event to the run
+/// under the lock.
 pub struct SharedBus<L: Ledger, M: Ledger, N: Ledger> {
     kept: Mutex<Kept<L, M, N>>,
 }
@@ -151,8 +151,8 @@ impl<L: Ledger, M: Ledger, N: Ledger> SharedBus<L, M, N> {
         self.kept.lock(rt).end(session, tap)
     }
 
-    /// The active controller offers its role to a device at an address: it is parked for whoever took it, or comes back,
-    /// and counts the handover then, unless memory was short.
+    /// The active controller offers its role to a device at an address: it is parked for the device that took it, or comes
+    /// back, and counts the handover then, unless memory was short.
     pub fn hand_over<T: Tap>(
         &self,
         rt: &impl Wait,
@@ -175,7 +175,7 @@ impl<L: Ledger, M: Ledger, N: Ledger> SharedBus<L, M, N> {
     }
 
     /// Ends the bus. Its role has to be handed in or parked, with no session open, and each port that is out handed in;
-    /// else all comes back, the bus too.
+    /// otherwise all comes back, the bus too.
     pub fn close(
         self,
         role: Option<HeldRole<L, M, N>>,

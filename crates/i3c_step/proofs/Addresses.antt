@@ -290,7 +290,7 @@ tables_served st policy lost (Recorded place) new h =
     (ap (λ (s : State). s.given) h.left, ap (λ (s : State). s.legacy) h.left, ap (λ (s : State). s.declared) h.left)
 tables_served st policy lost Torn new h = same_tables (each_driver (Request.Interrupt h.at) without_front st) new h.left
 
--- who has an address had it
+-- a device that has an address had it before
 active_served : (old mid : State) (a : ℕ) → NoneNew old mid → mid.active ≡ old.active → active_has old a ≡ false → active_has mid a ≡ false
 active_served old mid a none same free = go (device_at mid mid.active) refl
   where
@@ -411,7 +411,7 @@ Suits-static old mid a i same h inv = elim (or-cases (is_pickable old a) (is_kep
   | inr k ↦ Suits-kept mid i a inv (ap (λ es. kept_of (entry_in es a)) same.given ∙ kept_at_known old.given i a (is_the-true a (known_in old.given i) k))
 ]
 
--- devices of the identity i were given the address a, which entered the table; all else was there
+-- devices of the identity i were given the address a, which entered the table; the rest was there before
 record Gives (st after : State) (i : Identity) (a : ℕ) : Type 0 where
   from : (s b : ℕ) (d : Device) → device_at after s ≡ Some d → d.address ≡ Some b → ((b ≡ a) × (d.identity ≡ i)) ⊎ WasThere st s b d
   here : entry_at after a ≡ Some (kept_entry_of st.declared i)
@@ -572,7 +572,7 @@ Addresses-with_static f i a st declared suits inv = Addresses-gives st (with_sta
     low : a < length before
     low = subst (λ n. a < n) (sym (length-released (known_in st.given i) st.given)) suits.low
 
--- the entries of a table, one of which has moved to an address that had none
+-- the entries of a table in which one entry has moved to an address that had none
 moved_at : (given : List (Option Entry)) (old a b : ℕ) → a < length given → entry_in (moved old a given) b ≡ (if b == a then entry_in given old else entry_in (set given old None) b)
 moved_at given old a b low = set_in (set given old None) a b (entry_in given old) None (subst (λ n. a < n) (sym (length-set given old None)) low)
 

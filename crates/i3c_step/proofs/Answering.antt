@@ -15,7 +15,7 @@ use Rattle.i3c_step.proofs.Kept.{run_keeps}
 static_at : (st : State) (a s : ℕ) (d : Device) → Addresses st → device_at st s ≡ Some d → d.fixed ≡ Some a → declared_at st a ≡ Some d.identity
 static_at st a s d inv p fixed = declared_at_fixed st.declared d.identity a (sym (inv.placed s d p) ∙ fixed)
 
--- no legacy target stands where a device answers
+-- no legacy target is at a device's address
 no_legacy : (st : State) (a s : ℕ) (d : Device) → Addresses st → device_at st s ≡ Some d → IsReachedAt a d → legacy_target_at st a ≡ None
 no_legacy st a s d inv p h = elim h [
   | inl x ↦ let u = inv.used s a d p x in inv.free a u.0 u.1

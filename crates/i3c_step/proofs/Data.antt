@@ -56,7 +56,7 @@ long Datum.ReadLength e said says = absurd (none-some said says)
 long Datum.Speed e said says = absurd (none-some said says)
 long Datum.Capabilities e said says = absurd (none-some said says)
 
--- whoever has the address tells it
+-- each device at the address tells this
 all_tell : (st : State) (what : Datum) (a : ℕ) (e : Entry) (said : List ℕ) → Addresses st → entry_at st a ≡ Some e → said_bytes what e ≡ Some said
     → (s : ℕ) (d : Device) → IsTargetAt st a s d → told_bytes what d ≡ said
 all_tell st what a e said inv there says s d target =

@@ -1,4 +1,4 @@
--- Who drives a request.
+-- The devices that drive a request.
 use Rattle.std.proofs.lemmas.Bool.{and_parts, both_ways, eqb-true, not-true, false≢true}
 use Rattle.std.proofs.Common.{◌≡◌, ℕ, true, false, not, Option, Some, None, ◌==◌, ◌⊎◌, inl, inr, sym, refl, ap, ◌∙◌, subst}
 use Rattle.i3c_base.specs.declared.requests.Fixed.{Fixed}

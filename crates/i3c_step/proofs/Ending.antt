@@ -32,7 +32,7 @@ use Rattle.i3c_step.proofs.Lost.{unlost}
 use Rattle.i3c_step.proofs.Recording.{Contains-first}
 use Rattle.i3c_step.proofs.Steps.{no_test, step_cases, test_at}
 
--- whoever is in this slot hears the session
+-- the device in this slot hears the session
 abbrev hears_at : Option Device → Bool
 hears_at place = in_slot (λ d. d.hearing) place
 
@@ -44,7 +44,7 @@ one_more true b h = subst (λ c. 1 ≤ one_if c) (sym (h refl)) (omega arith)
 one_more false true h = omega arith
 one_more false false h = omega arith
 
--- who hears afterwards heard before
+-- a device that hears afterwards heard before
 abbrev IsWithin : List (Option Device) → List (Option Device) → Type 0
 IsWithin xs ys = (k : ℕ) → hears_at (get_or xs k None) ≡ true → hears_at (get_or ys k None) ≡ true
 
@@ -58,7 +58,7 @@ not_more (x ∷ xs) (y ∷ ys) e h =
     let rest : hearers xs ≤ hearers ys = not_more xs ys (omega (arith, e)) (λ k. h (suc k)) in
     omega (arith, first, rest)
 
--- and one who hears no more makes them fewer
+-- and a device that hears no more makes them fewer
 fewer : (xs ys : List (Option Device)) (j : ℕ) → length xs ≡ length ys → IsWithin xs ys → hears_at (get_or ys j None) ≡ true → hears_at (get_or xs j None) ≡ false → hearers xs < hearers ys
 unfolding hearers
 fewer [] [] j e h was is = absurd (both_ways _ refl was)
@@ -96,7 +96,7 @@ not_all (x ∷ xs) (suc j) d p deaf = omega (arith, at_most_one (hears_at x), no
 itself : (i : Identity) → same_identity i i ≡ true
 itself i = λ k. eq-eqb i.pid i.pid refl k && (eq-eqb i.bcr.0 i.bcr.0 refl k && eq-eqb i.dcr.0 i.dcr.0 refl k)
 
--- who hears after a round heard before
+-- a device that hears after a round heard before
 within_assigned : (lost : Lost) (i : Identity) (a : ℕ) (old : State) → IsWithin (emptied lost (assigned lost i a old)).devices old.devices
 within_assigned lost i a old k h = go (device_at (emptied lost (assigned lost i a old)) k) refl h
   where
@@ -148,7 +148,7 @@ uncut_is_acknowledged old cuts new uncut h = elim h.2 [
   | inr beaten ↦ lost_none cuts uncut 73 beaten.0 beaten.3
 ]
 
--- who gets an address hears no more
+-- a device that gets an address hears no more
 pub one_fewer : (old : State) (cuts : CutList) (a : ℕ) (i : Identity) (new : State) → Rounds old cuts (RoundReply.Assigned a i) new → hearers new.devices < hearers old.devices
 one_fewer old cuts a i new h =
     let lost : Lost = lost_by cuts 73 in
@@ -187,12 +187,12 @@ round_goes old cuts reply new uncut busy h = go (first_refusal (checks old (Even
 Contains-later : {A : Type 0} (y : A) (xs : List A) (x : A) → Contains xs x → Contains (y ∷ xs) x
 Contains-later y xs x h = (suc h.0, omega (arith, h.1), h.2)
 
--- a step of the session that isn't its last round: those who hear are fewer by a round, and the session is open
+-- a step of the session that isn't its last round: a round leaves one hearer fewer, and the session is open
 record Went (old : State) (event : Event) (new : State) : Type 0 where
   less : one_if (is_round event) + hearers new.devices ≤ hearers old.devices
   session : new.in_session ≡ true
 
--- what else happens in it: nobody hears who didn't
+-- the rest of what happens in it: no device begins to hear
 record Calm (old new : State) : Type 0 where
   long : length new.devices ≡ length old.devices
   within : IsWithin new.devices old.devices

@@ -28,7 +28,7 @@ Counts [] n m = m ≡ n
 Counts (w ∷ []) n m = (w.number ≡ suc n) × (m ≡ suc n)
 Counts (w ∷ v ∷ ws) n m = ⊥
 
--- what becomes of what waits in slot s: an accepted raise joins its end, the oldest are recorded, and what is left waits on
+-- the interrupts waiting in slot s: an accepted raise joins the end, the oldest are recorded, and the rest waits on
 pub record Fate (old : State) (m : Moment) (s : ℕ) : Type 0 where
   pub left : List Waiting
   pub moves : waiting_in (device_at old s) ++ accepted_at m s ≡ recorded_since old m.after s ++ left

@@ -35,7 +35,7 @@ since_one old new s r e =
     pick true = refl
     pick false = refl
 
--- the oldest of what waited in slot s was recorded, and what is left waits on, unless the frame loses the device
+-- the oldest interrupt waiting in slot s was recorded, and the rest waits on, unless the frame loses the device
 pub record Leaves (old mid : State) (lost : Lost) (s : ℕ) : Type 0 where
   pub left : List Waiting
   pub moves : waiting_in (device_at old s) ≡ recorded_since old mid s ++ left

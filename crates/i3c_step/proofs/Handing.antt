@@ -36,7 +36,7 @@ granted old a cuts reply new g =
     let own : Hands a (lost_by cuts last) old f.done = subst (λ m. Hands a (lost_by cuts last) m f.done) (nothing_served old _ g.0 f.mid f.serves) f.own in
     record { slot = own.0; last = last; willing = own.1; left = own.2; after = f.left ∙ ap (emptied (lost_by cuts last)) own.4 }
 
--- where it isn't, the frame loses whom it loses
+-- if it isn't, the frame loses the devices that its cuts lose
 pub declined : (old : State) (a : ℕ) (cuts : CutList) (reply : Reply) (new : State) → IsDeclined old a cuts reply new → (last : ℕ) × (new ≡ emptied (lost_by cuts last) old)
 declined old a cuts reply new g =
     let f = g.4 in

@@ -48,7 +48,7 @@ late_alike st cuts s bit last other late = record {
   lost = λ k le. late_lost cuts s bit last k late le;
 }
 
--- the bit of a cut doesn't say whom it names
+-- the bit of a cut doesn't change the device that it names
 named_at : (cuts : CutList) (s bit more t : ℕ) → is_some (cut_of (and_cut s bit cuts) t) ≡ is_some (cut_of (and_cut s more cuts) t)
 named_at [] s bit more t = refl
 named_at (c ∷ cs) zero bit more zero = refl

@@ -56,7 +56,7 @@ no_word st lost Refused mid bits h sent = sent
 no_word st lost Joining mid bits h sent = sent
 no_word st lost (WantsRole a) mid bits h sent = sent
 
--- a frame that ends by the last bit of such cuts
+-- a frame that ends by the last bit of the cuts
 frame_alike : (old : State) (policy : Fixed) (cuts other : CutList) (served : Served) (rest last : ℕ) (Own : Lost → State → State → Type 0) (new : State)
     → AreAlike old last cuts other → (frame : Frame old policy cuts served rest Own new) → frame.word + rest ≤ last → Frame old policy other served rest Own new
 frame_alike old policy cuts other served rest last Own new alike frame within =
@@ -70,7 +70,7 @@ frame_alike old policy cuts other served rest last Own new alike frame within =
       left = subst (λ (l : Lost). new ≡ emptied l frame.done) same frame.left;
     }
 
--- a frame with a header after its request, and at most so many bits of its own
+-- a frame with a header after its request, and at most `most` bits of its own
 asking_alike : (old : State) (policy : Fixed) (cuts other : CutList) (served : Served) (bits most : ℕ) (Own : Lost → State → State → Type 0) (new : State)
     → AreAlike old (bits_after_byte most) cuts other → bits ≤ most → Frame old policy cuts served (header_bits served + bits) Own new
     → Frame old policy other served (header_bits served + bits) Own new
@@ -144,7 +144,7 @@ rounds_alike old cuts other RoundReply.Nobody new alike h =
 rounds_alike old cuts other (RoundReply.Assigned a i) new alike h =
     subst (λ (l : Lost). AnyPickable old × IsWinner old l i × IsAddressFor old i a × (new ≡ emptied l (assigned l i a old))) (alike.lost 73 (omega arith)) h
 
--- such cuts of an event, which are changed by f, or by g
+-- cuts of an event that are alike when changed by f and by g
 abbrev pub AlikeIn : State → Event → (CutList → CutList) → (CutList → CutList) → Type 0
 AlikeIn old event f g = MatchOption (cuts_in event) ⊤ (λ cuts. AreAlike old (most_bits old event) (f cuts) (g cuts))
 
@@ -237,7 +237,7 @@ wants_alike (AskJoin s) f g wants = wants
 wants_alike (AskRole s) f g wants = wants
 wants_alike EndDaa f g wants = wants
 
--- a step is one with such other cuts
+-- a step is one with other cuts that are alike
 pub step_alike : (old : State) (event : Event) (f g : CutList → CutList) (reply : Reply) (new : State) → AlikeIn old event f g → Step old (recut f event) reply new → Step old (recut g event) reply new
 step_alike old event f g reply new alike h =
     step_like old (recut f event) (recut g event) reply new (checks_alike old event f g alike) (λ short. (wants_alike event f g short.0, short.1, short.2)) (acts_alike old event f g reply new alike) h
@@ -273,7 +273,7 @@ each_alike old event f g all = go (cuts_in event)
     go None = tt
     go (Some cuts) = all cuts
 
--- for whoever changes the cuts of an event: no event with cuts is left out, and its last bit stays
+-- for a function that changes the cuts of an event: it covers all events with cuts, and keeps their last bit
 pub cuts_in-recut : (f : CutList → CutList) (event : Event) → cuts_in (recut f event) ≡ option_map f (cuts_in event)
 cuts_in-recut f (Serve policy cuts) = refl
 cuts_in-recut f (Enec to kinds policy cuts) = refl

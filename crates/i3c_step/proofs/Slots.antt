@@ -14,7 +14,7 @@ use Rattle.i3c_base.specs.State.{State}
 abbrev pub Stands : State → State → Type 0
 Stands old new = (new.active ≡ old.active) × (new.in_session ≡ old.in_session)
 
--- equal states have
+-- the same holds of an equal state
 pub Stands-same : (old new same : State) → new ≡ same → Stands old same → Stands old new
 Stands-same old new same e h = (ap (λ (st : State). st.active) e ∙ h.0, ap (λ (st : State). st.in_session) e ∙ h.1)
 

@@ -269,7 +269,7 @@ sound_changed s f st steady same keeps sound = record {
   fitting = AllFit-change s f st keeps sound.fitting;
 }
 
--- such a one is one that wishes to join, and one that wishes for the role
+-- a sound bus stays sound when a device wishes to join or for the role
 pub sound_wishes : (s : ℕ) (st : State) → IsSound st → IsSound (ask_join s st)
 sound_wishes s st sound = sound_changed s (λ d. record d { join_wish = true }) st (λ d. record { identity = refl; fixed = refl; address = λ a p. p }) (λ d. (refl, refl)) (λ d f. f) sound
 
@@ -308,7 +308,6 @@ sound_round old cuts answer new h left sound = record {
   fitting = AllFit-round old cuts answer new h sound.fitting;
 }
 
--- a reset
 pub sound_reset : (st : State) → IsSound st → IsSound (reset st)
 sound_reset st sound = record {
   addresses = Addresses-none_new st (reset st) (NoneNew-reset st) sound.addresses;
@@ -316,7 +315,6 @@ sound_reset st sound = record {
   fitting = AllFit-reset st sound.fitting;
 }
 
--- a list
 pub sound_list : (st : State) → IsSound st → IsSound (list st)
 sound_list st sound = record {
   addresses = Addresses-none_new st (list st) (NoneNew-list st) sound.addresses;

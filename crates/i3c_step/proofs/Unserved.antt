@@ -1,4 +1,4 @@
--- What raises and serves nothing leaves each waiting list as it was.
+-- An event that raises and serves nothing leaves each waiting list as it was.
 use Rattle.std.proofs.lemmas.List.{length-set}
 use Rattle.std.proofs.Common.{◌≡◌, ℕ, Bool, true, false, length, get_or, List, [], Option, Some, None, option_map, is_none, ◌==◌, if◌then◌else◌, inl, inr, sym, refl, ap, ◌∙◌, subst}
 use Rattle.i3c_base.specs.declared.answers.Answer.{Answer}

@@ -6,7 +6,7 @@ use Rattle.i3c_step.specs.declared.events.Event.{Event}
 use Rattle.i3c_step.specs.declared.replies.Reply.{Reply}
 use Rattle.i3c_step.specs.Serving.{served_of}
 
--- the policy that has the verdict which was given for what a frame served, and refuses else
+-- the policy with the verdict that was given for what a frame served, and with refusals otherwise
 abbrev pub given_by : Reply → Fixed
 given_by reply = option_map_or given_for (served_of reply) refuse_all
 

@@ -16,7 +16,8 @@ bits_after_refusal own = 9 + own
 abbrev pub bits_after_byte : ℕ → ℕ
 bits_after_byte own = 18 + own
 
--- the number of the last bit that an event's frame can have, whatever it serves and whoever is cut; 0 without a frame
+-- the number of the last bit that an event's frame can have, whatever it serves and whichever devices are cut; 0 without a
+-- frame
 abbrev pub most_bits : State → Event → ℕ
 most_bits st (Serve policy cuts) = 9
 most_bits st (Enec to kinds policy cuts) = bits_after_byte (kinds_bits to Answer.Done)

@@ -58,13 +58,13 @@ InterruptsAreRecordedOnce = (main : Setup) (board : Board) (start : State) (h : 
     → IsStart main board start → IsLegal start h → AllDistinct start h → HasFaithfulRecords start h
 
 -- A frame whose first request is an interrupt that it accepts records it at its address, for the lowest driver's slot, with
--- the number of its front. Or it was torn, if a byte was due and each driver was lost in the frame.
+-- the number of its front. Or it was torn, if it has a mandatory byte and each driver was lost in the frame.
 abbrev pub AcceptedInterruptsAreRecorded : Type 0
 AcceptedInterruptsAreRecorded = (old : State) (event : Event) (reply : Reply) (new : State) (policy : Fixed) (served : Served) (a : ℕ)
     → Step old event reply new → policy_of event ≡ Some policy → served_of reply ≡ Some served
     → IsFirst old (Request.Interrupt a) → verdict old policy (Request.Interrupt a) ≡ Verdict.Accept → IsRecordedOrTorn old a reply new
 
--- Of a present device's stay, the accepted raises are the recorded ones and then those that wait, in order.
+-- The accepted raises of a present device's stay are the recorded ones and then those that wait, in order.
 abbrev pub RaisesStayInOrder : Type 0
 RaisesStayInOrder = (main : Setup) (board : Board) (start : State) (h : History)
     → IsStart main board start → IsLegal start h → AllDistinct start h
@@ -81,7 +81,7 @@ abbrev pub LateCutsDoNothing : Type 0
 LateCutsDoNothing = (old : State) (event : Event) (reply : Reply) (new : State) (s bit : ℕ)
     → s ≢ old.active → most_bits old event < bit → Step old event reply new ↔ Step old (with_cut event s bit) reply new
 
--- Of two cuts of one slot behind that bit, both allow the same steps, also where the slot is the active controller's.
+-- Two cuts of one slot behind that bit allow the same steps, also if the slot is the active controller's.
 abbrev pub LateCutsAreAlike : Type 0
 LateCutsAreAlike = (old : State) (event : Event) (reply : Reply) (new : State) (s bit other : ℕ)
     → most_bits old event < bit → most_bits old event < other → Step old (with_cut event s bit) reply new ↔ Step old (with_cut event s other) reply new
@@ -121,7 +121,7 @@ PidsAreTold = (d : Device) → IsInRange d.identity
     → (number_behind 0 (told_bytes Datum.Pid d) ≡ d.identity.pid) × All (λ byte. byte < 256) (told_bytes Datum.Pid d)
 
 -- Of as many rounds as there are slots, in one session and without cuts, one answers that nobody hears any more, or that no
--- address is left, whatever else happens between them.
+-- address is left, whatever events come between them.
 abbrev pub SessionsEnd : Type 0
 SessionsEnd = (main : Setup) (board : Board) (events : List Event) (replies : List Reply) (mid : State) → IsLegalRun main board events replies mid → mid.in_session ≡ true
     → (session : List Event) (answers : List Reply) (new : State) → All IsInSession session → SLOTS ≤ count_by is_round session → IsRun mid session answers new

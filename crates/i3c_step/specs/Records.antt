@@ -26,13 +26,13 @@ pub record RecordsFront (old : State) (a : ℕ) (reply : Reply) (new : State) : 
   pub fronted : IsFront old last.slot front
   pub number : last.number ≡ front.number
 
--- an interrupt at the address a is torn: a byte was due of it, and each of its drivers went in the frame
+-- an interrupt at the address a is torn: it has a mandatory byte, and each of its drivers was lost in the frame
 pub record IsTornOff (old : State) (a : ℕ) (served : Served) (new : State) : Type 0 where
   pub torn : served ≡ Served.Torn
   pub due : byte_due (entry_at old a) ≡ true
   pub gone : (s : ℕ) → drives old (Interrupt a) s ≡ true → ¬ IsPresent new s
 
--- it is recorded, or else torn
+-- the interrupt at the address a is recorded, or otherwise torn
 abbrev pub IsRecordedOrTorn : State → ℕ → Reply → State → Type 0
 IsRecordedOrTorn old a reply new = RecordsFront old a reply new ⊎ ((served : Served) × (served_of reply ≡ Some served) × IsTornOff old a served new)
 
@@ -60,7 +60,7 @@ RecordsGrow start (m ∷ earlier) = RecordsAt (recorded_at m.reply) start earlie
 abbrev pub numbers_of : ℕ → List Record → List ℕ
 numbers_of s records = map (λ (r : Record). r.number) (filter (λ (r : Record). r.slot == s) records)
 
--- w of slot s stands in a record
+-- a record holds w of slot s
 abbrev pub IsRecordedFor : State → ℕ → Waiting → Type 0
 IsRecordedFor st s w = (r : Record) × Contains st.records r × (r.slot ≡ s) × (raise_of r ≡ w)
 

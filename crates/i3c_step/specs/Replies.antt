@@ -16,7 +16,7 @@ use Rattle.i3c_step.specs.declared.replies.WriteFault.{WriteFault}
 use Rattle.i3c_step.specs.declared.replies.Refusal.{Refusal}
 use Rattle.i3c_step.specs.declared.replies.Reply.{Reply}
 
--- of `attach`
+-- the reply of `attach`
 abbrev pub attached_reply : Result (Unit {0}) SlotTaken → Reply
 attached_reply (Ok done) = Reply.Attached
 attached_reply (Err why) = Reply.Refused Refusal.SlotTaken
@@ -36,7 +36,7 @@ abbrev pub drop_refusal : DropRefusal → Refusal
 drop_refusal DropRefusal.NoDevice = Refusal.NoDevice
 drop_refusal DropRefusal.ActiveStays = Refusal.ActiveStays
 
--- of `drop_off`
+-- the reply of `drop_off`
 abbrev pub dropped_reply : Result (Unit {0}) DropRefusal → Reply
 dropped_reply (Ok done) = Reply.Dropped
 dropped_reply (Err why) = Reply.Refused (drop_refusal why)
@@ -47,7 +47,7 @@ join_refusal JoinRefusal.NoDevice = Refusal.NoDevice
 join_refusal JoinRefusal.HasAddress = Refusal.HasAddress
 join_refusal JoinRefusal.Masked = Refusal.Masked
 
--- of `ask_join`
+-- the reply of `ask_join`
 abbrev pub joins_reply : Result (Unit {0}) JoinRefusal → Reply
 joins_reply (Ok done) = Reply.Asked
 joins_reply (Err why) = Reply.Refused (join_refusal why)
@@ -60,72 +60,72 @@ role_refusal RoleRefusal.NoAddress = Refusal.NoAddress
 role_refusal RoleRefusal.NotCapable = Refusal.NotCapable
 role_refusal RoleRefusal.Masked = Refusal.Masked
 
--- of `ask_role`
+-- the reply of `ask_role`
 abbrev pub role_reply : Result (Unit {0}) RoleRefusal → Reply
 role_reply (Ok done) = Reply.Asked
 role_reply (Err why) = Reply.Refused (role_refusal why)
 
--- of `raise`
+-- the reply of `raise`
 abbrev pub raised_reply : Result ℕ RaiseRefusal → Reply
 raised_reply (Ok number) = Reply.Raised number
 raised_reply (Err why) = Reply.Refused (raise_refusal why)
 
--- of a fault of a frame to nobody in particular
+-- the reply of a fault of a frame to nobody in particular
 abbrev pub frame_fault_reply : FrameFault → Reply
 frame_fault_reply FrameFault.ActiveStays = Reply.Refused Refusal.ActiveStays
 frame_fault_reply FrameFault.OutOfMemory = Reply.OutOfMemory
 
--- of `serve`
+-- the reply of `serve`
 abbrev pub served_reply : Result Served FrameFault → Reply
 served_reply (Ok served) = Reply.Served served
 served_reply (Err why) = frame_fault_reply why
 
--- of a fault of a frame to one address, other than a write
+-- the reply of a fault of a frame to one address, other than a write
 abbrev pub target_fault_reply : TargetFault → Reply
 target_fault_reply TargetFault.ActiveStays = Reply.Refused Refusal.ActiveStays
 target_fault_reply (TargetFault.NoAnswer a) = Reply.Refused (Refusal.NoAnswer a)
 target_fault_reply TargetFault.OutOfMemory = Reply.OutOfMemory
 
--- of `enec`, `disec` and `read`
+-- the reply of `enec`, `disec` and `read`
 abbrev pub framed_reply : Result Framed TargetFault → Reply
 framed_reply (Ok framed) = Reply.Framed framed
 framed_reply (Err why) = target_fault_reply why
 
--- of a fault of a private write
+-- the reply of a fault of a private write
 abbrev pub write_fault_reply : WriteFault → Reply
 write_fault_reply WriteFault.ActiveStays = Reply.Refused Refusal.ActiveStays
 write_fault_reply WriteFault.TooLong = Reply.Refused Refusal.TooLong
 write_fault_reply (WriteFault.NoAnswer a) = Reply.Refused (Refusal.NoAnswer a)
 write_fault_reply WriteFault.OutOfMemory = Reply.OutOfMemory
 
--- of `write`
+-- the reply of `write`
 abbrev pub wrote_reply : Result Framed WriteFault → Reply
 wrote_reply (Ok framed) = Reply.Framed framed
 wrote_reply (Err why) = write_fault_reply why
 
--- of a fault of a frame that gives an address
+-- the reply of a fault of a frame that gives an address
 abbrev pub set_fault_reply : SetFault → Reply
 set_fault_reply SetFault.ActiveStays = Reply.Refused Refusal.ActiveStays
 set_fault_reply (SetFault.NoAnswer a) = Reply.Refused (Refusal.NoAnswer a)
 set_fault_reply (SetFault.BadAddress a) = Reply.Refused (Refusal.BadAddress a)
 set_fault_reply SetFault.OutOfMemory = Reply.OutOfMemory
 
--- of `set_static` and `set_new`
+-- the reply of `set_static` and `set_new`
 abbrev pub set_reply : Result Framed SetFault → Reply
 set_reply (Ok framed) = Reply.Framed framed
 set_reply (Err why) = set_fault_reply why
 
--- of `reset` and `list`
+-- the reply of `reset` and `list`
 abbrev pub announced_reply : Result Framed FrameFault → Reply
 announced_reply (Ok framed) = Reply.Framed framed
 announced_reply (Err why) = frame_fault_reply why
 
--- of `open_daa`, which answers a session, or the role that comes back
+-- the reply of `open_daa`, which answers a session, or the role that comes back
 abbrev pub opened_reply : Result (ℕ × Served) (ℕ × ActiveStays) → Reply
 opened_reply (Ok opened) = Reply.Opened opened.1
 opened_reply (Err refused) = Reply.Refused Refusal.ActiveStays
 
--- of `round`
+-- the reply of `round`
 abbrev pub rounded_reply : Result RoundReply ActiveStays → Reply
 rounded_reply (Ok answer) = Reply.Round answer
 rounded_reply (Err why) = Reply.Refused Refusal.ActiveStays

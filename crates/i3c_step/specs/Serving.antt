@@ -6,7 +6,7 @@ use Rattle.i3c_base.specs.Serve.{refuse_all}
 use Rattle.i3c_step.specs.declared.events.Event.{Event}
 use Rattle.i3c_step.specs.declared.replies.Reply.{Reply}
 
--- what a frame served
+-- what a frame served, by its reply
 abbrev pub served_of : Reply → Option Served
 served_of (Reply.Served served) = Some served
 served_of (Reply.Framed framed) = Some framed.served

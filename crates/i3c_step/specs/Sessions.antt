@@ -12,7 +12,7 @@ IsInSession (Event.Round cuts) = IsUncut cuts
 IsInSession Event.EndDaa = ⊥
 IsInSession _ = ⊤
 
--- a round
+-- the event is a round
 abbrev pub is_round : Event → Bool
 is_round (Event.Round cuts) = true
 is_round _ = false

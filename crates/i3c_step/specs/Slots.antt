@@ -7,7 +7,7 @@ use Rattle.i3c_base.specs.State.{IsPresent, State}
 use Rattle.i3c_step.specs.declared.events.Event.{Event}
 use Rattle.i3c_step.specs.declared.replies.Reply.{Reply}
 
--- whether a session is open after this reply: an opening opens one, an end ends it, and nothing else does either
+-- whether a session is open after this reply: an opening opens one, an end ends it, and the other replies leave it as it is
 abbrev pub session_after : Reply → Bool → Bool
 session_after (Reply.Opened served) was = true
 session_after Reply.Ended was = false
@@ -22,7 +22,7 @@ abbrev pub is_handed : Reply → Bool
 is_handed (Reply.Handed served) = true
 is_handed _ = false
 
--- to a willing device at the address that the event names, which is the active controller then
+-- the role has moved to a willing device at the address that the event names, which is the active controller then
 abbrev pub HasMoved : State → Event → State → Type 0
 HasMoved old event new = (to : ℕ) × (cuts : CutList) × (event ≡ Event.HandOver to cuts) × IsWillingAt old to new.active
 

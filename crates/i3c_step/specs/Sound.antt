@@ -14,9 +14,9 @@ pub record IsFor (declared : List (Option Identity)) (i : Identity) (e : Entry) 
   pub kept : (j : Identity) → e.kept ≡ Some j → j ≡ i
   pub fixed : (f : ℕ) → e.fixed ≡ Some f → declared_in declared f ≡ Some i
 
--- Each address in use stands in the table under its device's identity and is kept for no other, and devices of one address
--- have one identity. The table has a place for each address, and none of those in it is a legacy target's or declared. A
--- device's static address is the one that its identity is declared at, and a legacy target is at no declared address
+-- The table has each address in use under its device's identity, and keeps it for no other, and devices of one address have
+-- one identity. The table has a place for each address, and none of those in it is a legacy target's or declared. A device's
+-- static address is the one that its identity is declared at, and a legacy target is at no declared address
 pub record Addresses (st : State) : Type 0 where
   pub used : (s a : ℕ) (d : Device) → device_at st s ≡ Some d → d.address ≡ Some a → (e : Entry) × (entry_at st a ≡ Some e) × IsFor st.declared d.identity e
   pub alike : (s t a : ℕ) (d e : Device) → device_at st s ≡ Some d → device_at st t ≡ Some e → d.address ≡ Some a → e.address ≡ Some a → d.identity ≡ e.identity

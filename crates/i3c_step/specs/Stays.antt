@@ -36,13 +36,13 @@ abbrev pub accepted_in_stay : State → History → ℕ → List Waiting
 accepted_in_stay start [] s = []
 accepted_in_stay start (m ∷ earlier) s = if stays (reached start earlier) m.after s then accepted_in_stay start earlier s ++ accepted_at m s else []
 
--- those that were recorded in it
+-- the interrupts of slot s recorded in its device's present stay, the oldest first
 abbrev pub recorded_in_stay : State → History → ℕ → List Waiting
 recorded_in_stay start [] s = []
 recorded_in_stay start (m ∷ earlier) s =
     if stays (reached start earlier) m.after s then recorded_in_stay start earlier s ++ recorded_since (reached start earlier) m.after s else []
 
--- a device was attached
+-- the reply to an accepted attachment
 abbrev pub is_attached : Reply → Bool
 is_attached Reply.Attached = true
 is_attached _ = false

@@ -61,7 +61,7 @@ is_too_long st a bytes = nat_lt (transfer_length st Direction.Write a) (length b
 abbrev pub read_checks : State → ℕ → Checks
 read_checks st a = (is_no_partner st a, NoAnswer a) ∷ []
 
--- and of a write
+-- the refusals of a write, after those of each frame
 abbrev pub write_checks : State → ℕ → List ℕ → Checks
 write_checks st a bytes = (is_too_long st a bytes, TooLong) ∷ (is_no_partner st a, NoAnswer a) ∷ []
 
@@ -74,8 +74,8 @@ abbrev pub is_kept_for : State → Option Identity → ℕ → Bool
 is_kept_for st None a = false
 is_kept_for st (Some i) a = is_the a (known_in st.given i)
 
--- the refusals of SETDASA: nobody is declared at the static address, or the new one may not be picked and isn't kept for
--- who is declared
+-- the refusals of SETDASA: nobody is declared at the static address, or the new one may not be picked and isn't kept for the
+-- declared identity
 abbrev pub static_checks : State → ℕ → ℕ → Checks
 static_checks st f new =
     (is_none (declared_at st f), NoAnswer f) ∷ (not (is_pickable st new || is_kept_for st (declared_at st f) new), BadAddress new) ∷ []
@@ -153,13 +153,13 @@ RekindsBy old to f policy cuts reply new =
     (framed : Framed) × (reply ≡ Reply.Framed framed)
     × Frame old policy cuts framed.served (header_bits framed.served + kinds_bits to framed.answer) (Rekinds to f framed.answer) new
 
--- a frame to all that is done, and that f says of what it leaves; its own part has so many bits
+-- a frame to all that is done, whose effect is f; its own part has `bits` bits
 abbrev pub Announces : State → ℕ → (State → State) → Fixed → CutList → Reply → State → Type 0
 Announces old bits f policy cuts reply new =
     (served : Served) × (reply ≡ Reply.Framed (record { served = served; answer = Answer.Done })) × Frame old policy cuts served (header_bits served + bits) (Becomes f) new
 
--- a private transfer, or a frame that gives an address or asks for a datum, where its answer says how many bits its own part
--- has, and what this part leaves
+-- a private transfer, or a frame that gives an address or reads a datum: its answer gives the number of bits of its own part,
+-- and its effect
 abbrev pub Transfers : State → (Answer → ℕ) → (Answer → Lost → State → State → Type 0) → Fixed → CutList → Reply → State → Type 0
 Transfers old bits Own policy cuts reply new =
     (framed : Framed) × (reply ≡ Reply.Framed framed) × Frame old policy cuts framed.served (header_bits framed.served + bits framed.answer) (Own framed.answer) new
@@ -168,7 +168,7 @@ Transfers old bits Own policy cuts reply new =
 abbrev pub IsGranted : State → ℕ → CutList → Reply → State → Type 0
 IsGranted old to cuts reply new = (served : Served) × (reply ≡ Reply.Handed served) × Frame old refuse_all cuts served (header_bits served + 27) (Hands to) new
 
--- one that isn't
+-- an offer that nobody takes
 abbrev pub IsDeclined : State → ℕ → CutList → Reply → State → Type 0
 IsDeclined old to cuts reply new =
     (served : Served) × (bits : ℕ) × (reply ≡ Reply.Framed (record { served = served; answer = Answer.NoAnswer to })) × IsRefusedBits old to bits

@@ -19,13 +19,13 @@ pub enum Event {
     Attach(Slot, Setup),
     /// The slot's device drops off: it loses power, and is gone.
     DropOff(Slot),
-    /// The slot's device raises an interrupt, with its mandatory byte where one is due (I3C Basic 5.1.6.2).
+    /// The slot's device raises an interrupt, with its mandatory byte if it sends one (I3C Basic 5.1.6.2).
     Raise(Slot, Option<u8>),
     /// The slot's device wishes to join (Hot-Join, I3C Basic 5.1.5).
     AskJoin(Slot),
     /// The slot's device wishes for the controller role (I3C Basic 5.1.7.1).
     AskRole(Slot),
-    /// The active controller serves the first request, and nothing else.
+    /// The active controller serves the first request, and does no more.
     Serve(Fixed, Cuts),
     /// Kinds of events are enabled (ENEC, I3C Basic 5.1.9.3.1): of the devices at an address, or without one of all
     /// but the active controller.
@@ -65,7 +65,7 @@ pub enum Event {
 /// A frame that the active controller sends under its role, with an event's arguments but policy and cuts.
 #[derive(Clone, Debug, PartialEq, Eq, Drop)]
 pub enum Command {
-    /// Serves the first request, and nothing else.
+    /// Serves the first request, and does no more.
     Serve,
     /// Enables kinds of events, of the devices at an address or of all but the active controller.
     Enec(Option<Addr7>, Kinds),

@@ -11,7 +11,7 @@ pub fn one_is_active()
     ensures { OneIsActive }
 {}
 
-/// Each legal run is a legal history, of which the laws on records and raises speak.
+/// Each legal run is a legal history, the subject of the laws on records and raises.
 pub fn runs_are_histories()
     ensures { RunsAreHistories }
 {}
@@ -23,7 +23,7 @@ pub fn interrupts_are_recorded_once()
 {}
 
 /// A frame whose first request is an interrupt that it accepts records it at its address, for the lowest driver's slot, with
-/// the number of its front. Or it was torn, if a byte was due and each driver was lost in the frame.
+/// the number of its front. Or it was torn, if it has a mandatory byte and each driver was lost in the frame.
 pub fn accepted_interrupts_are_recorded()
     ensures { AcceptedInterruptsAreRecorded }
 {}
@@ -45,7 +45,7 @@ pub fn late_cuts_do_nothing()
     ensures { LateCutsDoNothing }
 {}
 
-/// Of two cuts of one slot behind that bit, both allow the same steps, also where the slot is the active controller's.
+/// Two cuts of one slot behind that bit allow the same steps, also if the slot is the active controller's.
 pub fn late_cuts_are_alike()
     ensures { LateCutsAreAlike }
 {}
@@ -73,8 +73,8 @@ pub fn sessions_end()
     ensures { SessionsEnd }
 {}
 
-/// Over every legal run: what GETPID, GETBCR and GETDCR read at an address, where nobody is cut, is what the active
-/// controller's table has there.
+/// Over every legal run without cuts: GETPID, GETBCR and GETDCR read at an address what the active controller's table has
+/// there.
 pub fn data_are_of_the_table()
     ensures { DataAreOfTheTable }
 {}

@@ -42,9 +42,9 @@ pub enum Refusal {
 /// What a frame served, and the answer to its own part.
 #[derive(Clone, Copy, Debug, PartialEq, Eq)]
 pub struct Framed {
-    /// What became of the first request.
+    /// The result of the first request.
     pub served: Served,
-    /// What became of the frame itself.
+    /// The result of the frame itself.
     pub answer: Answer,
 }
 
@@ -63,9 +63,9 @@ pub enum Reply {
     Raised(u64),
     /// The device wishes what it was asked to.
     Asked,
-    /// The frame served this, and nothing else.
+    /// The frame served this, and did no more.
     Served(Served),
-    /// A frame was sent, and came to this.
+    /// A frame was sent, with this result.
     Framed(Framed),
     /// A session is open; the frame served this.
     Opened(Served),

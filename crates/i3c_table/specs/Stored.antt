@@ -14,7 +14,7 @@ use Rattle.i3c_table.specs.Rows.{HasStatic}
 abbrev pub identity_of : ℕ → Identity
 identity_of n = record { pid = n / 65536; bcr = record { 0 = n / 256 % 256 }; dcr = record { 0 = n % 256 } }
 
--- registers that say nothing
+-- the registers of an address that isn't given
 abbrev pub no_registers : Registers
 no_registers = record { bcr = record { 0 = 0 }; dcr = record { 0 = 0 }; fixed = None }
 
@@ -27,7 +27,7 @@ abbrev pub stored_at : ℕ → ℕ → List Registers → List ℕ → ℕ → O
 stored_at held kept registers numbers a =
     if is_in held a then Some (record { bcr = (slice_index_or registers a no_registers).bcr; dcr = (slice_index_or registers a no_registers).dcr; kept = kept_at kept numbers a; fixed = (slice_index_or registers a no_registers).fixed }) else None
 
--- the same registers and the same number stand at the address a in both
+-- both have the same registers and the same number at the address a
 abbrev pub IsStoredAlike : List Registers → List ℕ → List Registers → List ℕ → ℕ → Type 0
 IsStoredAlike registers numbers others more a = (slice_index_or registers a no_registers ≡ slice_index_or others a no_registers) × (slice_index_or numbers a 0 ≡ slice_index_or more a 0)
 
@@ -39,7 +39,8 @@ stored held kept registers numbers = map (stored_at held kept registers numbers)
 unfoldable pub home_stored : ℕ → List Registers → ℕ → Option ℕ
 home_stored among registers f = find (λ a. is_in among a && is_the f (slice_index_or registers a no_registers).fixed) (range_with_len 0 ADDRESSES)
 
--- whom the address a is kept for again: the identity that is declared at its static address, where a is the least such one
+-- the identity that the address a is kept for again: the one declared at its static address, if a is the least address with
+-- that one
 unfoldable pub again_stored : List (Option Identity) → ℕ → List Registers → ℕ → Option Identity
 again_stored declared among registers a =
     option_and_then (λ f. if is_the a (home_stored among registers f) then declared_in declared f else None) (slice_index_or registers a no_registers).fixed

@@ -36,7 +36,7 @@ two_pushed old mid new high low tens ones first then at_tens at_ones =
 pub one_digit : (old new : List ℕ) (n : ℕ) → n < 10 → new ≡ old ++ (48 + n) ∷ [] → new ≡ old ++ decimal n
 one_digit old new n small e = e ∙ ap (λ ds. old ++ ds) (sym (decimal_digit n small))
 
--- two digits of a number, with what stands before them
+-- the two digits of a number, with the text before them
 pub two_digits : (n : ℕ) → 10 ≤ n → n < 100 → decimal n ≡ (48 + n / 10) ∷ (48 + n % 10) ∷ []
 two_digits n more less = decimal_step n more (omega arith) ∙ ap (λ ds. ds ++ (48 + n % 10) ∷ []) (decimal_digit (n / 10) (omega arith))
 

@@ -23,7 +23,6 @@ unfolding hex_text
 hex_text_none zero n h = refl
 hex_text_none (suc count) n h = absurd (omega arith)
 
--- one digit more
 pub hex_text_more : (count n value : ℕ) → value < 16 → hex_text (count + 1) (16 * n + value) ≡ hex_text count n ++ digit_glyph true value ∷ []
 unfolding hex_text
 hex_text_more count n value h =
@@ -58,7 +57,7 @@ hex_is (suc count) n h =
       omega (arith, value, before.1, digit.1),
     )
 
--- each is one
+-- each of them is a hex digit
 pub digit_at : (count n i : ℕ) → i < count → IsHexDigit (get_or (hex_text count n) i 0)
 unfolding hex_text
 digit_at zero n i h = absurd (omega arith)
@@ -74,7 +73,7 @@ digit_at (suc count) n i h =
     subst IsHexDigit (sym (right ∙ ap (λ k. get_or (digit_glyph true (n % 16) ∷ []) k 0) first)) (glyph_is (n % 16) (omega arith)).0)
     (cases_lt i count)
 
--- a number of so many digits, and one digit more
+-- a number of `count` digits, and one digit more
 pub lt_more : (count n value : ℕ) → n < 16 ^ count → value < 16 → 16 * n + value < 16 ^ (count + 1)
 lt_more count n value small digit = let more : 16 ^ (count + 1) ≡ 16 * 16 ^ count = rw (add-one, pow-succ') in omega (arith, small, digit, more)
 
@@ -84,7 +83,7 @@ fits_digits count n few small =
     let most : 16 ^ count ≤ 16 ^ 16 = pow-le-pow_right {n = 16} (lit< tt) {i = count} {j = 16} few in
     omega (arith, small, most)
 
--- the digits of a list, so many, are those of the number that they write, and one more
+-- the digits of a list up to i, which write a number, and one more
 pub digits_step : (digits : List ℕ) (i n value : ℕ) → i < length digits → value < 16 → digit_glyph true value ≡ get_or digits i 0
     → hex_text i n ≡ take i digits → hex_text (i + 1) (16 * n + value) ≡ take (i + 1) digits
 digits_step digits i n value within small here before =
@@ -106,7 +105,7 @@ glyph_of_value byte worth (inr high) e = grind (arith, nat_tests)
 glyph_same : (a b : ℕ) → a < 16 → b < 16 → digit_glyph true a ≡ digit_glyph true b → a ≡ b
 glyph_same a b small low e = grind (arith, nat_tests)
 
--- digits determine a number of so many digits
+-- `count` digits determine a number
 pub hex_text_same : (count m n : ℕ) → m < 16 ^ count → n < 16 ^ count → hex_text count m ≡ hex_text count n → m ≡ n
 unfolding hex_text
 hex_text_same zero m n small low e = omega arith

@@ -50,7 +50,7 @@ pub bytes_text_more : (bytes : List ℕ) (byte : ℕ) → bytes_text (bytes ++ b
 bytes_text_more [] byte = refl
 bytes_text_more (first ∷ bytes) byte = ap (λ ds. byte_text first ++ ds) (bytes_text_more bytes byte) ∙ sym (append_assoc (byte_text first) (bytes_text bytes) (byte_text byte))
 
--- the last bytes of a number, so many
+-- the last `count` bytes of a number
 abbrev last_bytes : ℕ → ℕ → List ℕ
 last_bytes zero n = []
 last_bytes (suc count) n = last_bytes count (n / 256) ++ n % 256 ∷ []

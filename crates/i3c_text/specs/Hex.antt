@@ -2,7 +2,7 @@
 use Rattle.std.specs.Prelude.{ℕ, zero, suc, ◌/◌, ◌%◌, true, List, [], ◌∷◌, ◌++◌}
 use Rattle.std.specs.Fmt.{digit_glyph}
 
--- two digits
+-- a byte in two hex digits
 abbrev pub byte_text : ℕ → List ℕ
 byte_text byte = digit_glyph true (byte / 16) ∷ digit_glyph true (byte % 16) ∷ []
 
@@ -11,7 +11,7 @@ abbrev pub bytes_text : List ℕ → List ℕ
 bytes_text [] = []
 bytes_text (byte ∷ bytes) = byte_text byte ++ bytes_text bytes
 
--- the last digits of a number, so many
+-- the last `count` digits of a number
 unfoldable pub hex_text : ℕ → ℕ → List ℕ
 hex_text zero number = []
 hex_text (suc count) number = hex_text count (number / 16) ++ digit_glyph true (number % 16) ∷ []

@@ -25,7 +25,7 @@ static WORTHS: [u8; 256] = [
     16, 16, 16, 16, 16, 16, 16, 16, 16, 16, 16, 16, 16, 16,
 ];
 
-/// Writes the last hex digits of a number, so many. Letters are upper case.
+/// Writes the last `count` hex digits of a number. Letters are upper case.
 pub fn write_digits<W: fmt::Write>(
     f: &mut fmt::Formatter<W>,
     number: u64,

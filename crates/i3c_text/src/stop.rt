@@ -4,7 +4,7 @@ ghost use Rattle.i3c_text.specs.declared.stop.Stop.TheVariants.{Memory};
 use std::alloc::AllocError;
 use std::fmt;
 
-/// Why a line, or a part of a trace, did not come to its end.
+/// Why a line, or a part of a trace, wasn't done to its end.
 #[derive(Clone, Copy, Drop)]
 pub enum Stop<R> {
     /// It was refused, for this reason.

@@ -39,7 +39,7 @@ impl Text {
         self.bytes.clear();
     }
 
-    /// Its bytes.
+    /// The bytes of the text.
     pub fn as_bytes(&self) -> &[u8]
         ensures { result.now ≡ self.now }
     {

@@ -39,7 +39,6 @@ runs_more tracks opened before turn start old new own are is one = go (slice_get
       put ∙ ap (λ (r : List Run). r ++ run ∷ []) is ∙ append_assoc start own (run ∷ []),
     )
 
--- one block more
 pub blocks_more : (blocks : List (Vec (Vec Line))) (opened : List Bool) (order : List Turn) (b : ℕ) (earlier own runs : List Run) (rest taken left : List Turn) (tracks : List (Vec Line)) (is_opened : Bool)
     → RunIn blocks opened order b earlier rest → tracks ≡ block blocks b → is_opened ≡ get_or opened b false → taken ≡ take (count_lines tracks) rest → left ≡ drop (count_lines tracks) rest
     → AreRuns tracks is_opened (reverse taken) own → runs ≡ earlier ++ own → RunIn blocks opened order (b + 1) runs left

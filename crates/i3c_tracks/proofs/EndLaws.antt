@@ -8,7 +8,6 @@ use Rattle.i3c_scene.specs.declared.line.Line.{Line}
 use Rattle.i3c_scene.specs.Scenes.{Seen}
 use Rattle.i3c_tracks.specs.Ends.{AreEndTexts, IsEndText}
 
--- one end more
 pub ends_more : (lines : List (Vec ℕ)) (blocks : List (Vec (Vec Line))) (opened : List Bool) (counted : Bool) (ends : List (Node Seen)) (k : ℕ) (end : Node Seen) (start old new earlier own : List ℕ)
     → AreEndTexts lines blocks opened counted ends k earlier → old ≡ start ++ earlier → slice_get ends k ≡ Some end → IsEndText lines blocks opened counted (k + 1) end own → new ≡ old ++ own
     → (said : List ℕ) × AreEndTexts lines blocks opened counted ends (k + 1) said × (new ≡ start ++ said)

@@ -37,7 +37,6 @@ no_lines script lines none empty = record {
   given = none ∙ ap lines_bytes (sym empty);
 }
 
--- one more line
 pub one_more : (script further : ScriptLines) (lines more : List (Vec ℕ)) (line : List ℕ) (added : Vec ℕ) → LinesSoFar script lines → GivesLine script further → line ≡ line_in_hand further → added.items ≡ line → more ≡ lines ++ added ∷ []
     → LinesSoFar further more
 one_more script further lines more line added so_far gives is same all =

@@ -11,29 +11,29 @@ use Rattle.i3c_lines.specs.Forms.{IsCommand, tokens_of}
 use Rattle.i3c_lines.proofs.Beginnings.{skipped_is_none}
 use Rattle.i3c_lines.proofs.Meanings.{meant_is}
 use Rattle.i3c_scene.specs.Scenes.{Seen, seen}
-use Rattle.i3c_tracks.specs.declared.said.Said.{Said}
+use Rattle.i3c_tracks.specs.declared.file_line.FileLine.{FileLine}
 use Rattle.i3c_tracks.specs.Laws.{FilesHaveOnePlan}
 use Rattle.i3c_tracks.specs.Planning.{AreSaid, IsStartOf, Outline, outline}
-use Rattle.i3c_tracks.specs.Saying.{IsSaid}
+use Rattle.i3c_tracks.specs.Saying.{IsFileLine}
 
 one_command : (line : List ℕ) (one other : Command) → IsCommand line one → IsCommand line other → one ≡ other
 one_command line one other first second = sym (meant_is (tokens_of line) one first.1) ∙ meant_is (tokens_of line) other second.1
 
 -- a line with a form says one thing
-one_said : (line : List ℕ) (one other : Said) → IsSaid line one → IsSaid line other → (one ≡ Said.Formless → ⊥) → (other ≡ Said.Formless → ⊥) → one ≡ other
-one_said line Said.Nothing Said.Nothing a b f g = refl
-one_said line Said.Nothing (Said.Does command) a b f g = absurd (skipped_is_none line command a.1 b.1)
-one_said line Said.Nothing (Said.Marks mark) a b f g = absurd ((marks_apart line mark b).1 a)
-one_said line (Said.Does command) Said.Nothing a b f g = absurd (skipped_is_none line command b.1 a.1)
-one_said line (Said.Does command) (Said.Does other) a b f g = ap Said.Does (one_command line command other a b)
-one_said line (Said.Does command) (Said.Marks mark) a b f g = absurd ((marks_apart line mark b).0 command a)
-one_said line (Said.Marks mark) Said.Nothing a b f g = absurd ((marks_apart line mark a).1 b)
-one_said line (Said.Marks mark) (Said.Does command) a b f g = absurd ((marks_apart line mark a).0 command b)
-one_said line (Said.Marks mark) (Said.Marks other) a b f g = ap Said.Marks (one_mark line mark other a b)
-one_said line Said.Formless other a b f g = absurd (f refl)
-one_said line one Said.Formless a b f g = absurd (g refl)
+one_said : (line : List ℕ) (one other : FileLine) → IsFileLine line one → IsFileLine line other → (one ≡ FileLine.Formless → ⊥) → (other ≡ FileLine.Formless → ⊥) → one ≡ other
+one_said line FileLine.Nothing FileLine.Nothing a b f g = refl
+one_said line FileLine.Nothing (FileLine.Does command) a b f g = absurd (skipped_is_none line command a.1 b.1)
+one_said line FileLine.Nothing (FileLine.Marks mark) a b f g = absurd ((marks_apart line mark b).1 a)
+one_said line (FileLine.Does command) FileLine.Nothing a b f g = absurd (skipped_is_none line command b.1 a.1)
+one_said line (FileLine.Does command) (FileLine.Does other) a b f g = ap FileLine.Does (one_command line command other a b)
+one_said line (FileLine.Does command) (FileLine.Marks mark) a b f g = absurd ((marks_apart line mark b).0 command a)
+one_said line (FileLine.Marks mark) FileLine.Nothing a b f g = absurd ((marks_apart line mark a).1 b)
+one_said line (FileLine.Marks mark) (FileLine.Does command) a b f g = absurd ((marks_apart line mark a).0 command b)
+one_said line (FileLine.Marks mark) (FileLine.Marks other) a b f g = ap FileLine.Marks (one_mark line mark other a b)
+one_said line FileLine.Formless other a b f g = absurd (f refl)
+one_said line one FileLine.Formless a b f g = absurd (g refl)
 
-all_said : (number : ℕ) (lines : List (Vec ℕ)) (one other : List (ℕ × Said)) → AreSaid number lines one → AreSaid number lines other → one ≡ other
+all_said : (number : ℕ) (lines : List (Vec ℕ)) (one other : List (ℕ × FileLine)) → AreSaid number lines one → AreSaid number lines other → one ≡ other
 all_said number [] [] [] a b = refl
 all_said number [] [] (said ∷ other) a b = absurd b
 all_said number [] (said ∷ one) other a b = absurd a

@@ -19,14 +19,14 @@ use Rattle.i3c_tracks.specs.declared.body.Body.{Body}
 use Rattle.i3c_tracks.specs.declared.draft.Draft.{Draft}
 use Rattle.i3c_tracks.specs.declared.front.Front.{Front}
 use Rattle.i3c_tracks.specs.declared.open_block.OpenBlock.{OpenBlock}
-use Rattle.i3c_tracks.specs.declared.said.Said.{Said}
+use Rattle.i3c_tracks.specs.declared.file_line.FileLine.{FileLine}
 use Rattle.i3c_tracks.specs.Drafting.{Begins, Declares, IsBegunBy, IsUnread, Reads, Settles, begun_in, ReadsOn, comes_on, comes_to, left, open_of, spot_of, stands}
 use Rattle.i3c_tracks.specs.Planning.{AreSaid, IsStartOf, Outline, Spot, Step, blocks_in, blocks_of, expected, named, outline, place, stand, step_of}
 use Rattle.i3c_tracks.specs.Refusing.{refuses}
-use Rattle.i3c_tracks.specs.Saying.{IsSaid}
+use Rattle.i3c_tracks.specs.Saying.{IsFileLine}
 
 -- a line behind the bus
-pub read_behind : (old new : Draft) (body later : Body) (line : ℕ × Said) → old.body ≡ Some body → new.body ≡ Some later → ReadsOn body line later → Reads old line new
+pub read_behind : (old new : Draft) (body later : Body) (line : ℕ × FileLine) → old.body ≡ Some body → new.body ≡ Some later → ReadsOn body line later → Reads old line new
 read_behind old new body later line was is on first begun =
     let starts = subst (λ b. IsBegunBy b first) was begun in (
       first,
@@ -37,25 +37,25 @@ read_behind old new body later line was is on first begun =
 
 -- a line that makes the bus
 pub read_begun : (old new : Draft) (number : ℕ) (command : Command) (body : Body) → old.body ≡ None → new.body ≡ Some body → Begins old.front command body.start
-    → IsUnread body → Reads old (number, Said.Does command) new
+    → IsUnread body → Reads old (number, FileLine.Does command) new
 read_begun old new number command body was is begins none first begun = (
   Some begins.0,
   subst (λ b. IsBegunBy b (Some begins.0)) (sym is) (begins.0, refl, begins.1),
   λ rest. ap (λ b. comes_on b new.front (Some begins.0) rest) is ∙ ap (λ bs. if stands body rest then Some (record begins.0 { blocks = bs }) else None) (none.blocks rest)
       ∙ ap (λ b. if b then Some (record begins.0 { blocks = place (expected rest) ++ blocks_in false rest }) else None) (none.spot rest) ∙ sym (begins.2 number rest)
-      ∙ ap (λ b. comes_on b old.front first ((number, Said.Does command) ∷ rest)) (sym was),
+      ∙ ap (λ b. comes_on b old.front first ((number, FileLine.Does command) ∷ rest)) (sym was),
 )
 
 -- a line that isn't refused has a form
-pub formed : (draft : Draft) (said : Said) → refuses draft said ≡ None → said ≢ Said.Formless
-formed draft Said.Nothing taken e = cc
-formed draft (Said.Does command) taken e = cc
-formed draft (Said.Marks mark) taken e = cc
-formed draft Said.Formless taken e = cc
+pub formed : (draft : Draft) (said : FileLine) → refuses draft said ≡ None → said ≢ FileLine.Formless
+formed draft FileLine.Nothing taken e = cc
+formed draft (FileLine.Does command) taken e = cc
+formed draft (FileLine.Marks mark) taken e = cc
+formed draft FileLine.Formless taken e = cc
 
 -- `main` makes the bus
-pub begun_by : (board : Board) (names : List Named) (name : Name) (setup : Setup) (number : ℕ) (rest : List (ℕ × Said)) → is_some (place_in names name) ≡ false → is_capable setup.identity.bcr ≡ true
-    → outline board names ((number, Said.Does (Command.Main name setup)) ∷ rest) ≡ (if stand Spot.Outside rest then Some (record { main = setup; board = board; names = names ++ named name (Place.Slot 0) ∷ []; blocks = place (expected rest) ++ blocks_in false rest }) else None)
+pub begun_by : (board : Board) (names : List Named) (name : Name) (setup : Setup) (number : ℕ) (rest : List (ℕ × FileLine)) → is_some (place_in names name) ≡ false → is_capable setup.identity.bcr ≡ true
+    → outline board names ((number, FileLine.Does (Command.Main name setup)) ∷ rest) ≡ (if stand Spot.Outside rest then Some (record { main = setup; board = board; names = names ++ named name (Place.Slot 0) ∷ []; blocks = place (expected rest) ++ blocks_in false rest }) else None)
 begun_by board names name setup number rest given capable = rw (given, capable) refl
 
 -- what holds of a call that went well
@@ -93,7 +93,7 @@ all_left old new settles none =
     ∙ ap (λ (h : Option Line). blocks_of new.blocks.items ++ left (option_map open_of new.block) (option_map step_of h) []) (sym settles.none) ∙ settles.same [] refl
 
 -- one more line of the file
-pub one_said : (lines : List (Vec ℕ)) (at : ℕ) (line : Vec ℕ) (said : Said) (rest : List (ℕ × Said)) → at < length lines → line ≡ get_or lines at line → IsSaid line.items said → said ≢ Said.Formless
+pub one_said : (lines : List (Vec ℕ)) (at : ℕ) (line : Vec ℕ) (said : FileLine) (rest : List (ℕ × FileLine)) → at < length lines → line ≡ get_or lines at line → IsFileLine line.items said → said ≢ FileLine.Formless
     → AreSaid (at + 1 + 1) (drop (at + 1) lines) rest → AreSaid (at + 1) (drop at lines) ((at + 1, said) ∷ rest)
 one_said lines at line said rest lt is says formed are =
     let here : drop at lines ≡ get_or lines at line ∷ drop (at + 1) lines = rw add-one (drop-cons lines at line lt) in

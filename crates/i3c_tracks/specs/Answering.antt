@@ -8,7 +8,7 @@ use Rattle.i3c_scene.specs.Scenes.{Seen}
 use Rattle.i3c_scene.specs.Trying.{LineBreaks, LineSteps}
 use Rattle.i3c_scene.specs.declared.line.Line.{Line}
 use Rattle.i3c_tracks.specs.declared.course.Run.{Run}
-use Rattle.i3c_tracks.specs.declared.exploring.Answer.{Answer}
+use Rattle.i3c_tracks.specs.declared.answer.Answer.{Answer}
 use Rattle.i3c_tracks.specs.declared.refusal.Refusal.{Refusal}
 use Rattle.i3c_tracks.specs.Ends.{TellsEnds}
 use Rattle.i3c_tracks.specs.Planning.{IsPlan}

@@ -34,7 +34,8 @@ abbrev pub count_lines : List (Vec Line) → ℕ
 count_lines [] = 0
 count_lines (lines ∷ rest) = length lines.items + count_lines rest
 
--- the lines that an order runs in so many blocks, one after another, and what is left of it: a block takes a turn for each of its lines
+-- the lines that an order runs in `count` blocks, one after another, and the rest of the order: a block takes a turn for each
+-- of its lines
 abbrev pub RunIn : List (Vec (Vec Line)) → List Bool → List Turn → ℕ → List Run → List Turn → Type 0
 RunIn blocks opened order zero runs left = (runs ≡ []) × (left ≡ order)
 RunIn blocks opened order (suc b) runs left =

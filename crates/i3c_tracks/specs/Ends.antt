@@ -18,7 +18,7 @@ IsEndText lines blocks opened counted number end text =
     (shown : List ℕ) × (runs : List Run) × IsShown end.state shown × AreRunsOf blocks opened end.order.items runs
     × (text ≡ head_text number end.orders counted ++ (shown ++ like_text lines runs))
 
--- the first ends, so many
+-- the texts of the first `count` ends
 abbrev pub AreEndTexts : List (Vec ℕ) → List (Vec (Vec Line)) → List Bool → Bool → List (Node Seen) → ℕ → List ℕ → Type 0
 AreEndTexts lines blocks opened counted ends zero text = text ≡ []
 AreEndTexts lines blocks opened counted ends (suc k) text =

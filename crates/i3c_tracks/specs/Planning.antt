@@ -6,7 +6,7 @@ use Rattle.i3c_base.specs.Cutting.{no_cuts}
 use Rattle.i3c_base.specs.Numbers.{is_capable}
 use Rattle.i3c_base.specs.State.{Board, IsStart, no_board}
 use Rattle.i3c_legacy.specs.Declaring.{first_declare_fault, first_fault}
-use Rattle.i3c_facts.specs.declared.claims.Claim.{Claim}
+use Rattle.i3c_facts.specs.declared.facts.Claim.{Claim}
 use Rattle.i3c_facts.specs.declared.marks.Mark.{Mark}
 use Rattle.i3c_lines.specs.declared.command.Command.{Command}
 use Rattle.i3c_lines.specs.declared.names.Name.{Name}
@@ -17,9 +17,9 @@ use Rattle.i3c_scene.specs.declared.line.Expectation.{Expectation}
 use Rattle.i3c_scene.specs.declared.line.Line.{Line}
 use Rattle.i3c_scene.specs.declared.named.Named.{Named}
 use Rattle.i3c_scene.specs.Scenes.{Seen, place_in}
-use Rattle.i3c_tracks.specs.declared.said.Said.{Said}
+use Rattle.i3c_tracks.specs.declared.file_line.FileLine.{FileLine}
 use Rattle.i3c_tracks.specs.Refusing.{is_outer, risk_of}
-use Rattle.i3c_tracks.specs.Saying.{IsSaid}
+use Rattle.i3c_tracks.specs.Saying.{IsFileLine}
 
 -- the bytes of lines, each with its line feed
 abbrev pub lines_bytes : List (Vec ℕ) → List ℕ
@@ -31,11 +31,11 @@ abbrev pub AreLines : Option (List ℕ) → List (Vec ℕ) → Type 0
 AreLines file lines = All (λ (line : Vec ℕ). HasNoFeed line.items) lines × IfSome file (λ bytes. lines_bytes lines ≡ bytes ++ 10 ∷ [])
 
 -- what the lines from this number on say, each with its number; each of them has a form
-abbrev pub AreSaid : ℕ → List (Vec ℕ) → List (ℕ × Said) → Type 0
+abbrev pub AreSaid : ℕ → List (Vec ℕ) → List (ℕ × FileLine) → Type 0
 AreSaid number [] [] = Unit {0}
 AreSaid number [] (said ∷ rest) = ⊥
 AreSaid number (line ∷ lines) [] = ⊥
-AreSaid number (line ∷ lines) ((at, said) ∷ rest) = (at ≡ number) × IsSaid line.items said × (said ≢ Said.Formless) × AreSaid (number + 1) lines rest
+AreSaid number (line ∷ lines) ((at, said) ∷ rest) = (at ≡ number) × IsFileLine line.items said × (said ≢ FileLine.Formless) × AreSaid (number + 1) lines rest
 
 -- a line that runs: its number, its command, the device at risk in its frame, and what is expected behind it. A line without a command is a place where something is expected
 pub record Step : Type 0 where
@@ -48,43 +48,43 @@ abbrev pub expectation : ℕ → List Claim → Expectation
 expectation number facts = record { number = number; facts = facts }
 
 -- what is expected behind a line: by each `expect` that follows it, and by each `always` of a block that begins there
-abbrev pub expected : List (ℕ × Said) → List Expectation
-expected ((number, Said.Marks (Mark.Expect facts)) ∷ rest) = expectation number facts ∷ expected rest
-expected ((number, Said.Marks (Mark.Always facts)) ∷ rest) = expectation number facts ∷ expected rest
-expected ((number, Said.Marks Mark.Any) ∷ rest) = expected rest
-expected ((number, Said.Marks (Mark.Anywhere name)) ∷ rest) = expected rest
-expected ((number, Said.Nothing) ∷ rest) = expected rest
+abbrev pub expected : List (ℕ × FileLine) → List Expectation
+expected ((number, FileLine.Marks (Mark.Expect facts)) ∷ rest) = expectation number facts ∷ expected rest
+expected ((number, FileLine.Marks (Mark.Always facts)) ∷ rest) = expectation number facts ∷ expected rest
+expected ((number, FileLine.Marks Mark.Any) ∷ rest) = expected rest
+expected ((number, FileLine.Marks (Mark.Anywhere name)) ∷ rest) = expected rest
+expected ((number, FileLine.Nothing) ∷ rest) = expected rest
 expected _ = []
 
 -- the device at risk in a block: its `anywhere`, before its first track
-abbrev pub risk_in : List (ℕ × Said) → Option Name
+abbrev pub risk_in : List (ℕ × FileLine) → Option Name
 risk_in [] = None
-risk_in ((number, Said.Marks (Mark.Anywhere name)) ∷ rest) = Some name
-risk_in ((number, Said.Marks Mark.Track) ∷ rest) = None
-risk_in ((number, Said.Marks Mark.Close) ∷ rest) = None
+risk_in ((number, FileLine.Marks (Mark.Anywhere name)) ∷ rest) = Some name
+risk_in ((number, FileLine.Marks Mark.Track) ∷ rest) = None
+risk_in ((number, FileLine.Marks Mark.Close) ∷ rest) = None
 risk_in (line ∷ rest) = risk_in rest
 
 -- what has to hold after each line of a block: each `always` before its first track
-abbrev pub always_in : List (ℕ × Said) → List Expectation
+abbrev pub always_in : List (ℕ × FileLine) → List Expectation
 always_in [] = []
-always_in ((number, Said.Marks (Mark.Always facts)) ∷ rest) = expectation number facts ∷ always_in rest
-always_in ((number, Said.Marks Mark.Track) ∷ rest) = []
-always_in ((number, Said.Marks Mark.Close) ∷ rest) = []
+always_in ((number, FileLine.Marks (Mark.Always facts)) ∷ rest) = expectation number facts ∷ always_in rest
+always_in ((number, FileLine.Marks Mark.Track) ∷ rest) = []
+always_in ((number, FileLine.Marks Mark.Close) ∷ rest) = []
 always_in (line ∷ rest) = always_in rest
 
 -- the lines of a track: its commands, up to the next `track` or `close`
-abbrev pub steps_in : Option Name → List Expectation → List (ℕ × Said) → List Step
+abbrev pub steps_in : Option Name → List Expectation → List (ℕ × FileLine) → List Step
 steps_in risk always [] = []
-steps_in risk always ((number, Said.Does command) ∷ rest) = record { number = number; command = Some command; risk = risk_of risk command; expected = expected rest ++ always } ∷ steps_in risk always rest
-steps_in risk always ((number, Said.Marks Mark.Track) ∷ rest) = []
-steps_in risk always ((number, Said.Marks Mark.Close) ∷ rest) = []
+steps_in risk always ((number, FileLine.Does command) ∷ rest) = record { number = number; command = Some command; risk = risk_of risk command; expected = expected rest ++ always } ∷ steps_in risk always rest
+steps_in risk always ((number, FileLine.Marks Mark.Track) ∷ rest) = []
+steps_in risk always ((number, FileLine.Marks Mark.Close) ∷ rest) = []
 steps_in risk always (line ∷ rest) = steps_in risk always rest
 
--- the tracks of a block: what stands behind each `track`, up to `close`
-abbrev pub tracks_in : Option Name → List Expectation → List (ℕ × Said) → List (List Step)
+-- the tracks of a block: the lines behind each `track`, up to `close`
+abbrev pub tracks_in : Option Name → List Expectation → List (ℕ × FileLine) → List (List Step)
 tracks_in risk always [] = []
-tracks_in risk always ((number, Said.Marks Mark.Track) ∷ rest) = steps_in risk always rest ∷ tracks_in risk always rest
-tracks_in risk always ((number, Said.Marks Mark.Close) ∷ rest) = []
+tracks_in risk always ((number, FileLine.Marks Mark.Track) ∷ rest) = steps_in risk always rest ∷ tracks_in risk always rest
+tracks_in risk always ((number, FileLine.Marks Mark.Close) ∷ rest) = []
 tracks_in risk always (line ∷ rest) = tracks_in risk always rest
 
 -- a line outside of blocks is a block of one track
@@ -97,37 +97,37 @@ place [] = []
 place (first ∷ rest) = alone (record { number = first.number; command = None; risk = None; expected = first ∷ rest }) ∷ []
 
 -- the blocks of some lines, outside of a block (`false`) or in the midst of one (`true`)
-abbrev pub blocks_in : Bool → List (ℕ × Said) → List (List (List Step))
+abbrev pub blocks_in : Bool → List (ℕ × FileLine) → List (List (List Step))
 blocks_in inside [] = []
-blocks_in false ((number, Said.Does command) ∷ rest) = alone (record { number = number; command = Some command; risk = None; expected = expected rest }) ∷ blocks_in false rest
-blocks_in false ((number, Said.Marks Mark.Any) ∷ rest) = tracks_in (risk_in rest) (always_in rest) rest ∷ blocks_in true rest
-blocks_in true ((number, Said.Marks Mark.Close) ∷ rest) = place (expected rest) ++ blocks_in false rest
+blocks_in false ((number, FileLine.Does command) ∷ rest) = alone (record { number = number; command = Some command; risk = None; expected = expected rest }) ∷ blocks_in false rest
+blocks_in false ((number, FileLine.Marks Mark.Any) ∷ rest) = tracks_in (risk_in rest) (always_in rest) rest ∷ blocks_in true rest
+blocks_in true ((number, FileLine.Marks Mark.Close) ∷ rest) = place (expected rest) ++ blocks_in false rest
 blocks_in inside (line ∷ rest) = blocks_in inside rest
 
--- where a line stands: outside of blocks, at the head of one, where a track begins, or behind a line of a track
+-- the spot of a line: outside of blocks, at the head of one, where a track begins, or behind a line of a track
 pub data Spot : Type 0 where
   Outside : Spot
   Head : Spot
   Beginning : Spot
   Within : Spot
 
--- whether each of these lines stands where it may, from a spot on, and each block is closed
-abbrev pub stand : Spot → List (ℕ × Said) → Bool
+-- whether each of these lines is allowed at its spot, from a spot on, and each block is closed
+abbrev pub stand : Spot → List (ℕ × FileLine) → Bool
 stand Spot.Outside [] = true
-stand Spot.Outside ((number, Said.Marks Mark.Any) ∷ rest) = stand Spot.Head rest
-stand Spot.Outside ((number, Said.Marks (Mark.Expect facts)) ∷ rest) = stand Spot.Outside rest
-stand Spot.Outside ((number, Said.Marks mark) ∷ rest) = false
+stand Spot.Outside ((number, FileLine.Marks Mark.Any) ∷ rest) = stand Spot.Head rest
+stand Spot.Outside ((number, FileLine.Marks (Mark.Expect facts)) ∷ rest) = stand Spot.Outside rest
+stand Spot.Outside ((number, FileLine.Marks mark) ∷ rest) = false
 stand Spot.Outside (line ∷ rest) = stand Spot.Outside rest
-stand Spot.Head ((number, Said.Nothing) ∷ rest) = stand Spot.Head rest
-stand Spot.Head ((number, Said.Marks (Mark.Anywhere name)) ∷ rest) = stand Spot.Head rest
-stand Spot.Head ((number, Said.Marks (Mark.Always facts)) ∷ rest) = stand Spot.Head rest
-stand Spot.Beginning ((number, Said.Nothing) ∷ rest) = stand Spot.Beginning rest
-stand Spot.Beginning ((number, Said.Does command) ∷ rest) = if is_outer command then false else stand Spot.Within rest
-stand Spot.Within ((number, Said.Nothing) ∷ rest) = stand Spot.Within rest
-stand Spot.Within ((number, Said.Does command) ∷ rest) = if is_outer command then false else stand Spot.Within rest
-stand Spot.Within ((number, Said.Marks (Mark.Expect facts)) ∷ rest) = stand Spot.Within rest
-stand inside ((number, Said.Marks Mark.Track) ∷ rest) = stand Spot.Beginning rest
-stand inside ((number, Said.Marks Mark.Close) ∷ rest) = stand Spot.Outside rest
+stand Spot.Head ((number, FileLine.Nothing) ∷ rest) = stand Spot.Head rest
+stand Spot.Head ((number, FileLine.Marks (Mark.Anywhere name)) ∷ rest) = stand Spot.Head rest
+stand Spot.Head ((number, FileLine.Marks (Mark.Always facts)) ∷ rest) = stand Spot.Head rest
+stand Spot.Beginning ((number, FileLine.Nothing) ∷ rest) = stand Spot.Beginning rest
+stand Spot.Beginning ((number, FileLine.Does command) ∷ rest) = if is_outer command then false else stand Spot.Within rest
+stand Spot.Within ((number, FileLine.Nothing) ∷ rest) = stand Spot.Within rest
+stand Spot.Within ((number, FileLine.Does command) ∷ rest) = if is_outer command then false else stand Spot.Within rest
+stand Spot.Within ((number, FileLine.Marks (Mark.Expect facts)) ∷ rest) = stand Spot.Within rest
+stand inside ((number, FileLine.Marks Mark.Track) ∷ rest) = stand Spot.Beginning rest
+stand inside ((number, FileLine.Marks Mark.Close) ∷ rest) = stand Spot.Outside rest
 stand inside lines = false
 
 -- what a file asks for: the bus's main controller, what has a static address, the names that are given at its start, and the blocks
@@ -140,21 +140,22 @@ pub record Outline : Type 0 where
 abbrev pub named : Name → Place → Named
 named name place = record { name = name; place = place }
 
--- a line before the bus that isn't refused declares something, or makes the bus, and then the blocks follow. Where a line stands where it may not, nothing is asked for
-abbrev pub outline : Board → List Named → List (ℕ × Said) → Option Outline
+-- a line before the bus that isn't refused declares something, or makes the bus, and then the blocks follow. If a line isn't
+-- allowed at its spot, nothing is required
+abbrev pub outline : Board → List Named → List (ℕ × FileLine) → Option Outline
 outline board names [] = None
-outline board names ((number, Said.Does (Command.Legacy name address lvr)) ∷ rest) =
+outline board names ((number, FileLine.Does (Command.Legacy name address lvr)) ∷ rest) =
     if is_some (place_in names name) then outline board names rest else
     (if is_some (first_fault board address) then outline board names rest else
     outline (record board { legacy = slice_set board.legacy address (Some lvr) }) (names ++ named name (Place.Legacy address) ∷ []) rest)
-outline board names ((number, Said.Does (Command.Declare address identity)) ∷ rest) =
+outline board names ((number, FileLine.Does (Command.Declare address identity)) ∷ rest) =
     if is_some (first_declare_fault board address identity) then outline board names rest else
     outline (record board { declared = slice_set board.declared address (Some identity) }) names rest
-outline board names ((number, Said.Does (Command.Main name setup)) ∷ rest) =
+outline board names ((number, FileLine.Does (Command.Main name setup)) ∷ rest) =
     if is_some (place_in names name) then outline board names rest else
     (if is_capable setup.identity.bcr then (if stand Spot.Outside rest then Some (record { main = setup; board = board; names = names ++ named name (Place.Slot 0) ∷ []; blocks = place (expected rest) ++ blocks_in false rest }) else None) else
     outline board names rest)
-outline board names ((number, Said.Marks mark) ∷ rest) = None
+outline board names ((number, FileLine.Marks mark) ∷ rest) = None
 outline board names (line ∷ rest) = outline board names rest
 
 -- the start of an outline's bus: its frames accept each request, and no cut waits
@@ -180,7 +181,7 @@ blocks_of blocks = map (λ (block : Vec (Vec Line)). tracks_of block.items) bloc
 
 -- the plan of a file's lines: a bus at its start, and the blocks of lines that run from there
 pub record IsPlan (lines : List (Vec ℕ)) (start : Seen) (blocks : List (Vec (Vec Line))) : Type 0 where
-  pub said : List (ℕ × Said)
+  pub said : List (ℕ × FileLine)
   pub are : AreSaid 1 lines said
   pub outlined : Outline
   pub is : outline no_board [] said ≡ Some outlined

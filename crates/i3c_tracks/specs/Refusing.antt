@@ -1,6 +1,6 @@
 -- Why lines of a file are refused.
 use Rattle.std.specs.Prelude.{ℕ, ◌==◌, Bool, true, false, not, ◌&&◌, ◌||◌, List, [], ◌∷◌, Option, Some, None, is_none, is_some, if◌then◌else◌}
-use Rattle.i3c_facts.specs.declared.claims.Claim.{Claim}
+use Rattle.i3c_facts.specs.declared.facts.Claim.{Claim}
 use Rattle.i3c_facts.specs.declared.fact.Fact.{Fact}
 use Rattle.i3c_facts.specs.declared.marks.Mark.{Mark}
 use Rattle.i3c_lines.specs.declared.command.Command.{Command}
@@ -10,7 +10,7 @@ use Rattle.i3c_tracks.specs.declared.body.Body.{Body}
 use Rattle.i3c_tracks.specs.declared.draft.Draft.{Draft}
 use Rattle.i3c_tracks.specs.declared.open_block.OpenBlock.{OpenBlock}
 use Rattle.i3c_tracks.specs.declared.refusal.Reason.{Reason}
-use Rattle.i3c_tracks.specs.declared.said.Said.{Said}
+use Rattle.i3c_tracks.specs.declared.file_line.FileLine.{FileLine}
 
 -- whether a command sends a frame, in which a device may lose power
 abbrev pub sends_frame : Command → Bool
@@ -37,11 +37,12 @@ is_outer _ = false
 abbrev pub risk_of : Option Name → Command → Option Name
 risk_of risk command = if sends_frame command then risk else None
 
--- why an open block refuses a command, where a track has begun or not, and its tracks may still get so many lines
+-- why an open block refuses a command: by whether a track has begun, and by the number of lines that its tracks may still get
 abbrev pub refuses_command : Bool → ℕ → Command → Option Reason
 refuses_command begun left command = if is_outer command then Some Reason.BlockOpen else if not begun then Some Reason.NoTrack else if left == 0 then Some Reason.Most else None
 
--- why an open block refuses a mark, where a track has begun or not, a device may lose power or not, and so many tracks may begin
+-- why an open block refuses a mark: by whether a track has begun, whether a device may lose power, and the number of tracks
+-- that may still begin
 abbrev pub refuses_mark : Bool → Bool → ℕ → Mark → Option Reason
 refuses_mark begun risked left Mark.Any = Some Reason.BlockOpen
 refuses_mark begun risked left (Mark.Anywhere name) = if begun then Some Reason.BlockOpen else if risked then Some Reason.Most else None
@@ -59,7 +60,7 @@ refuses_outside Mark.Track = Some Reason.NoBlock
 refuses_outside Mark.Close = Some Reason.NoBlock
 refuses_outside (Mark.Expect facts) = None
 
--- whether a fact asks what the line before came to
+-- whether a fact asks for the result of the previous line
 abbrev pub is_of_before : Fact → Bool
 is_of_before Fact.Done = true
 is_of_before (Fact.Refused why) = true
@@ -121,8 +122,8 @@ refuses_on_mark None mark = Some Reason.NoBus
 refuses_on_mark (Some body) mark = refuses_body body mark
 
 -- why a line is refused behind those that were read: the first reason
-abbrev pub refuses : Draft → Said → Option Reason
-refuses draft Said.Nothing = None
-refuses draft Said.Formless = Some Reason.BadLine
-refuses draft (Said.Does command) = refuses_on draft.body command
-refuses draft (Said.Marks mark) = refuses_on_mark draft.body mark
+abbrev pub refuses : Draft → FileLine → Option Reason
+refuses draft FileLine.Nothing = None
+refuses draft FileLine.Formless = Some Reason.BadLine
+refuses draft (FileLine.Does command) = refuses_on draft.body command
+refuses draft (FileLine.Marks mark) = refuses_on_mark draft.body mark

@@ -27,7 +27,7 @@ number_text (Some number) = codes " " ++ decimal number
 abbrev pub refusal_line : Refusal → List ℕ
 refusal_line refusal = codes "refused " ++ (reason_token refusal.reason ++ (number_text refusal.line ++ 10 ∷ []))
 
--- the line of a number, from 1 on, as it stands in the file
+-- the line of a number, counted from 1, as the file has it
 abbrev pub bytes_of : Option (Vec ℕ) → List ℕ
 bytes_of None = []
 bytes_of (Some line) = line.items
@@ -49,7 +49,7 @@ cut_in _ _ = None
 abbrev pub cut_text : Name → ℕ → List ℕ
 cut_text name bit = codes "cut " ++ (letters name ++ (codes " " ++ decimal bit))
 
--- the cut before a line, with what stands between them
+-- the cut before a line, and the text between them
 abbrev pub cut_before : Option (Name × ℕ) → List ℕ → List ℕ
 cut_before None between = []
 cut_before (Some (name, bit)) between = cut_text name bit ++ between
@@ -75,11 +75,11 @@ expectation_text line = codes "expect" ++ (drop (min 6 (length line)) line ++ 10
 abbrev pub short_line : List ℕ → List ℕ
 short_line line = take (min (length line) 256) line ++ 10 ∷ []
 
--- which line breaks
+-- the comment that names the line that breaks
 abbrev pub breaks_text : ℕ → List ℕ → List ℕ
 breaks_text number line = codes "# line " ++ (decimal number ++ (codes " breaks: " ++ line))
 
--- a comment
+-- a comment with this text
 abbrev pub comment_text : List ℕ → List ℕ
 comment_text line = codes "# " ++ (line ++ 10 ∷ [])
 
@@ -87,7 +87,7 @@ comment_text line = codes "# " ++ (line ++ 10 ∷ [])
 abbrev pub heading_text : ℕ → List ℕ → List ℕ → List ℕ
 heading_text number line found = short_line (breaks_text number line) ++ (comment_text found ++ comment_text (codes "run this script to see it"))
 
--- a number of orders
+-- the text of a number of orders
 abbrev pub orders_text : Option ℕ → List ℕ
 orders_text None = codes "over 18446744073709551615"
 orders_text (Some orders) = decimal orders
@@ -105,7 +105,7 @@ head_text number orders counted = codes "end " ++ (decimal number ++ (of_orders 
 abbrev pub short_run_text : List (Vec ℕ) → Run → List ℕ
 short_run_text lines run = cut_before (cut_in run.line.now.risk run.way) (codes " / ") ++ line_at lines run.line.now.number
 
--- what stands before a line: it is the first one, or not
+-- the text before a line, which may be the first one
 abbrev pub parting : Bool → List ℕ
 parting true = codes " "
 parting false = codes " / "

@@ -24,7 +24,7 @@ pub(crate) struct Blocks {
     pub risky: bool,
 }
 
-/// What lines behind the bus come to, of which some were read.
+/// The lines behind the bus, as far as they were read.
 #[derive(Drop)]
 pub(crate) struct Body {
     alloc: Global,
@@ -52,7 +52,7 @@ fn block_of(alloc: Global, line: Line) -> Result<Vec<Vec<Line>>, AllocError>
     Ok(tracks)
 }
 
-/// A line of which one thing more is expected; where none is held, a place.
+/// A line of which one thing more is expected; without a held line, a place.
 fn expecting(
     alloc: Global,
     held: Option<Line>,
@@ -80,7 +80,7 @@ fn place_of(alloc: Global, number: u64) -> Line
     }
 }
 
-/// Whether facts ask what the line before them came to.
+/// Whether facts ask for the result of the previous line.
 fn asks_before(facts: &Facts) -> bool
     ensures { result ≡ ask_before facts.now }
 {
@@ -93,7 +93,7 @@ fn asks_before(facts: &Facts) -> bool
     false
 }
 
-/// Whether a fact asks what the line before it came to.
+/// Whether a fact asks for the result of the previous line.
 fn is_of_before(fact: &Fact) -> bool
     ensures { result ≡ is_of_before fact.now }
 {
@@ -114,7 +114,7 @@ impl Body {
     ghost use Rattle.std.specs.Prelude.{◌≡◌, ◌++◌, [], ℕ, List, None, Some, IfOk, IfSome, OnOk, option_map, false};
     ghost use Rattle.i3c_lines.specs.declared.command.Command.{Command as CommandValue};
     ghost use Rattle.i3c_facts.specs.declared.marks.Mark.{Mark as MarkValue};
-    ghost use Rattle.i3c_tracks.specs.declared.said.Said.{Said as SaidValue};
+    ghost use Rattle.i3c_tracks.specs.declared.file_line.FileLine.{FileLine as FileLineValue};
     ghost use Rattle.i3c_tracks.specs.Planning.{blocks_of, step_of, tracks_of};
     ghost use Rattle.i3c_tracks.specs.Drafting.{Adds, Holds, IsUnread, Puts, ReadsOn, Settles, TakesPlace, comes_to, with_expected};
     ghost use Rattle.i3c_tracks.specs.Refusing.{begins_track, has_command, is_in_track, misses_line, refuses_body, refuses_mark_there, refuses_there};
@@ -203,7 +203,7 @@ impl Body {
     /// Adds a command that isn't refused.
     pub(crate) fn add_command(&mut self, number: u64, command: Command) -> Result<(), AllocError>
         requires { refuses_there self.old.block command ≡ None }
-        ensures { OnOk result (ReadsOn self.old (number, SaidValue.Does command) self.new) }
+        ensures { OnOk result (ReadsOn self.old (number, FileLineValue.Does command) self.new) }
     {
         self.settle()?;
         let risk = self.take_place(&command);
@@ -230,7 +230,7 @@ impl Body {
     pub(crate) fn add_mark(&mut self, number: u64, mark: Mark) -> Result<(), AllocError>
         requires placed { refuses_mark_there self.old.block mark ≡ None }
         requires known { misses_line self.old.block self.old.held mark ≡ false }
-        ensures { OnOk result (ReadsOn self.old (number, SaidValue.Marks mark) self.new) }
+        ensures { OnOk result (ReadsOn self.old (number, FileLineValue.Marks mark) self.new) }
     {
         match mark {
             Mark::Any => {
@@ -251,7 +251,7 @@ impl Body {
     /// `anywhere`: this device may lose power in each frame of the block.
     fn set_risk(&mut self, name: Name)
         requires { refuses_mark_there self.old.block (MarkValue.Anywhere name) ≡ None }
-        ensures { (number : ℕ) → ReadsOn self.old (number, SaidValue.Marks (MarkValue.Anywhere name)) self.new }
+        ensures { (number : ℕ) → ReadsOn self.old (number, FileLineValue.Marks (MarkValue.Anywhere name)) self.new }
     {
         self.risky = true;
         match &mut self.block {
@@ -265,7 +265,7 @@ impl Body {
     /// `always`: these facts have to hold at the block's start and after each of its lines.
     fn add_always(&mut self, number: u64, facts: Facts) -> Result<(), AllocError>
         requires { refuses_mark_there self.old.block (MarkValue.Always facts) ≡ None }
-        ensures { OnOk result (ReadsOn self.old (number, SaidValue.Marks (MarkValue.Always facts)) self.new) }
+        ensures { OnOk result (ReadsOn self.old (number, FileLineValue.Marks (MarkValue.Always facts)) self.new) }
     {
         let again = facts.copied()?;
         self.expect(Expectation {
@@ -278,7 +278,7 @@ impl Body {
         }
     }
 
-    /// This is expected behind the line before, or, where that isn't known, of each state that can be there.
+    /// This is expected behind the previous line, or, if that isn't known, of each state that can be there.
     fn expect(&mut self, expectation: Expectation) -> Result<(), AllocError>
         ensures { OnOk result (Holds self.old (with_expected expectation (option_map step_of self.old.held)) self.new) }
     {
@@ -290,7 +290,7 @@ impl Body {
     /// `track`: the next track begins.
     fn begin_track(&mut self) -> Result<(), AllocError>
         requires { refuses_mark_there self.old.block MarkValue.Track ≡ None }
-        ensures { OnOk result ((number : ℕ) → ReadsOn self.old (number, SaidValue.Marks MarkValue.Track) self.new) }
+        ensures { OnOk result ((number : ℕ) → ReadsOn self.old (number, FileLineValue.Marks MarkValue.Track) self.new) }
     {
         self.settle()?;
         match &mut self.block {
@@ -302,7 +302,7 @@ impl Body {
     /// `close`: the block is added.
     fn close(&mut self) -> Result<(), AllocError>
         requires { refuses_mark_there self.old.block MarkValue.Close ≡ None }
-        ensures { OnOk result ((number : ℕ) → ReadsOn self.old (number, SaidValue.Marks MarkValue.Close) self.new) }
+        ensures { OnOk result ((number : ℕ) → ReadsOn self.old (number, FileLineValue.Marks MarkValue.Close) self.new) }
     {
         self.settle()?;
         match mem::replace(&mut self.block, None) {

@@ -70,15 +70,15 @@ fn unmet_number(
     let Some((last, earlier)) = runs.split_last() else {
         return Err(AllocError);
     };
-    let scene = replayed(alloc, plan, earlier)?;
+    let scene = scene_after(alloc, plan, earlier)?;
     match scene.unmet(alloc, last.line, last.way, found)? {
         Some(number) => Ok(number),
         None => Err(AllocError),
     }
 }
 
-/// The bus after these lines.
-fn replayed(alloc: Global, plan: &Plan, runs: &[Run<'_>]) -> Result<Scene, AllocError> {
+/// The scene after these lines.
+fn scene_after(alloc: Global, plan: &Plan, runs: &[Run<'_>]) -> Result<Scene, AllocError> {
     let mut scene = plan.start.copied(alloc)?;
     for run in runs {
         if let Some(next) = scene.after(alloc, run.line, run.way)? {
@@ -114,7 +114,7 @@ fn push_breaks(number: u64, broken: &[u8], text: &mut Text) -> Result<(), AllocE
     text.push(broken)
 }
 
-/// Appends what is there, and what a reader may do with the script.
+/// Appends what holds in place of the expectation, and what a reader may do with the script.
 fn push_found(found: &[u8], text: &mut Text) -> Result<(), AllocError>
     ensures { OnOk result (text.new ≡ text.old ++ (comment_text found.now ++ comment_text (codes "run this script to see it"))) }
 {
@@ -139,7 +139,7 @@ fn push_short(line: &[u8], text: &mut Text) -> Result<(), AllocError>
     text.end()
 }
 
-/// Appends the line of this number, as it stands in the file.
+/// Appends the line of this number, as the file has it.
 fn push_line(lines: &[Vec<u8>], number: u64, text: &mut Text) -> Result<(), AllocError>
     ensures { OnOk result (text.new ≡ text.old ++ (line_at lines.now number ++ 10 ∷ [])) }
 {
@@ -147,7 +147,7 @@ fn push_line(lines: &[Vec<u8>], number: u64, text: &mut Text) -> Result<(), Allo
     text.end()
 }
 
-/// Appends the lines of these numbers, as they stand in the file.
+/// Appends the lines of these numbers, as the file has them.
 fn push_lines(lines: &[Vec<u8>], numbers: &[u64], text: &mut Text) -> Result<(), AllocError>
     ensures { OnOk result (text.new ≡ text.old ++ lines_text lines.now numbers.now) }
 {

@@ -86,7 +86,7 @@ fn add_block<'a>(
     Ok(())
 }
 
-/// Appends the line of a block that a turn runs, where so many lines of each track have run.
+/// Appends the line of a block that a turn runs; `places` has the number of lines of each track that have run.
 fn add_turn<'a>(
     block: &'a [Vec<Line>],
     opened: bool,
@@ -110,7 +110,7 @@ fn add_turn<'a>(
     }
 }
 
-/// The line of a block that a turn runs, where so many lines of each track have run; one more of its track has then.
+/// The line of a block that a turn runs; `places` has the number of lines of each track that have run, and counts this one.
 fn next_line<'a>(block: &'a [Vec<Line>], turn: Turn, places: &mut Vec<usize>) -> Option<&'a Line>
     ensures places { (before : List TurnValue) → ArePlaces block.now before places.old.items → ArePlaces block.now (turn ∷ before) places.new.items }
     ensures line { (before : List TurnValue) → ArePlaces block.now before places.old.items

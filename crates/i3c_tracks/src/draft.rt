@@ -1,15 +1,15 @@
 use crate::body::Body;
+use crate::file_line::{FileLine, read_file_line};
 use crate::front::Front;
 use crate::plan::{Plan, PlanFault};
 use crate::refusal::{Reason, Refusal};
-use crate::said::{Said, read_said};
 use i3c_facts::Mark;
 use i3c_lines::Command;
 use i3c_scene::Scene;
 use std::alloc::{AllocError, Global};
 use std::mem;
 
-/// A plan of which some lines were read.
+/// A plan of the lines that were read.
 #[derive(Drop)]
 pub(crate) struct Draft {
     alloc: Global,
@@ -28,12 +28,12 @@ impl Draft {
     ghost use Rattle.i3c_tracks.specs.Refusing.{refuses};
     ghost use Rattle.i3c_tracks.specs.Taking.{Takes};
     ghost use Rattle.i3c_tracks.specs.declared.body.Body.{Body as BodyValue};
-    ghost use Rattle.i3c_tracks.specs.declared.said.Said.{Said as SaidValue};
+    ghost use Rattle.i3c_tracks.specs.declared.file_line.FileLine.{FileLine as FileLineValue};
 
-    /// A plan of which nothing was read.
+    /// A plan before the first line.
     pub(crate) fn new(alloc: Global) -> Draft
         ensures begun { (first : Option Outline) → IsBegunBy result.body first }
-        ensures outline { (first : Option Outline) (rest : List (ℕ × SaidValue)) → comes result first rest ≡ outline no_board [] rest }
+        ensures outline { (first : Option Outline) (rest : List (ℕ × FileLineValue)) → comes result first rest ≡ outline no_board [] rest }
     {
         Draft {
             alloc,
@@ -47,7 +47,7 @@ impl Draft {
     pub(crate) fn take(&mut self, number: u64, line: &[u8]) -> Result<(), PlanFault>
         ensures { Takes self.old number line.now self.new result }
     {
-        let said = read_said(self.alloc, line)?;
+        let said = read_file_line(self.alloc, line)?;
         if let Some(reason) = self.refuses(&said) {
             return Err(PlanFault::Refused(Refusal {
                 reason,
@@ -58,17 +58,17 @@ impl Draft {
     }
 
     /// Why a line is refused here, if it is.
-    fn refuses(&self, said: &Said) -> Option<Reason>
+    fn refuses(&self, said: &FileLine) -> Option<Reason>
         ensures { result ≡ refuses self.now said.now }
     {
         match said {
-            Said::Formless => Some(Reason::BadLine),
-            Said::Nothing => None,
-            Said::Does(command) => match &self.body {
+            FileLine::Formless => Some(Reason::BadLine),
+            FileLine::Nothing => None,
+            FileLine::Does(command) => match &self.body {
                 Some(body) => body.refuses(command),
                 None => None,
             },
-            Said::Marks(mark) => match &self.body {
+            FileLine::Marks(mark) => match &self.body {
                 Some(body) => body.refuses_mark(mark),
                 None => Some(Reason::NoBus),
             },
@@ -76,21 +76,21 @@ impl Draft {
     }
 
     /// Adds a line that isn't refused.
-    fn add(&mut self, number: u64, said: Said) -> Result<(), AllocError>
+    fn add(&mut self, number: u64, said: FileLine) -> Result<(), AllocError>
         requires { refuses self.old said ≡ None }
         ensures { OnOk result (Reads self.old (number, said) self.new) }
     {
         match said {
-            Said::Nothing | Said::Formless => Ok(()),
-            Said::Does(command) => self.add_command(number, command),
-            Said::Marks(mark) => self.add_mark(number, mark),
+            FileLine::Nothing | FileLine::Formless => Ok(()),
+            FileLine::Does(command) => self.add_command(number, command),
+            FileLine::Marks(mark) => self.add_mark(number, mark),
         }
     }
 
     /// Adds a command that isn't refused.
     fn add_command(&mut self, number: u64, command: Command) -> Result<(), AllocError>
-        requires { refuses self.old (SaidValue.Does command) ≡ None }
-        ensures { OnOk result (Reads self.old (number, SaidValue.Does command) self.new) }
+        requires { refuses self.old (FileLineValue.Does command) ≡ None }
+        ensures { OnOk result (Reads self.old (number, FileLineValue.Does command) self.new) }
     {
         match &mut self.body {
             Some(body) => body.add_command(number, command),
@@ -101,7 +101,7 @@ impl Draft {
     /// Adds a command before the bus.
     fn add_before(&mut self, number: u64, command: &Command) -> Result<(), AllocError>
         requires { self.old.body ≡ None }
-        ensures { OnOk result (Reads self.old (number, SaidValue.Does command.now) self.new) }
+        ensures { OnOk result (Reads self.old (number, FileLineValue.Does command.now) self.new) }
     {
         self.before.push(number)?;
         match self.front.obey(command)? {
@@ -127,8 +127,8 @@ impl Draft {
 
     /// Adds a mark that isn't refused.
     fn add_mark(&mut self, number: u64, mark: Mark) -> Result<(), AllocError>
-        requires { refuses self.old (SaidValue.Marks mark) ≡ None }
-        ensures { OnOk result (Reads self.old (number, SaidValue.Marks mark) self.new) }
+        requires { refuses self.old (FileLineValue.Marks mark) ≡ None }
+        ensures { OnOk result (Reads self.old (number, FileLineValue.Marks mark) self.new) }
     {
         match &mut self.body {
             Some(body) => body.add_mark(number, mark),

@@ -4,9 +4,10 @@ ghost use Rattle.std.specs.Io.KnownBytes.{Appends, IsAtEnd};
 ghost use Rattle.i3c_tracks.specs.Answering.{IsAnswer, IsExplored, IsPrinted};
 ghost use Rattle.i3c_tracks.specs.Planning.{AreLines, IsPlan};
 ghost use Rattle.i3c_tracks.specs.Telling.{refusal_line};
-ghost use Rattle.i3c_tracks.specs.declared.exploring.Answer.{Answer as AnswerValue};
+ghost use Rattle.i3c_tracks.specs.declared.answer.Answer.{Answer as AnswerValue};
 ghost use Rattle.i3c_tracks.specs.declared.refusal.Refusal.{Refusal as RefusalValue};
 
+use crate::answer::Answer;
 use crate::broken::push_broken;
 use crate::plan::{Plan, PlanFault, read_plan};
 use crate::refusal::{Reason, Refusal};
@@ -21,23 +22,11 @@ use std::thread::Threads;
 /// How many bytes are read at once.
 const CHUNK: usize = 8192;
 
-/// What an exploration of a file came to.
-#[derive(Clone, Copy, Debug, PartialEq, Eq)]
-pub enum Answer {
-    /// Every order of the part was tried, and none breaks an expectation.
-    Holds,
-    /// The file is refused, or a limit was reached: nothing is said of orders that weren't tried.
-    Refused,
-    /// An order of the part breaks an expectation.
-    Breaks,
-}
-
-/// Explores every order of a part of a file's orders, and prints the ends that they lead to, or an order that breaks an expectation, or
-/// why the file is refused.
+/// Explores every order of a part of a file's orders. It prints the ends that they lead to, or an order that breaks an
+/// expectation, or why the file is refused.
 ///
-/// The file is read whole before anything runs. Up to so many jobs run lines, each on a thread of its own. Each number of
-/// jobs prints the same. Once lines run in many orders a watcher is told how far that is, and before anything is printed that
-/// it is over.
+/// The file is read whole before anything runs. Up to `jobs` threads run lines, and each number of jobs prints the same. A
+/// watcher is told the progress while lines run in many orders, and the end before anything is printed.
 pub fn run_explore<T: Threads + Sync, R: Read, W: Write, V: Watch>(
     rt: &T,
     alloc: Global,
@@ -64,7 +53,7 @@ pub fn run_explore<T: Threads + Sync, R: Read, W: Write, V: Watch>(
         Err(fault) => return Err(fault),
     };
     let mut text = Text::new(alloc);
-    let Ok(answer) = answered(rt, alloc, &lines, limits, part, jobs, watch, &mut text) else {
+    let Ok(answer) = answer_file(rt, alloc, &lines, limits, part, jobs, watch, &mut text) else {
         return Err(ScriptFault::Memory);
     };
     match write_out(text.as_bytes(), writer) {
@@ -110,8 +99,8 @@ fn add_line(alloc: Global, line: &[u8], lines: &mut Vec<Vec<u8>>) -> Result<(), 
     Ok(())
 }
 
-/// Appends what is printed of a file.
-fn answered<T: Threads + Sync, V: Watch>(
+/// Reads and explores a file, and appends what is printed of it.
+fn answer_file<T: Threads + Sync, V: Watch>(
     rt: &T,
     alloc: Global,
     lines: &[Vec<u8>],
@@ -125,7 +114,7 @@ fn answered<T: Threads + Sync, V: Watch>(
     ensures printed { IfOk result (λ answer. IsPrinted lines.now part answer text.old text.new) }
 {
     match read_plan(alloc, lines) {
-        Ok(plan) => explored(rt, alloc, lines, &plan, limits, part, jobs, watch, text),
+        Ok(plan) => explore_plan(rt, alloc, lines, &plan, limits, part, jobs, watch, text),
         Err(PlanFault::Memory) => Err(AllocError),
         Err(PlanFault::Refused(refusal)) => {
             refusal.push(text)?;
@@ -144,7 +133,7 @@ fn limits_left(limits: Limits, before: usize) -> Option<Limits> {
 }
 
 /// Explores a part of a plan's orders, and appends what is printed of it.
-fn explored<T: Threads + Sync, V: Watch>(
+fn explore_plan<T: Threads + Sync, V: Watch>(
     rt: &T,
     alloc: Global,
     lines: &[Vec<u8>],

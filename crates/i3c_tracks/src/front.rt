@@ -29,7 +29,7 @@ impl Front {
     ghost use Rattle.i3c_lines.specs.declared.command.Command.{Command as CommandValue};
     ghost use Rattle.i3c_tracks.specs.Drafting.{Begins, Declares};
 
-    /// Before the first line.
+    /// The state before the first line.
     pub(crate) fn new(alloc: Global) -> Front
         ensures legacies { result.legacies ≡ no_board }
         ensures names { result.names.items ≡ [] }

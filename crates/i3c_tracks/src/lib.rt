@@ -1,25 +1,27 @@
 //! Files of tracks, whose lines interleave in every order: read, explored, and told.
 //!
-//! `said` is what a line says, `draft` the plan as it is read line by line: `front` the lines before the bus, and `body` those
-//! behind it, with the `open_block`. `plan` is the whole. `refusal` says why a file isn't explored. `course` has the lines of an order one after another,
-//! `report` tells ends, and `broken` an order that breaks an expectation, as a script. `exploring` does all of it from a reader
-//! to a writer. `laws` is a theorem over all files.
+//! `read_plan` reads the plan of a file (`plan`): `file_line` parses a line, `draft` gathers lines, `front` keeps those before the
+//! bus, and `body` those behind it, with the `open_block`. `refusal` says why a file isn't explored. `run_explore`, in
+//! `exploring`, explores the plan and prints the ends (`report`), or an order that breaks an expectation as a script
+//! (`broken`), whose lines `course` puts one after another; `answer` is its result. `laws` is a theorem over all files.
 #![tactic(auto)]
 
+mod answer;
 mod body;
 mod broken;
 mod course;
 mod draft;
 mod exploring;
+mod file_line;
 mod front;
 mod laws;
 mod open_block;
 mod plan;
 mod refusal;
 mod report;
-mod said;
 
-pub use exploring::{Answer, run_explore};
+pub use answer::Answer;
+pub use exploring::run_explore;
 pub use laws::files_have_one_plan;
 pub use plan::{Plan, PlanFault, read_plan};
 pub use refusal::{Reason, Refusal};

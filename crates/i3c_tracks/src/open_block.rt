@@ -88,7 +88,7 @@ impl OpenBlock {
     ghost use Rattle.i3c_tracks.specs.Drafting.{all_tracks, awaited, open_of, with_line};
     ghost use Rattle.i3c_tracks.specs.Planning.{step_of, tracks_of};
 
-    /// A block of which nothing was read.
+    /// A block before its first line.
     pub(crate) fn new(alloc: Global) -> OpenBlock
         ensures { open_of result ≡ record { risk = None; always = []; tracks = []; last = None } }
     {

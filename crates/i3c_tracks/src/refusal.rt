@@ -26,7 +26,7 @@ impl Reason {
     ghost use Rattle.std.specs.Prelude.{◌≡◌};
     ghost use Rattle.i3c_tracks.specs.Telling.{reason_token};
 
-    /// Its name, as it is printed.
+    /// The reason's name, as it is printed.
     fn token(self) -> &'static str
         ensures { result.now ≡ reason_token self }
     {

@@ -126,7 +126,8 @@ fn push_parted(lines: &[Vec<u8>], runs: &[Run<'_>], text: &mut Text) -> Result<(
     Ok(())
 }
 
-/// Appends a line if it is one of a block, behind what parts it from the line before. Answers whether the next is the first.
+/// Appends a line if it is one of a block, behind the text that parts it from the line before. Answers whether the next is
+/// the first.
 fn push_parted_run(
     lines: &[Vec<u8>],
     run: &Run<'_>,
@@ -144,14 +145,14 @@ fn push_parted_run(
     Ok(false)
 }
 
-/// What stands before a line.
+/// The text before a line.
 fn parting(is_first: bool) -> &'static [u8]
     ensures { result.now ≡ parting is_first }
 {
     if is_first { b" " } else { b" / " }
 }
 
-/// Appends a line as it stands in the file, behind its cut if it has one.
+/// Appends a line as the file has it, behind its cut if it has one.
 fn push_like_line(lines: &[Vec<u8>], run: &Run<'_>, text: &mut Text) -> Result<(), AllocError>
     ensures { OnOk result (text.new ≡ text.old ++ short_run_text lines.now run.now) }
 {
@@ -185,7 +186,7 @@ pub(crate) fn push_cut(name: &Name, bit: u64, text: &mut Text) -> Result<(), All
     text.push_decimal(bit)
 }
 
-/// The line of this number, as it stands in the file.
+/// The line of this number, as the file has it.
 pub(crate) fn line_at(lines: &[Vec<u8>], number: u64) -> &[u8]
     ensures { result.now ≡ line_at lines.now number }
 {

@@ -7,7 +7,7 @@ use Rattle.i3c_word.specs.Parity.{bit_of}
 use Rattle.i3c_wave.specs.Levels.{bits}
 use Rattle.i3c_wave.specs.Reading.{shifted}
 
--- a number without its last bits and one more, and without its last and so many
+-- a number without its last k bits, and without one more
 pub halved : (n k : ℕ) → n / 2 ^ suc k ≡ n / 2 ^ k / 2
 halved n k = ap (λ m. n / m) (pow-suc 2 k) ∙ sym (div-div-eq-div-mul n (2 ^ k) 2)
 

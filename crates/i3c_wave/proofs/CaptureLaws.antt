@@ -51,7 +51,7 @@ all_read (Some xs) None c items P one two end h = absurd one
 all_read (Some xs) (Some ys) None items P one two end h = absurd two
 all_read (Some xs) (Some ys) (Some zs) items P one two end h = subst P (sym (one ∙ ap (λ bytes. items ++ bytes) (two ∙ end) ∙ append-nil items)) h
 
--- what a text comes to whose first bytes come to a fault
+-- the result of a text whose first bytes give a fault
 fault_on : (legacies : Addresses) (scl sda xs ys : List ℕ) (fault : CaptureFault) → bytes_read scl sda (new_input legacies) xs ≡ Err fault → text_read legacies scl sda (xs ++ ys) ≡ Err fault
 fault_on legacies scl sda xs ys fault is =
     ap (λ step. goes_on step (text_ended scl sda)) (bytes_both scl sda xs ys (new_input legacies) ∙ ap (λ step. goes_on step (λ last. bytes_read scl sda last ys)) is)
@@ -62,7 +62,7 @@ fault_read None b legacies scl sda items fault one is = tt
 fault_read (Some xs) None legacies scl sda items fault one is = absurd one
 fault_read (Some xs) (Some ys) legacies scl sda items fault one is = subst (λ text. text_read legacies scl sda text ≡ Err fault) (sym one) (fault_on legacies scl sda items ys fault is)
 
--- the symbols of a text of which all bytes were read
+-- the symbols of a text, all of whose bytes were read
 pub ended_with : (legacies : Addresses) (scl sda text : List ℕ) (input : Input) (symbols : List Stamped) → bytes_read scl sda (new_input legacies) text ≡ Ok input → Ended scl sda input symbols
     → HasSymbols legacies scl sda text symbols
 ended_with legacies scl sda text input symbols is (last, end, same) = (last, ap (λ step. goes_on step (text_ended scl sda)) is ∙ end, same)

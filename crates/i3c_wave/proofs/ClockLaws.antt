@@ -52,7 +52,7 @@ frames_clocked true sda (Stop ∷ rest) framed = frames_clocked false true rest 
 frames_clocked true sda (symbol ∷ rest) framed =
     clocked_bits (bits_of symbol) sda (wire_levels rest) (flat_map bits_of rest) (goes_low rest framed) (λ s. frames_clocked true s rest framed)
 
--- what stands at a number behind a header's seven bits of address
+-- the bit with this number, behind the seven address bits of a header
 behind_address : (inside sda : Bool) (first : Symbol) (address : ℕ) (read ack : Bool) (rest : List Symbol) (number k : ℕ)
     → bits_of first ≡ [] → AreOfFrames inside (first ∷ Header address read ack ∷ rest) → 8 + number ≡ 7 + k
     → at_bit (high sda) (wire_levels (first ∷ Header address read ack ∷ rest)) number ≡ slice_get (read ∷ not ack ∷ flat_map bits_of rest) k

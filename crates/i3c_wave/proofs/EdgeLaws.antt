@@ -8,7 +8,7 @@ use Rattle.i3c_wave.specs.declared.levels.Level.{Level}
 use Rattle.i3c_wave.specs.Edges.{AreFrames, bit_heard, free_lines, marks_heard, marks_of}
 use Rattle.i3c_wave.specs.Levels.{bits_of, clocked, high, wire_levels}
 
--- who watches the lines, with SCL high
+-- a watcher of the lines, with SCL high
 abbrev at_high : Bool → Option Bool → Edges
 at_high sda bit = record { level = high sda; bit = bit }
 

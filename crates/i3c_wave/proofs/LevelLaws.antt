@@ -38,7 +38,7 @@ bits_past zero number i past = refl
 bits_past (suc count) number zero past = absurd (omega arith)
 bits_past (suc count) number (suc i) past = bits_past count number i (omega arith)
 
--- what stands behind the bits of a number
+-- a bit of a number with other bits behind the number
 pub bits_before : (count number : ℕ) (rest : List Bool) (i : ℕ) → i < count → slice_get (bits count number ++ rest) i ≡ slice_get (bits count number) i
 unfolding bits
 bits_before zero number rest i within = absurd (omega arith)

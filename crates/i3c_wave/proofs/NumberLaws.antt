@@ -2,7 +2,7 @@
 use Rattle.std.proofs.Common.{◌≡◌, ◌<◌, ◌≤◌, ◌∙◌, ℕ, zero, suc, ◌+◌, ◌*◌, ◌-◌, nat_lt, false, List, [], ◌∷◌, Some, ap, arith, ne_eqb, refl, subst}
 use Rattle.i3c_wave.specs.DumpWords.{from_coded, number_from}
 
--- more than each number of so many digits
+-- ten to a power: more than each number with that many digits
 unfoldable pub ten_to : ℕ → ℕ
 ten_to zero = 1
 ten_to (suc n) = 10 * ten_to n

@@ -8,7 +8,7 @@ use Rattle.i3c_wave.specs.declared.capture_fault.CaptureFault.{CaptureFault}
 use Rattle.i3c_wave.specs.CaptureTexts.{Input, byte_read, bytes_read, goes_on, is_space, letters_in, letters_kept, part_read, parted, word_ended}
 use Rattle.i3c_wave.proofs.CaptureLaws.{bytes_both}
 
--- no space stands among them
+-- none of the bytes is a space
 abbrev pub AreLetters : List ℕ → Type 0
 AreLetters [] = ⊤
 AreLetters (byte ∷ rest) = (is_space byte ≡ false) × AreLetters rest
@@ -63,7 +63,7 @@ part_on scl sda letters space rest input are is =
     bytes_both scl sda letters (space ∷ rest) input ∙ ap (λ kept. goes_on kept (λ last. bytes_read scl sda last (space ∷ rest))) (letters_read scl sda letters input are)
     ∙ behind_letters scl sda space rest (letters_kept input letters) is
 
--- the first place, or else the length
+-- the first place, or the length if there is none
 position_is : (p : ℕ → Bool) (text : List ℕ) → unwrap_or (position p text) (length text) ≡ position_or_len p text
 position_is p text = go (nat_lt (position_or_len p text) (length text)) refl where
   go : (b : Bool) → nat_lt (position_or_len p text) (length text) ≡ b → unwrap_or (position p text) (length text) ≡ position_or_len p text
@@ -77,7 +77,7 @@ letter_first x text false is more =
     let next : 1 + position_or_len is_space text ≡ suc (position_or_len is_space text) = omega arith in
     rw is (subst (λ n. AreLetters (take n (x ∷ text))) (sym next) (is, more))
 
--- what stands before the first space are letters
+-- the bytes before the first space are letters
 letters_first : (text : List ℕ) → AreLetters (take (position_or_len is_space text) text)
 letters_first [] = tt
 letters_first (x ∷ text) = letter_first x text (is_space x) refl (letters_first text)
@@ -99,7 +99,7 @@ open_read scl sda text count input is past =
     let place : count ≡ position_or_len is_space text = is ∙ position_is is_space text in
     letters_read scl sda text input (subst AreLetters (take_all count text past) (subst (λ n. AreLetters (take n text)) (sym place) (letters_first text)))
 
--- a call that reads the first part, where this is what the whole comes to
+-- a call that reads the first part, where the whole gives this fault
 pub part_fault : (scl sda text : List ℕ) (part : Result Input CaptureFault) (fault : CaptureFault) (outcome : Result Input CaptureFault) (rest : List ℕ) → outcome ≡ goes_on part (λ next. bytes_read scl sda next rest)
     → (fault ≡ CaptureFault.Memory) ⊎ (part ≡ Err fault) → (fault ≡ CaptureFault.Memory) ⊎ (outcome ≡ Err fault)
 part_fault scl sda text part fault outcome rest is (inl memory) = inl memory

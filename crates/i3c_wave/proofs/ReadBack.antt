@@ -23,7 +23,7 @@ within legacies place number left = record { legacies = legacies; place = place;
 abbrev behind : List Mark → Turn → List Reading
 behind rest t = told t.reading ++ read_from t.reader rest
 
--- a whole symbol that may stand there is told
+-- a whole symbol that is allowed there is told
 entered_is : (reader : Reader) (symbol : Symbol) (next : Option Awaited) (rest : List Mark) → next_place reader.legacies.0 reader.place symbol ≡ Some next
     → behind rest (entered reader symbol) ≡ Reading.Symbol symbol ∷ read_from (awaiting reader.legacies next) rest
 entered_is reader symbol next rest e = ap (λ place. behind rest (entered_at reader symbol place)) e
@@ -115,7 +115,7 @@ one_read legacies (Some Awaited.Identity) (Symbol.Identity number) next rest e r
     symbol_read legacies (Some Awaited.Identity) 63 number (bits_of (Symbol.Identity number)) (Symbol.Identity number) next rest refl range range refl refl e
 one_read legacies (Some awaited) symbol next rest e range = cc
 
--- one after another
+-- symbols are read one after another
 wire_read : (legacies : Addresses) (place : Option Awaited) (symbols : List Symbol) → IsWireFrom legacies.0 place symbols → read_from (awaiting legacies place) (flat_map marks_of symbols) ≡ map Reading.Symbol symbols
 wire_read legacies place [] wire = refl
 wire_read legacies place (symbol ∷ rest) wire =

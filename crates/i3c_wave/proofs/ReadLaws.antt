@@ -3,7 +3,7 @@ use Rattle.std.proofs.Common.{◌≡◌, ◌∙◌, ℕ, ◌<◌, List, [], ◌+
 use Rattle.std.proofs.lemmas.List.{take_all}
 use Rattle.std.specs.Option.{option_map}
 
--- an input of which fewer bytes came than the limit is whole
+-- an input with fewer bytes than the limit is whole
 pub whole_read : (known : Option (List ℕ)) (limit : ℕ) (start items : List ℕ) → start ≡ [] → IfSome (option_map (take limit) known) (λ bytes. items ≡ start ++ bytes) → length items < limit → IfSome known (λ bytes. items ≡ bytes)
 whole_read None limit start items none read short = tt
 whole_read (Some bytes) limit start items none read short =

@@ -12,7 +12,7 @@ awaited_behind legacies assigning address read ack =
     else (if address == 126 then (if read then (if assigning then (if ack then Awaited.Identity else Awaited.Word assigning) else Awaited.Word assigning) else Awaited.Code)
     else Awaited.Word assigning)
 
--- what comes next behind a symbol of bits, if it may stand there
+-- the next thing awaited behind a symbol of bits, if it is allowed there
 abbrev pub next_awaited : ℕ → Awaited → Symbol → Option Awaited
 next_awaited legacies (Awaited.Header assigning) (Symbol.Header address read ack) = Some (awaited_behind legacies assigning address read ack)
 next_awaited legacies Awaited.Code (Symbol.Word word) = Some (Awaited.Word (word.byte == 7))
@@ -22,7 +22,7 @@ next_awaited legacies Awaited.Identity (Symbol.Identity number) = Some Awaited.A
 next_awaited legacies Awaited.AddressByte (Symbol.AddressByte byte ack) = Some (Awaited.Word true)
 next_awaited legacies awaited symbol = None
 
--- an assignment goes on
+-- whether the frame is an assignment that goes on
 abbrev pub was_assigning : Awaited → Bool
 was_assigning (Awaited.Header assigning) = assigning
 was_assigning (Awaited.Word assigning) = assigning
@@ -31,7 +31,7 @@ was_assigning Awaited.Code = false
 was_assigning Awaited.Identity = true
 was_assigning Awaited.AddressByte = true
 
--- a repeated START and a STOP may stand anywhere but where a header has to
+-- a repeated START and a STOP are allowed anywhere except where a header is expected
 abbrev pub open_place : Awaited → Option Awaited → Option (Option Awaited)
 open_place (Awaited.Header assigning) next = None
 open_place awaited next = Some next
@@ -41,7 +41,7 @@ abbrev pub goes_on : Option Awaited → Option (Option Awaited)
 goes_on None = None
 goes_on (Some next) = Some (Some next)
 
--- what comes next behind a symbol, inside a frame or outside one, if the symbol may stand there
+-- the next thing awaited behind a symbol, inside a frame or outside one, if the symbol is allowed there
 abbrev pub next_place : ℕ → Option Awaited → Symbol → Option (Option Awaited)
 next_place legacies None Symbol.Start = Some (Some (Awaited.Header false))
 next_place legacies None symbol = None

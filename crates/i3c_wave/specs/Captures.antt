@@ -1,4 +1,4 @@
--- What is read of a capture: the levels that last, what is heard of them, and the symbols of that.
+-- The result of reading a capture: the levels that last, their marks, and the symbols of these.
 use Rattle.std.specs.Prelude.{◌≡◌, ℕ, ◌-◌, nat_lt, Bool, true, false, Option, Some, None, Result, Ok, Err, MatchResult, if◌then◌else◌}
 use Rattle.i3c_base.specs.declared.addresses.Addresses.{Addresses}
 use Rattle.i3c_frame.specs.declared.symbols.Symbol.{Symbol}
@@ -19,15 +19,15 @@ pub record Heard : Type 0 where
   pub capture : Capture
   pub symbol : Option Stamped
 
--- a call hears so
+-- a call has the result of this hearing
 abbrev pub Hears : Result Heard CaptureFault → Capture → Result (Option Stamped) CaptureFault → Type 0
 Hears outcome capture result = MatchResult result (λ symbol. outcome ≡ Ok (record { capture = capture; symbol = symbol })) (λ fault. outcome ≡ Err fault)
 
--- before the first change: a line without a value is high
+-- a capture before the first change: a line without a value is high
 abbrev pub new_capture : Addresses → Capture
 new_capture legacies = record { time = 0; since = 0; level = high true; edges = None; reader = awaiting legacies None; started = false }
 
--- the capture at a time that doesn't lie before its own
+-- the capture at a time that isn't before its own
 abbrev pub at_time : Capture → ℕ → Option Capture
 at_time capture time = if nat_lt time capture.time then None else Some (record capture { time = time })
 
@@ -36,17 +36,17 @@ abbrev pub with_line : Level → Line → Bool → Level
 with_line level Line.Scl bit = record level { scl = bit }
 with_line level Line.Sda bit = record level { sda = bit }
 
--- two bits are one
+-- two bits are equal
 abbrev pub is_same_bit : Bool → Bool → Bool
 is_same_bit true other = other
 is_same_bit false true = false
 is_same_bit false false = true
 
--- two levels are one
+-- two levels are equal
 abbrev pub is_same_level : Level → Level → Bool
 is_same_level one other = if is_same_bit one.scl other.scl then is_same_bit one.sda other.sda else false
 
--- no symbol is whole
+-- a hearing in which no symbol is whole
 abbrev pub quiet : Capture → Heard
 quiet capture = record { capture = capture; symbol = None }
 
@@ -64,7 +64,7 @@ read_as capture Reading.Misread = if capture.started then Err (CaptureFault.Misr
 abbrev pub mark_read : Capture → Mark → Result Heard CaptureFault
 mark_read capture mark = read_as (record capture { reader = (turn capture.reader mark).reader }) (turn capture.reader mark).reading
 
--- one watches the lines
+-- a watcher of the lines begins
 abbrev pub first_heard : Capture → Edges → Capture
 first_heard capture edges = record capture { edges = Some edges }
 
@@ -73,7 +73,7 @@ abbrev pub read_if : Capture → Option Mark → Result Heard CaptureFault
 read_if capture None = Ok (quiet capture)
 read_if capture (Some mark) = mark_read capture mark
 
--- what one who watches the lines hears of their level
+-- what a watcher of the lines hears of their level
 abbrev pub watched : Capture → Edges → Result Heard CaptureFault
 watched capture edges = read_if (first_heard capture (edges_after edges capture.level)) (mark_at edges capture.level)
 

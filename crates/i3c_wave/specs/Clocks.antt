@@ -28,7 +28,7 @@ abbrev pub clocked_in : Level → List Level → List Bool
 clocked_in before [] = []
 clocked_in before (level ∷ rest) = clocked_bit before level rest ++ clocked_in level rest
 
--- symbols of frames, from within one or from outside, of which the last frame may go on
+-- symbols of frames, from within one or from outside; the last frame may go on
 abbrev pub AreOfFrames : Bool → List Symbol → Type 0
 AreOfFrames inside [] = ⊤
 AreOfFrames false (Start ∷ rest) = AreOfFrames true rest

@@ -17,7 +17,7 @@ line text = text ++ 10 ∷ []
 abbrev pub later : ℕ → ℕ → ℕ
 later time ns = min (time + ns) 18446744073709551615
 
--- a time
+-- the line of a time
 abbrev pub stamp_text : ℕ → List ℕ
 stamp_text time = codes "#" ++ (decimal time ++ 10 ∷ [])
 
@@ -46,12 +46,12 @@ level_text timing wave level = change_text 99 wave.level.scl level.scl ++ (sda_t
 abbrev pub moved : Timing → Wave → Level → Wave
 moved timing wave level = record wave { time = later wave.time (lasting timing level); level = level }
 
--- the text of levels
+-- the lines that levels print
 abbrev pub levels_text : Timing → Wave → List Level → List ℕ
 levels_text timing wave [] = []
 levels_text timing wave (level ∷ rest) = level_text timing wave level ++ levels_text timing (moved timing wave level) rest
 
--- the dump after them
+-- the dump after levels
 abbrev pub after_levels : Timing → Wave → List Level → Wave
 after_levels timing wave [] = wave
 after_levels timing wave (level ∷ rest) = after_levels timing (moved timing wave level) rest

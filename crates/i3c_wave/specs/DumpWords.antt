@@ -6,7 +6,7 @@ use Rattle.i3c_wave.specs.declared.dump_word.Command.{Command}
 use Rattle.i3c_wave.specs.declared.dump_word.Lead.{Lead}
 use Rattle.i3c_wave.specs.declared.dump_word.Magnitude.{Magnitude}
 
--- the commands before which the values of signals stand
+-- the commands that come before the values of signals
 abbrev pub values_of : List ℕ → Command
 values_of word = if bytes_eq word (codes "$dumpvars") || bytes_eq word (codes "$dumpall") then Command.Values
     else (if bytes_eq word (codes "$dumpon") || bytes_eq word (codes "$dumpoff") then Command.Values else Command.Other)
@@ -27,7 +27,7 @@ code_of (a ∷ b ∷ c ∷ []) = Some (record { first = a; second = b; third = c
 code_of (a ∷ b ∷ c ∷ d ∷ []) = Some (record { first = a; second = b; third = c; fourth = d })
 code_of (a ∷ b ∷ c ∷ d ∷ e ∷ rest) = None
 
--- two codes are one
+-- two codes are equal
 abbrev pub is_same_code : Code → Code → Bool
 is_same_code one other = one.first == other.first && (one.second == other.second && (one.third == other.third && one.fourth == other.fourth))
 
@@ -49,7 +49,7 @@ number_from number (digit ∷ rest) = option_and_then (λ next. number_from next
 abbrev pub from_coded : ℕ → List ℕ → Option ℕ
 from_coded number digits = if number == 18446744073709551615 then None else number_from number digits
 
--- the number of decimal digits, of which there is one at least
+-- the number of decimal digits, at least one
 abbrev pub number_of : List ℕ → Option ℕ
 number_of [] = None
 number_of (digit ∷ rest) = number_from 0 (digit ∷ rest)
@@ -60,7 +60,7 @@ magnitude_of digits = if bytes_eq digits (codes "1") then Some Magnitude.One
     else (if bytes_eq digits (codes "10") then Some Magnitude.Ten
     else (if bytes_eq digits (codes "100") then Some Magnitude.Hundred else None))
 
--- how many bytes of a word stand before its first letter
+-- the number of bytes of a word before its first letter
 abbrev pub digits_in : List ℕ → ℕ
 digits_in word = unwrap_or (position (λ byte. nat_lt 57 byte) word) (length word)
 

@@ -5,18 +5,18 @@ use Rattle.i3c_wave.specs.declared.capture_fault.CaptureFault.{CaptureFault}
 use Rattle.i3c_wave.specs.declared.dump.Dump.{Dump}
 use Rattle.i3c_wave.specs.declared.dump.Item.{Item}
 use Rattle.i3c_wave.specs.declared.dump.Place.{Place}
-use Rattle.i3c_wave.specs.declared.dump.Said.{Said}
+use Rattle.i3c_wave.specs.declared.dump.DumpStep.{DumpStep}
 use Rattle.i3c_wave.specs.declared.dump_word.Code.{Code}
 use Rattle.i3c_wave.specs.declared.dump_word.Command.{Command}
 use Rattle.i3c_wave.specs.declared.dump_word.Lead.{Lead}
 use Rattle.i3c_wave.specs.declared.dump_word.Magnitude.{Magnitude}
 use Rattle.i3c_wave.specs.DumpWords.{code_of, command_of, digits_in, is_same_code_as, lead_of, magnitude_of, number_of, scaled, unit_setup}
 
--- a call says so
-abbrev pub Says : Result Said CaptureFault → Dump → Result Item CaptureFault → Type 0
+-- a call has the result of this step
+abbrev pub Says : Result DumpStep CaptureFault → Dump → Result Item CaptureFault → Type 0
 Says outcome dump result = MatchResult result (λ item. outcome ≡ Ok (record { dump = dump; item = item })) (λ fault. outcome ≡ Err fault)
 
--- before the first word: without a timescale a unit is 1 ns
+-- a dump before the first word: without a timescale a unit is 1 ns
 abbrev pub new_dump : Dump
 new_dump = record { place = Place.Between; scl = None; sda = None; setup = 3 }
 
@@ -25,10 +25,10 @@ abbrev pub at_place : Dump → Place → Dump
 at_place dump place = record dump { place = place }
 
 -- nothing is said of the lines
-abbrev pub nothing : Dump → Said
+abbrev pub nothing : Dump → DumpStep
 nothing dump = record { dump = dump; item = Item.Nothing }
 
--- a line wasn't declared
+-- the fault of a line that wasn't declared
 abbrev pub missing : Option Code → Option Code → Result ⊤ CaptureFault
 missing None sda = Err CaptureFault.NoScl
 missing (Some scl) None = Err CaptureFault.NoSda
@@ -53,21 +53,21 @@ level_said (Some line) None = Item.NoLevel
 level_said (Some line) (Some high) = Item.Level line high
 
 -- what the value of a signal says
-abbrev pub value_said : Dump → Option Bool → Option Code → Said
+abbrev pub value_said : Dump → Option Bool → Option Code → DumpStep
 value_said dump level None = nothing dump
 value_said dump level (Some code) = record { dump = dump; item = level_said (line_of dump code) level }
 
 -- the code behind a vector: a vector is no level of a line
-abbrev pub behind_vector : Dump → List ℕ → Said
+abbrev pub behind_vector : Dump → List ℕ → DumpStep
 behind_vector dump code = value_said (at_place dump Place.Between) None (code_of code)
 
--- no more signals follow
-abbrev pub definitions_ended : Dump → Result ⊤ CaptureFault → Result Said CaptureFault
+-- the declarations end, if both lines were declared
+abbrev pub definitions_ended : Dump → Result ⊤ CaptureFault → Result DumpStep CaptureFault
 definitions_ended dump (Ok _) = Ok (nothing (at_place dump Place.Passed))
 definitions_ended dump (Err fault) = Err fault
 
--- a command begins
-abbrev pub command_said : Dump → Command → Result Said CaptureFault
+-- the step at the first word of a command
+abbrev pub command_said : Dump → Command → Result DumpStep CaptureFault
 command_said dump Command.End = Ok (nothing dump)
 command_said dump Command.Values = Ok (nothing dump)
 command_said dump Command.Timescale = Ok (nothing (at_place dump (Place.Scale None)))
@@ -75,13 +75,13 @@ command_said dump Command.Var = Ok (nothing (at_place dump Place.Kind))
 command_said dump Command.Other = Ok (nothing (at_place dump Place.Passed))
 command_said dump Command.EndDefinitions = definitions_ended dump (missing dump.scl dump.sda)
 
--- a time
-abbrev pub time_said : Dump → ℕ → Option ℕ → Result Said CaptureFault
+-- the step at a time
+abbrev pub time_said : Dump → ℕ → Option ℕ → Result DumpStep CaptureFault
 time_said dump at None = Err (CaptureFault.BadTime at)
 time_said dump at (Some time) = Ok (record { dump = dump; item = Item.Time time })
 
 -- a word between commands, by what it begins with
-abbrev pub led_word : Dump → ℕ → Lead → List ℕ → List ℕ → Result Said CaptureFault
+abbrev pub led_word : Dump → ℕ → Lead → List ℕ → List ℕ → Result DumpStep CaptureFault
 led_word dump at Lead.Command word rest = command_said dump (command_of word)
 led_word dump at Lead.Time word rest = time_said dump at (number_of rest)
 led_word dump at Lead.Low word rest = Ok (value_said dump (Some false) (code_of rest))
@@ -90,18 +90,18 @@ led_word dump at Lead.NoLevel word rest = Ok (value_said dump None (code_of rest
 led_word dump at Lead.Vector word rest = Ok (nothing (at_place dump Place.Vector))
 led_word dump at Lead.Other word rest = Err (CaptureFault.BadWord at)
 
--- a word between commands
-abbrev pub begun_word : Dump → ℕ → List ℕ → Result Said CaptureFault
+-- the step at a word between commands
+abbrev pub begun_word : Dump → ℕ → List ℕ → Result DumpStep CaptureFault
 begun_word dump at [] = Err (CaptureFault.BadWord at)
 begun_word dump at (first ∷ rest) = led_word dump at (lead_of first) (first ∷ rest) rest
 
 -- the end of a command: a timescale and a signal are whole before it
-abbrev pub ended_from : Place → Dump → ℕ → Result Said CaptureFault
+abbrev pub ended_from : Place → Dump → ℕ → Result DumpStep CaptureFault
 ended_from Place.Passed dump at = Ok (nothing (at_place dump Place.Between))
 ended_from (Place.Scale magnitude) dump at = Err (CaptureFault.BadTimescale at)
 ended_from place dump at = Err (CaptureFault.BadWord at)
 
-abbrev pub ended : Dump → ℕ → Result Said CaptureFault
+abbrev pub ended : Dump → ℕ → Result DumpStep CaptureFault
 ended dump at = ended_from dump.place dump at
 
 -- the line of a name
@@ -120,22 +120,22 @@ named dump (Some Line.Scl) code = record dump { place = Place.Passed; scl = firs
 named dump (Some Line.Sda) code = record dump { place = Place.Passed; sda = first_of dump.sda code }
 
 -- the unit of a timescale
-abbrev pub scaled_unit : Dump → Magnitude → ℕ → Option ℕ → Result Said CaptureFault
+abbrev pub scaled_unit : Dump → Magnitude → ℕ → Option ℕ → Result DumpStep CaptureFault
 scaled_unit dump magnitude at None = Err (CaptureFault.BadTimescale at)
 scaled_unit dump magnitude at (Some setup) = Ok (nothing (record dump { place = Place.Passed; setup = scaled setup magnitude }))
 
 -- the unit behind a number, or in a word of its own
-abbrev pub scaled_by : Dump → Option Magnitude → ℕ → List ℕ → Result Said CaptureFault
+abbrev pub scaled_by : Dump → Option Magnitude → ℕ → List ℕ → Result DumpStep CaptureFault
 scaled_by dump None at unit = Err (CaptureFault.BadTimescale at)
 scaled_by dump (Some magnitude) at unit = if length unit == 0 then Ok (nothing (at_place dump (Place.Scale (Some magnitude)))) else scaled_unit dump magnitude at (unit_setup unit)
 
 -- a word of a timescale: its number, its unit, or both
-abbrev pub scale_word : Dump → Option Magnitude → ℕ → List ℕ → Result Said CaptureFault
+abbrev pub scale_word : Dump → Option Magnitude → ℕ → List ℕ → Result DumpStep CaptureFault
 scale_word dump None at word = scaled_by dump (magnitude_of (take (digits_in word) word)) at (drop (digits_in word) word)
 scale_word dump (Some magnitude) at word = if digits_in word == 0 then scaled_unit dump magnitude at (unit_setup word) else Err (CaptureFault.BadTimescale at)
 
 -- a word inside a command
-abbrev pub inside_from : List ℕ → List ℕ → Place → Dump → ℕ → List ℕ → Result Said CaptureFault
+abbrev pub inside_from : List ℕ → List ℕ → Place → Dump → ℕ → List ℕ → Result DumpStep CaptureFault
 inside_from scl sda (Place.Scale magnitude) dump at word = scale_word dump magnitude at word
 inside_from scl sda Place.Kind dump at word = Ok (nothing (at_place dump Place.Width))
 inside_from scl sda Place.Width dump at word = Ok (nothing (at_place dump (Place.Code (bytes_eq word (codes "1")))))
@@ -144,14 +144,14 @@ inside_from scl sda (Place.Code false) dump at word = Ok (nothing (at_place dump
 inside_from scl sda (Place.Name code) dump at word = Ok (nothing (named dump (line_named scl sda word) code))
 inside_from scl sda place dump at word = Ok (nothing dump)
 
-abbrev pub inside : List ℕ → List ℕ → Dump → ℕ → List ℕ → Result Said CaptureFault
+abbrev pub inside : List ℕ → List ℕ → Dump → ℕ → List ℕ → Result DumpStep CaptureFault
 inside scl sda dump at word = inside_from scl sda dump.place dump at word
 
--- the next word
-abbrev pub word_from : List ℕ → List ℕ → Place → Dump → ℕ → List ℕ → Result Said CaptureFault
+-- the step at the next word
+abbrev pub word_from : List ℕ → List ℕ → Place → Dump → ℕ → List ℕ → Result DumpStep CaptureFault
 word_from scl sda Place.Between dump at word = begun_word dump at word
 word_from scl sda Place.Vector dump at word = Ok (behind_vector dump word)
 word_from scl sda place dump at word = if bytes_eq word (codes "$end") then ended dump at else inside scl sda dump at word
 
-abbrev pub word_said : List ℕ → List ℕ → Dump → ℕ → List ℕ → Result Said CaptureFault
+abbrev pub word_said : List ℕ → List ℕ → Dump → ℕ → List ℕ → Result DumpStep CaptureFault
 word_said scl sda dump at word = word_from scl sda dump.place dump at word

@@ -19,7 +19,7 @@ abbrev pub bit_heard : Option Bool → Option Mark
 bit_heard None = None
 bit_heard (Some bit) = Some (Mark.Bit bit)
 
--- what is heard where the lines come to a level
+-- the mark that is heard as the lines reach a level
 abbrev pub mark_at : Edges → Level → Option Mark
 mark_at edges level = if edges.level.scl then (if level.scl then condition edges.level.sda level.sda else bit_heard edges.bit) else None
 
@@ -33,7 +33,7 @@ unless_changed old new bit = None
 abbrev pub kept_bit : Edges → Level → Option Bool
 kept_bit edges level = if level.scl then (if edges.level.scl then unless_changed edges.level.sda level.sda edges.bit else Some level.sda) else None
 
--- who watches the lines, behind a level
+-- a watcher of the lines, behind a level
 abbrev pub edges_after : Edges → Level → Edges
 edges_after edges level = record { level = level; bit = kept_bit edges level }
 
@@ -42,7 +42,7 @@ abbrev pub marks_heard : Edges → List Level → List Mark
 marks_heard edges [] = []
 marks_heard edges (level ∷ rest) = option_to_list (mark_at edges level) ++ marks_heard (edges_after edges level) rest
 
--- who watches a free bus
+-- a watcher of a free bus
 abbrev pub free_lines : Edges
 free_lines = record { level = high true; bit = None }
 
@@ -53,7 +53,8 @@ marks_of Repeated = Mark.Start ∷ []
 marks_of Stop = Mark.Stop ∷ []
 marks_of symbol = map Mark.Bit (bits_of symbol)
 
--- symbols of frames, from within one or from outside: a START stands outside one and begins it, nothing else stands there, and a STOP ends it
+-- symbols of frames, from within one or from outside: outside a frame only a START is allowed, which begins one, and a STOP
+-- ends it
 abbrev pub AreFrames : Bool → List Symbol → Type 0
 AreFrames false [] = ⊤
 AreFrames true [] = ⊥

@@ -30,7 +30,8 @@ HasBits symbol = ⊤
 abbrev pub RisingEdgesHaveTheBits : Type 0
 RisingEdgesHaveTheBits = (before : Level) (symbol : Symbol) → HasBits symbol → at_rising_edges before (levels_of symbol) ≡ bits_of symbol
 
--- of the levels of frames, a START is heard for each START and repeated START, a STOP for each STOP, and of each other symbol its bits
+-- in the levels of frames, a START is heard for each START and repeated START, a STOP for each STOP, and for each other
+-- symbol its bits
 abbrev pub EdgesGiveTheMarks : Type 0
 EdgesGiveTheMarks = (symbols : List Symbol) → AreFrames false symbols → marks_heard free_lines (wire_levels symbols) ≡ flat_map marks_of symbols
 

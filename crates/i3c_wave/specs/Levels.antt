@@ -14,7 +14,7 @@ low bit = record { scl = false; sda = bit }
 abbrev pub high : Bool → Level
 high bit = record { scl = true; sda = bit }
 
--- the last bits of a number, so many, the most significant first
+-- the last `count` bits of a number, the most significant first
 unfoldable pub bits : ℕ → ℕ → List Bool
 bits zero number = []
 bits (suc count) number = (bit_at number count == 1) ∷ bits count number

@@ -10,7 +10,7 @@ use Rattle.i3c_wave.specs.declared.fault.WaveFault.{WaveFault}
 use Rattle.i3c_wave.specs.Dump.{dump_text, line}
 use Rattle.i3c_wave.specs.Output.{AppendsSome}
 
--- a fault of writing, or of what is written
+-- a fault of writing, or of the written text
 abbrev pub IsWriteFault : WaveFault → Type 0
 IsWriteFault fault = (fault ≡ WaveFault.Memory) ⊎ (fault ≡ WaveFault.Write)
 
@@ -29,18 +29,18 @@ pub record IsDump (legacies : ℕ) (text dump : List ℕ) : Type 0 where
   pub same : map text_of trace ≡ parts text
   pub dumped : dump ≡ dump_text legacies trace
 
--- the text comes to its dump, or to the line of its first fault
+-- the result of the text is its dump, or the line of its first fault
 abbrev pub ComesTo : ℕ → List ℕ → Option TraceFault → List ℕ → Type 0
 ComesTo legacies text None lines = IsDump legacies text lines
 ComesTo legacies text (Some fault) lines = IsFirstFault (parts text) fault × (lines ≡ fault_line fault)
 
--- the known bytes do
+-- the known bytes are a text with this result
 pub record CameTo (legacies : ℕ) (known : Option (List ℕ)) (fault : Option TraceFault) (lines : List ℕ) : Type 0 where
   pub text : List ℕ
   pub read : IfSome known (λ bytes. text ≡ bytes)
   pub comes : ComesTo legacies text fault lines
 
--- what goes out of known bytes: all that they come to with `Ok`, and otherwise nothing or a prefix of it
+-- the output of known bytes: with `Ok` their whole result, and otherwise nothing or a prefix of it
 abbrev pub GoesOut : ℕ → Option (List ℕ) → Option (List ℕ) → Option (List ℕ) → Result (Option TraceFault) WaveFault → Type 0
 GoesOut legacies known old new result =
     MatchResult result

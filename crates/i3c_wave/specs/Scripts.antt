@@ -6,7 +6,7 @@ use Rattle.i3c_wave.specs.Dump.{line}
 abbrev pub octal_text : ℕ → List ℕ
 octal_text byte = 92 ∷ (48 + byte / 64) ∷ (48 + byte / 8 % 8) ∷ (48 + byte % 8) ∷ []
 
--- a byte of a string: printed ASCII stands for itself, but for the space and the backslash
+-- a byte of a string: printed ASCII is itself, except for the space and the backslash
 abbrev pub string_byte : ℕ → List ℕ
 string_byte byte = if nat_lt byte 33 || (nat_lt 126 byte || byte == 92) then octal_text byte else byte ∷ []
 

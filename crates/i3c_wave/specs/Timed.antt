@@ -22,7 +22,7 @@ line_from LinePlace.Begin byte = if byte == 102 then LinePlace.Frame else LinePl
 line_from LinePlace.Frame byte = if byte == 58 then LinePlace.Other else LinePlace.Frame
 line_from LinePlace.Other byte = LinePlace.Other
 
--- where a text stands behind a byte: a line feed ends a line
+-- the place of a text behind a byte: a line feed ends a line
 abbrev pub line_behind : LinePlace → ℕ → LinePlace
 line_behind place byte = if byte == 10 then LinePlace.Begin else line_from place byte
 

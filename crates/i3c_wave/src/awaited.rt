@@ -33,8 +33,8 @@ pub enum Awaited {
     AddressByte,
 }
 
-/// What comes next behind a symbol, inside a frame or outside one (`None`), if the symbol may stand there. Legacy targets have
-/// these addresses.
+/// The next thing awaited behind a symbol, inside a frame or outside one (`None`), if the symbol is allowed there. Legacy
+/// targets have these addresses.
 pub(crate) fn next_place(
     legacies: Addresses,
     place: Option<Awaited>,
@@ -56,7 +56,7 @@ pub(crate) fn next_place(
     }
 }
 
-/// What comes next behind a repeated START or a STOP, neither of which stands where a header has to.
+/// The next thing awaited behind a repeated START or a STOP; neither is allowed where a header is expected.
 fn open_place(awaited: Awaited, next: Option<Awaited>) -> Option<Option<Awaited>>
     ensures { result ≡ open_place awaited next }
 {

@@ -25,7 +25,7 @@ pub(crate) struct Capture {
     time: u64,
     since: u64,
     level: Level,
-    /// Who watches the lines, from the first level on that lasts.
+    /// The watcher of the lines, from the first level on that lasts.
     edges: Option<Edges>,
     reader: Reader,
     /// Whether a START was read.
@@ -36,7 +36,7 @@ impl Capture {
     ghost use Rattle.std.specs.Prelude.{◌≡◌, Some, None, if◌then◌else◌};
     ghost use Rattle.i3c_wave.specs.Captures.{Hears, at_time, changed, heard, mark_read, new_capture, read_as, settled, watched};
 
-    /// Before the first change. Legacy targets have these addresses. A line without a value is high.
+    /// A capture before the first change. Legacy targets have these addresses. A line without a value is high.
     pub fn new(legacies: Addresses) -> Capture
         ensures { result ≡ new_capture legacies }
     {
@@ -61,7 +61,7 @@ impl Capture {
         self.time
     }
 
-    /// Goes on to a time, unless it lies before the time that was.
+    /// Goes on to a time, unless it is before the present one.
     pub fn advance(&mut self, time: u64) -> bool
         ensures { at_time self.old time ≡ if result then Some self.new else None }
     {
@@ -123,7 +123,7 @@ impl Capture {
         }
     }
 
-    /// What one who watches the lines hears of it.
+    /// What a watcher of the lines hears of it.
     fn hear_edges(&mut self, edges: Edges) -> Result<Option<Stamped>, CaptureFault>
         ensures { Hears (watched self.old edges) self.new result }
     {

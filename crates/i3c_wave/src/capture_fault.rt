@@ -18,13 +18,13 @@ pub enum CaptureFault {
     /// A line is neither low nor high at this time.
     #[error("a line has no level at time {0}")]
     NoLevel(u64),
-    /// What is heard up to the level that begins at this time is no symbol that may stand there.
+    /// The bits up to the level that begins at this time are no symbol that is allowed there.
     #[error("no symbol ends at time {0}")]
     Misread(u64),
     /// A timescale that is none, at this line.
     #[error("line {0} has no timescale")]
     BadTimescale(u64),
-    /// A time that is no number, or lies before the time that was, at this line.
+    /// A time that is no number, or is before the last one, at this line.
     #[error("line {0} has no later time")]
     BadTime(u64),
     /// What isn't part of a value change dump, at this line.

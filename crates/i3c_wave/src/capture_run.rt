@@ -2,7 +2,7 @@ ghost use Rattle.std.specs.Prelude.{◌≡◌, ◌⊎◌, ◌<◌, Err, Ok, IfSo
 ghost use Rattle.i3c_wave.specs.CaptureTexts.{Closed, Ended, HasSymbols, IsOfReading, Reads, bytes_read, closed, input, text_ended, text_read};
 
 use crate::capture_fault::CaptureFault;
-use crate::capture_text::{Reached, letters_in};
+use crate::capture_text::{CaptureWords, letters_in};
 use crate::stamped::{Stamped, keep_symbol};
 use i3c_base::Addresses;
 use i3c_text::Text;
@@ -47,7 +47,7 @@ fn read_chunks<R: Read>(
 {
     let mut word = Text::new(alloc);
     let mut symbols = Vec::new(alloc);
-    let mut reached = Reached::new(legacies);
+    let mut reached = CaptureWords::new(legacies);
     for _ in 0..u64::MAX {
         let Ok(count) = reader.read(chunk) else {
             return Err(CaptureFault::Read);
@@ -69,7 +69,7 @@ fn read_chunks<R: Read>(
 
 /// Takes the next bytes of a text: words with the spaces behind them, and the letters of a word that is open at their end.
 fn take_bytes(
-    reached: &mut Reached,
+    reached: &mut CaptureWords,
     scl: &[u8],
     sda: &[u8],
     bytes: &[u8],
@@ -93,7 +93,7 @@ fn take_bytes(
 
 /// Ends a text: takes its last word, and the level that lasts.
 fn end_text(
-    reached: &mut Reached,
+    reached: &mut CaptureWords,
     scl: &[u8],
     sda: &[u8],
     word: &mut Text,
@@ -110,7 +110,7 @@ fn end_text(
 }
 
 /// Takes the level that lasts to the end of a text.
-fn close(reached: &mut Reached, symbols: &mut Vec<Stamped>) -> Result<(), CaptureFault>
+fn close(reached: &mut CaptureWords, symbols: &mut Vec<Stamped>) -> Result<(), CaptureFault>
     ensures { MatchResult result
         (λ _. Closed (closed reached.old) symbols.old.items symbols.new.items)
         (λ fault. (fault ≡ CaptureFault.Memory) ⊎ (closed reached.old ≡ Err fault)) }

@@ -13,22 +13,22 @@ const MOST_LETTERS: usize = 65_536;
 
 /// What is read of the whole words of a capture's text: what they say, the lines, and the number of the text's line.
 #[derive(Clone, Copy, Debug, Drop)]
-pub(crate) struct Reached {
+pub(crate) struct CaptureWords {
     dump: Dump,
     capture: Capture,
     line: u64,
 }
 
-impl Reached {
+impl CaptureWords {
     ghost use Rattle.std.specs.Prelude.{◌≡◌, [], List};
     ghost use Rattle.i3c_wave.specs.declared.stamped.Stamped.{Stamped as StampedValue};
     ghost use Rattle.i3c_wave.specs.CaptureTexts.{Reads, Takes, behind, closed, input, item_heard, letters_kept, new_reached, part_read, parted, word_ended, word_taken};
 
-    /// Before the first word. Legacy targets have these addresses.
-    pub fn new(legacies: Addresses) -> Reached
+    /// The words of a capture before the first one. Legacy targets have these addresses.
+    pub fn new(legacies: Addresses) -> CaptureWords
         ensures { result ≡ new_reached legacies }
     {
-        Reached {
+        CaptureWords {
             dump: Dump::new(),
             capture: Capture::new(legacies),
             line: 1,

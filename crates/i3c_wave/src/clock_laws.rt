@@ -14,7 +14,7 @@ pub fn frames_have_the_bits_in_order()
 {}
 
 /// Bit 0 of a frame, as cuts are numbered, is the answer to its first header: of the rising edges that clock a bit, the ninth
-/// clocks it. The next edges clock the bits of what follows, from 1 on. In a round the count begins anew.
+/// clocks it. The next edges clock the next bits, from 1 on. In a round the count begins anew.
 pub fn bits_have_their_numbers()
     ensures { BitsHaveTheirNumbers }
 {}

@@ -11,7 +11,7 @@ use crate::dump_word::{
 /// The setup time without a timescale, whose unit is then 1 ns.
 const UNSCALED: u64 = 3;
 
-/// Where a dump stands between two words.
+/// The place of a dump between two words.
 #[derive(Clone, Copy, Debug, PartialEq, Eq)]
 pub(crate) enum Place {
     /// Between commands.
@@ -32,7 +32,7 @@ pub(crate) enum Place {
     Vector,
 }
 
-/// What a dump has said so far: where it stands, the codes of the two lines, and the setup time in its units.
+/// What a dump has said so far: its place, the codes of the two lines, and the setup time in its units.
 #[derive(Clone, Copy, Debug, Drop)]
 pub(crate) struct Dump {
     place: Place,
@@ -56,7 +56,7 @@ pub(crate) enum Item {
 
 /// A dump behind a word, and what the word says.
 #[derive(Clone, Copy, Debug, Drop)]
-pub(crate) struct Said {
+pub(crate) struct DumpStep {
     pub dump: Dump,
     pub item: Item,
 }
@@ -66,7 +66,7 @@ impl Dump {
     ghost use Rattle.i3c_wave.specs.DumpWords.{code_of, unit_setup};
     ghost use Rattle.i3c_wave.specs.Dumps.{Says, at_place, begun_word, command_said, ended, is_ended, inside, line_of, missing, named, new_dump, scale_word, scaled_by, scaled_unit, value_said, word_said};
 
-    /// Before the first word.
+    /// A dump before the first word.
     pub fn new() -> Dump
         ensures { result ≡ new_dump }
     {
@@ -85,8 +85,7 @@ impl Dump {
         self.setup
     }
 
-    /// Takes the next word, which stands at this line of the text, and gives what it says. The signals of these names are SCL and
-    /// SDA.
+    /// Takes the next word, at this line of the text, and gives what it says. The signals of these names are SCL and SDA.
     pub fn take(
         &mut self,
         scl: &[u8],
@@ -127,7 +126,7 @@ impl Dump {
     }
 
     /// Keeps the dump behind a word.
-    fn keep(&mut self, said: Result<Said, CaptureFault>) -> Result<Item, CaptureFault>
+    fn keep(&mut self, said: Result<DumpStep, CaptureFault>) -> Result<Item, CaptureFault>
         ensures { Says said self.new result }
     {
         match said {
@@ -184,7 +183,7 @@ impl Dump {
         }
     }
 
-    /// Begins a command.
+    /// Goes to the place behind a command's first word.
     #[inline(never)]
     fn begin_command(&mut self, command: Command) -> Result<Item, CaptureFault>
         ensures { Says (command_said self.old command) self.new result }
@@ -194,7 +193,7 @@ impl Dump {
     }
 
     /// The dump behind the word that begins a command.
-    fn command(self, command: Command) -> Result<Said, CaptureFault>
+    fn command(self, command: Command) -> Result<DumpStep, CaptureFault>
         ensures { result ≡ command_said self command }
     {
         match command {
@@ -233,7 +232,7 @@ impl Dump {
     }
 
     /// Ends a command.
-    fn end(self, at: u64) -> Result<Said, CaptureFault>
+    fn end(self, at: u64) -> Result<DumpStep, CaptureFault>
         ensures { result ≡ ended self at }
     {
         match self.place {
@@ -244,7 +243,7 @@ impl Dump {
     }
 
     /// Takes a word inside a command.
-    fn inside(self, scl: &[u8], sda: &[u8], at: u64, word: &[u8]) -> Result<Said, CaptureFault>
+    fn inside(self, scl: &[u8], sda: &[u8], at: u64, word: &[u8]) -> Result<DumpStep, CaptureFault>
         ensures { result ≡ inside scl.now sda.now self at word.now }
     {
         match self.place {
@@ -277,7 +276,12 @@ impl Dump {
     }
 
     /// Takes a word of a timescale, behind a number or not.
-    fn scale(self, magnitude: Option<Magnitude>, at: u64, word: &[u8]) -> Result<Said, CaptureFault>
+    fn scale(
+        self,
+        magnitude: Option<Magnitude>,
+        at: u64,
+        word: &[u8],
+    ) -> Result<DumpStep, CaptureFault>
         ensures { result ≡ scale_word self magnitude at word.now }
     {
         let count = digits_in(word);
@@ -288,13 +292,13 @@ impl Dump {
         }
     }
 
-    /// Takes the unit of a timescale that stands behind its number, if one does.
+    /// Takes the unit of a timescale behind its number, if it is there.
     fn scale_by(
         self,
         magnitude: Option<Magnitude>,
         at: u64,
         unit: &[u8],
-    ) -> Result<Said, CaptureFault>
+    ) -> Result<DumpStep, CaptureFault>
         ensures { result ≡ scaled_by self magnitude at unit.now }
     {
         match magnitude {
@@ -307,7 +311,12 @@ impl Dump {
     }
 
     /// Takes the unit of a timescale.
-    fn scale_unit(self, magnitude: Magnitude, at: u64, unit: &[u8]) -> Result<Said, CaptureFault>
+    fn scale_unit(
+        self,
+        magnitude: Magnitude,
+        at: u64,
+        unit: &[u8],
+    ) -> Result<DumpStep, CaptureFault>
         ensures { result ≡ scaled_unit self magnitude at (unit_setup unit.now) }
     {
         match unit_setup(unit) {
@@ -329,14 +338,14 @@ impl Dump {
 }
 
 /// A dump behind a word that says this.
-fn saying(dump: Dump, item: Item) -> Said
+fn saying(dump: Dump, item: Item) -> DumpStep
     ensures { result ≡ record { dump = dump; item = item } }
 {
-    Said { dump, item }
+    DumpStep { dump, item }
 }
 
 /// A dump behind a word that says nothing of the lines.
-fn nothing(dump: Dump) -> Said
+fn nothing(dump: Dump) -> DumpStep
     ensures { result ≡ nothing dump }
 {
     saying(dump, Item::Nothing)
@@ -353,7 +362,7 @@ fn level_said(line: Option<Line>, level: Option<bool>) -> Item
     }
 }
 
-/// The line of a name, if it is one's.
+/// The line of a name, if there is one.
 fn line_named(scl: &[u8], sda: &[u8], name: &[u8]) -> Option<Line>
     ensures { result ≡ line_named scl.now sda.now name.now }
 {

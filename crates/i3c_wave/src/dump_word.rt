@@ -13,7 +13,7 @@ const LONGER: u64 = 1;
 /// Ten times this and nine is a time.
 const MOST_LED: u64 = 1_000_000_000_000_000_000;
 
-/// Numbers of so many digits fit.
+/// The number of digits of numbers that fit.
 const FITTING: usize = 19;
 
 /// The codes of the first digit and the last.
@@ -155,7 +155,7 @@ pub(crate) fn number_of(digits: &[u8]) -> Option<u64>
     }
 }
 
-/// The number of nineteen digits at most, or of something else.
+/// The number that digits write, if there are nineteen at most.
 fn short_number(digits: &[u8]) -> u64
     requires { length digits.now ≤ 19 }
     ensures { from_coded result [] ≡ number_from 0 digits.now }
@@ -216,7 +216,7 @@ pub(crate) fn magnitude_of(digits: &[u8]) -> Option<Magnitude>
     }
 }
 
-/// How many bytes of a word stand before its first letter.
+/// The number of bytes of a word before its first letter.
 pub(crate) fn digits_in(word: &[u8]) -> usize
     ensures { result ≡ digits_in word.now }
 {
@@ -272,7 +272,7 @@ pub(crate) enum Lead {
     NoLevel,
     /// `b`, `r` or `s`: a vector, a number or a text, behind which the code of its signal follows.
     Vector,
-    /// Something else.
+    /// Any other word.
     Other,
 }
 

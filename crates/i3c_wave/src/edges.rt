@@ -3,7 +3,7 @@ ghost use Rattle.i3c_wave.specs.Edges.{bit_heard, condition};
 
 use crate::levels::Level;
 
-/// What one who watches the lines hears.
+/// What a watcher of the lines hears.
 #[derive(Clone, Copy, Debug, PartialEq, Eq)]
 pub enum Mark {
     /// START or repeated START: SDA falls while SCL is high (I3C Basic 5.1.2).
@@ -14,7 +14,7 @@ pub enum Mark {
     Bit(bool),
 }
 
-/// One who watches the lines: their level, and the bit that SDA has kept since SCL rose.
+/// A watcher of the lines: their level, and the bit that SDA has kept since SCL rose.
 #[derive(Clone, Copy, Debug, Drop)]
 pub struct Edges {
     pub level: Level,

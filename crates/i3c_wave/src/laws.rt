@@ -6,14 +6,14 @@ pub fn rising_edges_have_the_bits()
     ensures { RisingEdgesHaveTheBits }
 {}
 
-/// One who watches the levels of whole frames hears their STARTs and STOPs and the bits of their other symbols, in order, and nothing
-/// else.
+/// A watcher of the levels of whole frames hears their STARTs and STOPs and the bits of their other symbols, in order, and no
+/// more.
 pub fn edges_give_the_marks()
     ensures { EdgesGiveTheMarks }
 {}
 
-/// Who watches the levels of a wire, and reads what is heard, gets its symbols back, given the addresses of its legacy
-/// targets: a wire is whole frames in which each symbol stands where it may.
+/// A reader that watches the levels of a wire gets its symbols back, given the addresses of its legacy targets: a wire is
+/// whole frames in which each symbol is allowed at its place.
 pub fn symbols_are_read_back()
     ensures { SymbolsAreReadBack }
 {}

@@ -95,7 +95,7 @@ impl Iterator for Levels {
     }
 }
 
-/// The level of a symbol with this number, counted from 0, if it has so many.
+/// The level of a symbol with this number, counted from 0, if it has one.
 fn level_at(symbol: &Symbol, index: usize) -> Option<Level>
     ensures level { result ≡ slice_get (levels_of symbol.now) index }
     ensures bound { IsSome result → index < 128 }
@@ -120,7 +120,7 @@ fn clocked_level(symbol: &Symbol, index: usize) -> Option<Level>
     })
 }
 
-/// The bit of a symbol with this number, counted from 0 as they are sent, if it has so many.
+/// The bit of a symbol with this number, counted from 0 as they are sent, if it has one.
 fn bit_of(symbol: &Symbol, index: usize) -> Option<bool>
     ensures bit { result ≡ slice_get (bits_of symbol.now) index }
     ensures bound { IsSome result → index < 64 }
@@ -161,7 +161,7 @@ fn byte_bit(byte: u8, ninth: bool, index: usize) -> Option<bool>
     }
 }
 
-/// A bit of a number that is sent with so many, the most significant first.
+/// One of the `count` bits of a number, which are sent the most significant first.
 fn number_bit(number: u64, count: usize, index: usize) -> Option<bool>
     requires { count ≤ 64 }
     ensures bit { result ≡ slice_get (bits count number) index }

@@ -2,10 +2,11 @@
 //!
 //! `levels` is what the two lines are at, symbol by symbol. `timing` says for how long, and `wave` is the dump (IEEE 1364) of
 //! one symbol after another. `script_wave` has the lines of a script and what they print. `run` writes the dump of a trace as
-//! a stream, by `reading` and `output`. `edges` is one who watches the two lines. `laws` says that SDA has a symbol's bits
-//! where SCL rises, and what is heard of a trace's levels; `clock_laws` says the same of whole frames, bit by bit. `dump_word` and `dump` say what the words of a dump say of two
-//! signals, `capture` reads symbols of the signals' levels, each with its time (`stamped`), and `capture_text` and
-//! `capture_run` those of a whole text. `timed` puts the times of frames behind what is told of them.
+//! a stream, by `reading` and `output`. `edges` is a watcher of the two lines. `laws` says that SDA has a symbol's bits where
+//! SCL rises, and what is heard of a trace's levels; `clock_laws` says the same of whole frames, bit by bit. `dump_word` and
+//! `dump` say what the words of a dump say of two signals, `capture` reads symbols of the signals' levels, each with its time
+//! (`stamped`), and `capture_text` and `capture_run` those of a whole text. `timed` puts the times of frames behind what is
+//! told of them.
 #![tactic(auto)]
 
 mod awaited;

@@ -6,7 +6,7 @@ use crate::fault::WaveFault;
 use i3c_text::Text;
 use std::io::{ErrorKind, Write};
 
-/// A dump is written out once so many bytes of it are gathered.
+/// A dump is written out once this many bytes of it are gathered.
 const GATHERED: usize = 1024;
 
 /// Writes out what is gathered, once it is long enough.

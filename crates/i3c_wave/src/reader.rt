@@ -13,7 +13,7 @@ pub enum Reading {
     Partial,
     /// A whole symbol.
     Symbol(Symbol),
-    /// No symbol that may stand there. The reader waits for the next frame.
+    /// A symbol that isn't allowed there. The reader waits for the next frame.
     Misread,
 }
 
@@ -60,7 +60,7 @@ impl Reader {
         }
     }
 
-    /// Takes a START or a STOP, which stands between symbols.
+    /// Takes a START or a STOP, which comes between symbols.
     fn frame(&mut self, symbol: Symbol) -> Reading
         ensures reading { result ≡ (framed self.old symbol).reading }
         ensures reader { self.new ≡ (framed self.old symbol).reader }
@@ -112,7 +112,7 @@ impl Reader {
         Reading::Misread
     }
 
-    /// Begins what comes next.
+    /// Begins the next awaited thing.
     fn await_place(&mut self, place: Option<Awaited>)
         ensures { self.new ≡ awaiting self.old.legacies place }
     {

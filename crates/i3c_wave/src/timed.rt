@@ -4,7 +4,7 @@ ghost use Rattle.i3c_wave.specs.Timed.{byte_timed, line_behind, timed, times_beh
 use i3c_text::Text;
 use std::alloc::AllocError;
 
-/// Where a text of lines stands.
+/// A place in a text of lines.
 #[derive(Clone, Copy, Debug, PartialEq, Eq)]
 pub enum LinePlace {
     /// A line begins here.
@@ -55,7 +55,7 @@ fn times_behind(place: LinePlace, times: &[u64], byte: u8) -> &[u64]
     }
 }
 
-/// Where a text stands behind a byte.
+/// The place of a text behind a byte.
 fn line_behind(place: LinePlace, byte: u8) -> LinePlace
     ensures { result ≡ line_behind place byte }
 {

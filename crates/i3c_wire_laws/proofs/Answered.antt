@@ -122,7 +122,6 @@ pub declined_answered : (sda : Bool) (old : State) (cuts : CutList) (wire : List
     → IsDeclinedPart old cuts to new begun own → IsAnsweredAt sda wire (begun + 18) (SomeTakes old to (lost_by cuts (begun + 18)))
 declined_answered sda old cuts wire begun to new own sent h = (is_acknowledged h.0, offer_at sda wire begun to h.0 own sent h.1 h.5, h.2)
 
--- of a read
 read_at : (sda : Bool) (wire : List Symbol) (begun a : ℕ) (read : Read) (own : List Symbol) → IsSentFrom sda wire (1 + begun) own → IsReadWire a read own
     → at_bit (high sda) (wire_levels wire) (begun + 9) ≡ Some (not (is_read_acknowledged read))
 read_at sda wire begun a Read.Nobody own sent h = transfer_at sda wire begun own a true false _ sent h
@@ -134,7 +133,6 @@ pub read_answered : (sda : Bool) (old : State) (cuts : CutList) (wire : List Sym
     → IsReadPart old cuts a answer begun own → IsAnsweredAt sda wire (begun + 9) (AnyAnswers old a (lost_by cuts (begun + 9)))
 read_answered sda old cuts wire begun a answer own sent h = (is_read_acknowledged h.0, read_at sda wire begun a h.0 own sent h.4, h.2)
 
--- of a write
 write_at : (sda : Bool) (wire : List Symbol) (begun a : ℕ) (bytes : List ℕ) (write : Write) (own : List Symbol) → IsSentFrom sda wire (1 + begun) own → IsWriteWire a bytes write own
     → at_bit (high sda) (wire_levels wire) (begun + 9) ≡ Some (not (is_write_acknowledged write))
 write_at sda wire begun a bytes Write.Nobody own sent h = transfer_at sda wire begun own a false false _ sent h

@@ -48,7 +48,7 @@ refusing st lost (WantsRole a) new bits h w = absurd (accept≢refuse (sym h.1 �
 refusing st lost (Recorded place) new bits h w = absurd (accept≢refuse (sym h.accepted ∙ refuses st (Interrupt h.at)))
 refusing st lost Torn new bits h w = absurd (accept≢refuse (sym h.accepted ∙ refuses st (Interrupt h.at)))
 
--- whoever takes the role isn't lost by the last bit of its frame, so not by its answer
+-- a device that takes the role isn't lost by the last bit of its frame, so not by its answer
 taken_answered : (sda : Bool) (old : State) (to : ℕ) (cuts : CutList) (reply : Reply) (new : State) (wire : List Symbol) → (g : IsGranted old to cuts reply new)
     → (n : IsNumberedFrame sda old cuts g.0 (λ bits own. IsHandedWire new (HandOver to cuts) own) wire)
     → IsAnsweredAt sda wire (n.word + header_bits g.0 + 18) (SomeTakes old to (lost_by cuts (n.word + header_bits g.0 + 18)))

@@ -45,7 +45,7 @@ target_low st a known h = go (entry_at st a) refl (or_parts (is_none (entry_at s
     go None e h = absurd (true≢false h)
     go (Some entry) e h = entry_low st a entry known e
 
--- of a handover
+-- the address of a handover
 controller_low : (st : State) (a : ℕ) → Addresses st → is_no_controller (entry_at st a) ≡ false → a < 128
 controller_low st a known h = go (entry_at st a) refl h
   where
@@ -53,7 +53,7 @@ controller_low st a known h = go (entry_at st a) refl h
     go None e h = absurd (true≢false h)
     go (Some entry) e h = entry_low st a entry known e
 
--- of a transfer
+-- the address of a transfer
 partner_low : (st : State) (a : ℕ) → Fits st → Addresses st → is_no_partner st a ≡ false → a < 128
 partner_low st a fits known h = go (legacy_target_at st a) refl h
   where

@@ -43,13 +43,13 @@ word_long word =
     let parts = length-append (bits 8 word.byte) (word.t ∷ []) in
     omega (arith, whole, parts, bits_long 8 word.byte)
 
--- the mandatory byte has nine bits where one is due
+-- the mandatory byte, if there is one, has nine bits
 due_long : (byte : Option ℕ) (due : Bool) (bits : ℕ) → is_some byte ≡ due → bits ≡ (if due then 9 else 0) → length (flat_map bits_of (byte_word byte)) ≡ bits
 due_long None due bits e h = let same : bits ≡ 0 = subst (λ (b : Bool). bits ≡ (if b then 9 else 0)) (sym e) h in sym same
 due_long (Some byte) due bits e h =
     let same : bits ≡ 9 = subst (λ (b : Bool). bits ≡ (if b then 9 else 0)) (sym e) h in word_long (record { byte = byte; t = false }) ∙ sym same
 
--- a frame's beginning: START, a header, and the mandatory word, of so many bits
+-- a frame's beginning: START, a header, and the mandatory word, together `bits` bits
 record BeginsWith (begun : List Symbol) (bits : ℕ) : Type 0 where
   address : ℕ
   read : Bool
@@ -92,7 +92,7 @@ past_front [] more i number e = let same : i ≡ number = omega (arith, e) in ap
 past_front (b ∷ front) more zero number e = absurd (omega (arith, e))
 past_front (b ∷ front) more (suc i) number e = past_front front more i number (omega (arith, e))
 
--- what stands behind some of the symbols that are sent
+-- the symbols behind some of those that are sent
 pub sent_later : (sda : Bool) (wire front more : List Symbol) (first bits to : ℕ) → IsSentFrom sda wire first (front ++ more) → length (flat_map bits_of front) ≡ bits → to ≡ first + bits
     → IsSentFrom sda wire to more
 sent_later sda wire front more first bits to sent long e number =

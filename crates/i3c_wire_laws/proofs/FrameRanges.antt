@@ -70,7 +70,6 @@ frame_fits old policy cuts served rest Own new IsOwn wire known f keeps owns h =
     let begun = begun_fits old cuts policy _ served f.mid new h.0 known f.serves (records_kept old policy cuts served rest Own new f keeps) h.4 in
     subst AreInRange (sym h.8) (ranges_on (h.0 ++ h.2) h.3 (ranges_on h.0 h.2 begun (on_fits old cuts served h.1 h.2 h.6)) (owns _ h.3 h.7))
 
--- a serve
 pub serve_fits : (old : State) (policy : Fixed) (cuts : CutList) (served : Served) (rest : ℕ) (Own : Lost → State → State → Type 0) (new : State) (wire : List Symbol)
     → Addresses old → Frame old policy cuts served rest Own new → ((lost : Lost) (mid done : State) → Own lost mid done → done.records ≡ mid.records)
     → IsServeWire old cuts served new wire → AreInRange wire

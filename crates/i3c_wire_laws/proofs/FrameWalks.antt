@@ -118,7 +118,6 @@ frame_leads legacies old cuts served new IsOwn wire next are known owns h =
     ap (place_behind legacies None) h.8
     ∙ lead_on legacies None (Some Awaited.Code) next (h.0 ++ h.2) h.3 (lead_on legacies None (Some b.place) (Some Awaited.Code) h.0 h.2 b.leads way) (owns _ h.3 h.7)
 
--- a serve
 pub serve_leads : (legacies : ℕ) (old : State) (cuts : CutList) (served : Served) (new : State) (wire : List Symbol) → AreLegacies old.legacy legacies → Addresses old
     → IsServeWire old cuts served new wire → Leads legacies None wire None
 serve_leads legacies old cuts served new wire are known h =

@@ -33,7 +33,7 @@ flat_bytes : (entries : List Entry) → AreFit entries → AreBytes (flat_map by
 flat_bytes [] h = tt
 flat_bytes (entry ∷ rest) h = bytes_on (bytes_of entry) (flat_map bytes_of rest) h.0 (flat_bytes rest h.1)
 
--- entries of what stands at addresses, the first of which is n
+-- the entries at addresses, the first of which is n
 upwards_fit : {A : Type 0} (entry : ℕ → A → Entry) (n : ℕ) (xs : List (Option A)) → ((k : ℕ) (x : A) → get_or xs k None ≡ Some x → AreBytes (bytes_of (entry (n + k) x))) → AreFit (upwards entry n xs)
 upwards_fit entry n [] h = tt
 upwards_fit entry n (None ∷ rest) h = upwards_fit entry (suc n) rest (λ k x e. subst (λ a. AreBytes (bytes_of (entry a x))) (omega arith) (h (suc k) x e))

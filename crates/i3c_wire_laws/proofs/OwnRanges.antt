@@ -122,7 +122,6 @@ setting_fits code a to Answer.Done wire small low under h = set_heard code a to 
 setting_fits code a to (Answer.Bytes bytes) wire small low under h = set_heard code a to h.0 h.1 wire small low under h.2.0 h.3.0 h.4
 setting_fits code a to Answer.NoEnd wire small low under h = set_heard code a to h.0 h.1 wire small low under h.2.0 h.3.0 h.4
 
--- an address byte
 address_byte : (a byte : ℕ) → a < 128 → IsAddressByte a byte → IsByte byte
 address_byte a byte low h = let e : byte / 2 ≡ a = h.0 in omega (arith, e, low)
 
@@ -224,7 +223,6 @@ IsSentBy Round.Done bits a = ⊥
 IsSentBy (Round.Nobody read sent) bits a = (read ≡ bits) × (sent ≡ a)
 IsSentBy (Round.Assigned read sent i) bits a = (read ≡ bits) × (sent ≡ a)
 
--- a round
 pub round_fits : (round : Round) (wire : List Symbol) → ((bits a : ℕ) → IsSentBy round bits a → (bits < 2 ^ 64) × (a < 128)) → IsRoundWire round wire → AreInRange wire
 round_fits Round.NoAddress wire fits h = subst AreInRange (sym h) tt
 round_fits Round.Done wire fits h = subst AreInRange (sym h) (tt, (omega arith, tt))

@@ -175,7 +175,7 @@ asking_code Datum.Status code h = not_seven code _ h.0 refl
 asking_code Datum.Speed code h = not_seven code _ h.0 refl
 asking_code Datum.Capabilities code h = not_seven code _ h.0 refl
 
--- what begins with a repeated START may stand behind such a code as it may without one
+-- symbols that begin with a repeated START are allowed behind a code without a list just as without one
 behind_code : (legacies : ℕ) (code : Word) (rest told : List Symbol) → (code.byte == 7) ≡ false → told ≡ Repeated ∷ rest → Leads legacies (Some Awaited.Code) told None
     → Leads legacies (Some Awaited.Code) (Symbol.Word code ∷ told) None
 behind_code legacies code rest told e is h =
@@ -207,7 +207,7 @@ legacy_written legacies side (byte ∷ bytes) [] h are = absurd h
 abbrev IsWordOf : ℕ → Symbol → Type 0
 IsWordOf byte symbol = (word : Word) × (word.byte ≡ byte) × HasOddParity word × (symbol ≡ Symbol.Word word)
 
--- and to devices
+-- a write to devices
 devices_written : (legacies : ℕ) (place : Awaited) (side : _) (bytes : List ℕ) (words : List Symbol) → TakesWords place
     → AreWritten side bytes words → ((byte : ℕ) (symbol : Symbol) → IsWrittenWord side byte symbol → IsWordOf byte symbol)
     → Leads legacies (Some place) (words ++ Stop ∷ []) None

@@ -27,7 +27,7 @@ use Rattle.i3c_wire_laws.proofs.RunRanges.{legal_fits}
 use Rattle.i3c_wire_laws.proofs.Targets.{KeepsTargets, keeps_step}
 use Rattle.i3c_wire_laws.proofs.Walks.{lead_on}
 
--- legacy targets that stand at the same addresses have one set
+-- legacy targets at the same addresses have one set
 pub still_legacies : (legacies : ℕ) (old new : State) → KeepsTargets old new → AreLegacies old.legacy legacies → AreLegacies new.legacy legacies
 still_legacies legacies old new keeps are = record { same = λ a. are.same a ∙ sym (keeps a); others = are.others }
 
@@ -61,7 +61,7 @@ legal_leads legacies main board start events replies new wire are begins h =
     ap (λ (st : State). place_behind legacies (place_in st) wire) (sym begins.2)
     ∙ run_leads legacies start events replies new wire (sound_start main board start begins) (starts_with legacies main board start begins are) h
 
--- a symbol that may stand there, and a wire behind it
+-- an allowed symbol, and a wire behind it
 whole_by : (legacies : ℕ) (place : Option Awaited) (symbol : Symbol) (rest : List Symbol) (o : Option (Option Awaited)) → IsInRange symbol → ((next : Option Awaited) → Leads legacies next rest None → IsWireFrom legacies next rest)
     → next_place legacies place symbol ≡ o → option_and_then (λ n. place_behind legacies n rest) o ≡ Some None → IsWireFrom legacies place (symbol ∷ rest)
 whole_by legacies place symbol rest None range later e h = absurd (none-some None h)

@@ -27,17 +27,14 @@ sent_on old (event ∷ events) (reply ∷ replies) mid wire later answers new re
 sent_on old [] (reply ∷ replies) mid wire later answers new rest h k = absurd h
 sent_on old (event ∷ events) [] mid wire later answers new rest h k = absurd h
 
--- one event
 one_sent : (old : State) (event : Event) (reply : Reply) (wire : List Symbol) (new : State) → Sends old event reply wire new → IsSent old (event ∷ []) (reply ∷ []) new wire
 one_sent old event reply wire new h = (new, wire, [], h, (refl, refl), sym (append-nil wire))
 
--- rounds
 rounds_sent : (old : State) (answers : List RoundReply) (wire : List Symbol) (new : State) → AreRounds old answers wire new
     → IsSent old (map (λ _. Event.Round no_cuts) answers) (map Reply.Round answers) new wire
 rounds_sent old [] wire new h = (h.1, h.0)
 rounds_sent old (answer ∷ later) wire new h = (h.0, h.1, h.2, h.3, rounds_sent h.0 later h.2 new h.4, h.5)
 
--- a whole assignment
 pub assignment_sent : (old : State) (cuts : CutList) (served : Served) (given : List (ℕ × Identity)) (complete : Bool) (new : State) (wire : List Symbol)
     → IsAssignment old cuts served given complete new wire
     → IsSent old (assignment_events cuts (round_answers given complete)) (assignment_replies served (round_answers given complete)) new wire

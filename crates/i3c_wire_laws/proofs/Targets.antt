@@ -1,4 +1,4 @@
--- Legacy targets stand where they stood, whatever happens on a bus.
+-- Legacy targets keep their addresses, whatever happens on a bus.
 use Rattle.std.proofs.Common.{◌≡◌, ◌∙◌, ℕ, List, Option, Some, None, is_some, get_or, inl, inr, ap, refl, sym}
 use Rattle.i3c_base.specs.declared.answers.Answer.{Answer}
 use Rattle.i3c_base.specs.declared.answers.RoundReply.{RoundReply}
@@ -21,7 +21,7 @@ use Rattle.i3c_step.proofs.Handing.{declined, granted}
 use Rattle.i3c_step.proofs.Steps.{step_cases}
 use Rattle.i3c_step.proofs.Transfers.{gets_keep, lengths_keep, news_keep, reads_keep, statics_keep, writes_keep}
 
--- legacy targets stand at the same addresses
+-- the legacy targets have the same addresses
 abbrev pub KeepsTargets : State → State → Type 0
 KeepsTargets old new = (a : ℕ) → is_some (legacy_target_at new a) ≡ is_some (legacy_target_at old a)
 

@@ -10,7 +10,7 @@ use Rattle.i3c_wave.specs.declared.awaited.Awaited.{Awaited}
 use Rattle.i3c_wave.specs.Awaited.{awaited_behind, next_place, open_place, was_assigning}
 use Rattle.i3c_wire_laws.specs.Wires.{Leads, place_behind}
 
--- a symbol that may stand there, and those behind it
+-- an allowed symbol, and those behind it
 pub lead_first : (legacies : ℕ) (place mid next : Option Awaited) (symbol : Symbol) (rest : List Symbol) → next_place legacies place symbol ≡ Some mid → Leads legacies mid rest next
     → Leads legacies place (symbol ∷ rest) next
 lead_first legacies place mid next symbol rest e h = ap (option_and_then (λ next. place_behind legacies next rest)) e ∙ h
@@ -27,7 +27,7 @@ lead_on legacies place mid next [] rest h k = subst (λ p. Leads legacies p rest
 lead_on legacies place mid next (symbol ∷ first) rest h k =
     lead_by legacies mid next first rest (next_place legacies place symbol) (λ n there. lead_on legacies n mid next first rest there k) h
 
--- words may stand at the place
+-- words are allowed at the place
 abbrev pub TakesWords : Awaited → Type 0
 TakesWords Awaited.Code = ⊤
 TakesWords (Awaited.Word assigning) = ⊤
@@ -61,7 +61,7 @@ words_stop legacies place (word ∷ words) h =
     let n = word_next legacies place word h in
     lead_first legacies (Some place) (Some n.0) None (Symbol.Word word) (map Symbol.Word words ++ Symbol.Stop ∷ []) n.1 (words_stop legacies n.0 words n.2)
 
--- behind a header of no assignment: a START and a STOP may stand there, and still there is no assignment
+-- behind a header of no assignment: a START and a STOP are allowed, and both stay outside an assignment
 pub record IsBehindHeader (place : Awaited) : Type 0 where
   pub opens : (next : Option Awaited) → open_place place next ≡ Some next
   pub plain : was_assigning place ≡ false
@@ -78,7 +78,7 @@ behind_tests false false read ack = record { opens = λ next. refl; plain = refl
 pub behind_header : (legacies address : ℕ) (read ack : Bool) → IsBehindHeader (awaited_behind legacies false address read ack)
 behind_header legacies address read ack = behind_tests (is_in legacies address) (address == 126) read ack
 
--- words stand behind a header of no legacy target
+-- words are allowed behind a header of no legacy target
 words_tests : (legacy broadcast read ack : Bool) → legacy ≡ false
     → TakesWords (if legacy then Awaited.LegacyWord false else
     (if broadcast then (if read then (if false then (if ack then Awaited.Identity else Awaited.Word false) else Awaited.Word false) else Awaited.Code) else Awaited.Word false))

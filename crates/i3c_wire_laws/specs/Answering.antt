@@ -1,4 +1,4 @@
--- Who answers the header of a frame's target on the lines, and at which bit of the frame.
+-- The answer to a target's header on the lines, and its bit in the frame.
 use Rattle.std.specs.Prelude.{◌≡◌, ◌↔◌, ⊤, ℕ, ◌+◌, Bool, true, not, List, Some}
 use Rattle.i3c_base.specs.declared.addresses.Addresses.{Addresses}
 use Rattle.i3c_base.specs.Cutting.{CutList, lost_by}
@@ -18,11 +18,12 @@ use Rattle.i3c_wave.specs.Clocks.{at_bit}
 use Rattle.i3c_wave.specs.Levels.{high, wire_levels}
 use Rattle.i3c_wire_laws.specs.Wires.{AreLegacies}
 
--- this bit is an answer: SDA is low there exactly where somebody gives it, and else high
+-- this bit is an answer: SDA is low there exactly if somebody gives it, and otherwise high
 abbrev pub IsAnsweredAt : Bool → List Symbol → ℕ → Type 0 → Type 0
 IsAnsweredAt sda wire bit Somebody = (ack : Bool) × (at_bit (high sda) (wire_levels wire) bit ≡ Some (not ack)) × ((ack ≡ true) ↔ Somebody)
 
--- the answer to a target's header in a frame's own part, which comes after so many bits: who isn't lost by its bit gives it
+-- the answer to a target's header in a frame's own part, with `begun` bits of the frame before it: a device that isn't lost
+-- by its bit gives it
 abbrev pub TargetAnswers : Bool → State → CutList → Event → ℕ → List Symbol → Type 0
 TargetAnswers sda old cuts (Enec (Some a) kinds policy others) begun wire = IsAnsweredAt sda wire (begun + 18) (SomeLeftAt old a (lost_by cuts (begun + 18)))
 TargetAnswers sda old cuts (Disec (Some a) kinds policy others) begun wire = IsAnsweredAt sda wire (begun + 18) (SomeLeftAt old a (lost_by cuts (begun + 18)))

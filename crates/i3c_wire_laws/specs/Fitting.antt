@@ -9,7 +9,7 @@ use Rattle.i3c_base.specs.Numbers.{IsInRange}
 use Rattle.i3c_base.specs.State.{Board, Device, Entry, State, declared_at, declared_in, device_at, entry_at, is_static, legacy_target_at}
 use Rattle.i3c_step.specs.declared.events.Event.{Event}
 
--- a byte
+-- the number fits a byte
 abbrev pub IsByte : ℕ → Type 0
 IsByte byte = byte < 2 ^ 8
 

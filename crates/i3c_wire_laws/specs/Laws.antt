@@ -36,13 +36,13 @@ abbrev pub RunsSendWires : Type 0
 RunsSendWires = (legacies : Addresses) (main : Setup) (board : Board) (start : State) (events : List Event) (replies : List Reply) (new : State) (wire : List Symbol)
     → AreLegacies board.legacy legacies.0 → IsStart main board start → IsSent start events replies new wire → Leads legacies.0 None wire (place_in new)
 
--- where no session is open at the end, what they send is a wire: whole frames in which each symbol stands where it may
+-- if no session is open at the end, what they send is a wire: whole frames in which each symbol is allowed at its place
 abbrev pub RunsAreWires : Type 0
 RunsAreWires = (legacies : Addresses) (main : Setup) (board : Board) (start : State) (events : List Event) (replies : List Reply) (new : State) (wire : List Symbol)
     → AreLegacies board.legacy legacies.0 → StartFits main board → All EventFits events → IsStart main board start → IsSent start events replies new wire → new.in_session ≡ false
     → IsWireFrom legacies.0 None wire
 
--- so its symbols are read back from the levels, one by one
+-- the symbols of a legal run's wire are read back from the levels, one by one
 abbrev pub RunsAreReadBack : Type 0
 RunsAreReadBack = (legacies : Addresses) (main : Setup) (board : Board) (start : State) (events : List Event) (replies : List Reply) (new : State) (wire : List Symbol)
     → AreLegacies board.legacy legacies.0 → StartFits main board → All EventFits events → IsStart main board start → IsSent start events replies new wire → new.in_session ≡ false

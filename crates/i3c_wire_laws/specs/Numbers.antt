@@ -26,7 +26,8 @@ abbrev pub BeginsAtBit0 : Bool → List Symbol → Type 0
 BeginsAtBit0 sda wire = (first : Symbol) (address : ℕ) (read ack : Bool) (rest : List Symbol) → bits_of first ≡ [] → wire ≡ first ∷ Symbol.Header address read ack ∷ rest
     → (at_bit (high sda) (wire_levels wire) 0 ≡ Some (not ack)) × IsSentFrom sda wire 1 rest
 
--- a frame's own part, by its definition after so many bits, is sent behind that many; and so is the way to it behind the mandatory word
+-- a frame's own part, which its definition puts behind a number of bits, is sent behind that number; and so is the way to it
+-- behind the mandatory word
 pub record IsNumberedFrame (sda : Bool) (old : State) (cuts : CutList) (served : Served) (IsOwn : ℕ → List Symbol → Type 0) (wire : List Symbol) : Type 0 where
   pub word : ℕ
   pub on : List Symbol
@@ -37,7 +38,7 @@ pub record IsNumberedFrame (sda : Bool) (old : State) (cuts : CutList) (served :
   pub way : IsSentFrom sda wire (1 + word) (on ++ own)
   pub there : IsSentFrom sda wire (1 + (word + header_bits served)) own
 
--- what an event sends is such a frame, if it sends one that has an own part
+-- what an event sends is a numbered frame, if it is a frame with an own part
 abbrev pub IsNumbered : Bool → State → Event → Reply → State → List Symbol → Type 0
 IsNumbered sda old event (Reply.Framed framed) new wire = OfCuts event (λ cuts. IsNumberedFrame sda old cuts framed.served (IsOwnWire old cuts event framed.answer new) wire)
 IsNumbered sda old event (Reply.Opened served) new wire = OfCuts event (λ cuts. IsNumberedFrame sda old cuts served (λ begun. IsOpenWire) wire)
@@ -49,12 +50,12 @@ abbrev pub EventsSendTheBitsInOrder : Type 0
 EventsSendTheBitsInOrder = (legacies : Addresses) (sda : Bool) (old : State) (event : Event) (reply : Reply) (wire : List Symbol) (new : State)
     → IsSound old → AreLegacies old.legacy legacies.0 → Sends old event reply wire new → clocked_in (high sda) (wire_levels wire) ≡ flat_map bits_of wire
 
--- and they have the numbers that its definition and its cuts have for them
+-- the bits of an event's symbols have the numbers that its definition and its cuts have for them
 abbrev pub EventsSendTheBitsByNumber : Type 0
 EventsSendTheBitsByNumber = (legacies : Addresses) (sda : Bool) (old : State) (event : Event) (reply : Reply) (wire : List Symbol) (new : State)
     → IsSound old → AreLegacies old.legacy legacies.0 → Sends old event reply wire new → BeginsAtBit0 sda wire × IsNumbered sda old event reply new wire
 
--- so are those in what the events of a legal run send, also where a session is open at the end
+-- the bits of a legal run's symbols are clocked in order, also if a session is open at the end
 abbrev pub RunsSendTheBitsInOrder : Type 0
 RunsSendTheBitsInOrder = (legacies : Addresses) (main : Setup) (board : Board) (start : State) (events : List Event) (replies : List Reply) (new : State) (wire : List Symbol)
     → AreLegacies board.legacy legacies.0 → IsStart main board start → IsSent start events replies new wire → clocked_in (high true) (wire_levels wire) ≡ flat_map bits_of wire

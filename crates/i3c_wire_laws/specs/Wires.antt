@@ -13,12 +13,12 @@ use Rattle.i3c_bus.specs.Assigning.{Sends, given_reply, last_reply}
 use Rattle.i3c_wave.specs.declared.awaited.Awaited.{Awaited}
 use Rattle.i3c_wave.specs.Awaited.{next_place}
 
--- the place behind symbols, if each may stand where it does
+-- the place behind symbols, if each is allowed at its place
 abbrev pub place_behind : ℕ → Option Awaited → List Symbol → Option (Option Awaited)
 place_behind legacies place [] = Some place
 place_behind legacies place (symbol ∷ rest) = option_and_then (λ next. place_behind legacies next rest) (next_place legacies place symbol)
 
--- symbols lead from the one place to the other, and each stands where it may
+-- symbols lead from the one place to the other, and each is allowed at its place
 abbrev pub Leads : ℕ → Option Awaited → List Symbol → Option Awaited → Type 0
 Leads legacies place symbols next = place_behind legacies place symbols ≡ Some next
 
@@ -47,6 +47,6 @@ round_answers given complete = map given_reply given ++ last_reply complete ∷ 
 abbrev pub assignment_events : CutList → List RoundReply → List Event
 assignment_events cuts answers = Event.OpenDaa cuts ∷ (map (λ _. Event.Round no_cuts) answers ++ Event.EndDaa ∷ [])
 
--- and their replies
+-- the replies to an assignment: to its opening, its rounds and its end
 abbrev pub assignment_replies : Served → List RoundReply → List Reply
 assignment_replies served answers = Reply.Opened served ∷ (map Reply.Round answers ++ Reply.Ended ∷ [])

@@ -1,6 +1,6 @@
 ghost use Rattle.i3c_wire_laws.specs.Laws.{AssignmentsAreSent, EventsFit, EventsSendWires, RunsAreReadBack, RunsAreWires, RunsGoOn, RunsSendWires};
 
-/// Each symbol that an event of a sound bus sends stands where it may, whatever is cut: the event's symbols lead from the
+/// Each symbol that an event of a sound bus sends is allowed at its place, whatever is cut: the event's symbols lead from the
 /// place of the wire before the event to the one after it. The frame of an assignment goes on over several events. Legacy
 /// targets keep their addresses.
 pub fn events_send_wires()
@@ -19,8 +19,8 @@ pub fn runs_send_wires()
     ensures { RunsSendWires }
 {}
 
-/// What the events of a legal run send is a wire where no session is open at the end: whole frames in which each symbol
-/// stands where it may.
+/// What the events of a legal run send is a wire if no session is open at the end: whole frames in which each symbol is
+/// allowed at its place.
 pub fn runs_are_wires()
     ensures { RunsAreWires }
 {}
@@ -36,7 +36,7 @@ pub fn assignments_are_sent()
     ensures { AssignmentsAreSent }
 {}
 
-/// What a run and one that goes on from it send, one behind the other, is what the whole run sends.
+/// What a run sends, followed by what its continuation sends, is what the whole run sends.
 pub fn runs_go_on()
     ensures { RunsGoOn }
 {}

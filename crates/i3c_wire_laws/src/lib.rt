@@ -1,8 +1,8 @@
 //! What the bus sends can be read back from the levels of SCL and SDA.
 //!
 //! `i3c_bus` says what each event sends, and `i3c_wave` how a reader of the two lines makes symbols of what it hears. The
-//! functions of `laws` say that the reader gets what was sent, and those of `numbers` which rising edge of SCL has which bit
-//! of it. Nothing is carried out here.
+//! functions of `laws` say that the reader gets the symbols that were sent, and those of `numbers` at which rising edge of
+//! SCL each bit is. Nothing is carried out here.
 #![tactic(auto)]
 
 mod laws;

@@ -18,8 +18,8 @@ pub fn runs_send_the_bits_in_order()
     ensures { RunsSendTheBitsInOrder }
 {}
 
-/// The answer to the header of a command's or a transfer's target is at the bit of the frame that its cuts have for it: SDA
-/// is low at that rising edge exactly where somebody isn't lost by that bit who would answer.
+/// The answer to the header of a command's or a transfer's target is at the bit that cuts count for it: SDA is low at that
+/// rising edge exactly if a device that would answer isn't lost by that bit.
 pub fn targets_answer_at_their_bits()
     ensures { TargetsAnswerAtTheirBits }
 {}

@@ -49,7 +49,7 @@ some_bit n some fits = let low = bit_at-trailing_zeros w64 n (omega (arith, some
 
 -- ---- the contest
 
--- k bits before the end: who is still in has the bits that were read, and who isn't had a lower bit before them
+-- k bits before the end: each contender that is still in has the bits read so far, and each other one had a lower bit before
 pub record Held (n : ℕ → ℕ) (among still bits k : ℕ) : Type 0 where
   pub within : (s : ℕ) → s < 64 → bit_at still s ≡ 1 → bit_at among s ≡ 1
   pub same : (s : ℕ) → s < 64 → bit_at still s ≡ 1 → n s / 2 ^ k ≡ bits / 2 ^ k
@@ -126,7 +126,7 @@ module _ (n : ℕ → ℕ) (among : ℕ) where
       let more : suc d + left ≡ suc (d + left) = omega arith in
       held_jump d left still bits (held_quiet still bits (d + left) (subst (Held n among still bits) more h) (zeros (d + left) (omega arith) (omega arith))) (λ i low high. zeros i low (omega arith))
 
-  -- all who are in drive 1
+  -- all contenders that are in drive 1
   held_one : (still bits t : ℕ) → t < 64 → Held n among still bits (suc t) → ((s : ℕ) → s < 64 → bit_at still s ≡ 1 → bit_at (n s) t ≡ 1) → Held n among still (with_bit bits t) t
   held_one still bits t fits h ones =
       held_step still bits still (with_bit bits t) t h (alike_above (with_bit bits t) bits (suc t) (λ i high. bit_at_set_other w64 bits t fits i (omega (arith, high))))
@@ -196,7 +196,7 @@ module _ (n : ℕ → ℕ) (among : ℕ) where
         ]
       ]
 
-  -- the slots that drive 0 at a bit, of those who are in
+  -- the slots that drive 0 at a bit, of those that are in
   pub zeros_are : (still ones t : ℕ) → ones < 2 ^ 64 → ((s : ℕ) → s < 64 → bit_at ones s ≡ bit_at (n s) t) → (s : ℕ) → s < 64 → bit_at (bit_and still (bit_not w64 ones)) s ≡ min (bit_at still s) (1 - bit_at (n s) t)
   zeros_are still ones t fits turned s l = bit_at_and still (bit_not w64 ones) s ∙ ap (λ b. min (bit_at still s) b) (bit_at_not w64 ones s fits l ∙ ap (λ b. 1 - b) (turned s l))
 
@@ -273,7 +273,7 @@ turned_none planes numbers ones = record {
 
 -- ---- one number anew
 
--- the bits at which the slot's number differs, but for those that are left over, are turned over in the words
+-- the bits at which the slot's number differs, except those that are left over, are turned over in the words
 pub record Flipping (old now : List ℕ) (diff rest index : ℕ) : Type 0 where
   pub long : length now ≡ length old
   pub other : (b s : ℕ) → b < 64 → s ≢ index → bit_at (slice_index now b) s ≡ bit_at (slice_index old b) s

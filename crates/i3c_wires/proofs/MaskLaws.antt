@@ -70,7 +70,7 @@ module _ {X : Type 0} where
   pub passes_past : (p : X → Bool) (xs : List X) (i : ℕ) → length xs ≤ i → passes p xs i ≡ false
   passes_past p xs i l = get_or_past (map p xs) i false (subst (λ n. n ≤ i) (sym (length-map xs p)) l)
 
-  -- those of one set who are not in another
+  -- the elements of one set that aren't in another
   pub mask_but : (w : Width) (p q : X → Bool) (xs : List X) → length xs ≤ bits w → bit_and (mask_of p xs) (bit_not w (mask_of q xs)) ≡ mask_of (λ x. p x && not (q x)) xs
   mask_but w p q xs l = same_from_bits _ _ (λ i. bit_at_and (mask_of p xs) (bit_not w (mask_of q xs)) i ∙ (each i ∙ sym (mask_at (λ x. p x && not (q x)) xs i ∙ ap (λ b. cond b 1 0) (passes_but p q xs i))))
     where
@@ -108,7 +108,7 @@ module _ {X : Type 0} where
         | false ↦ mask_zero (mask_of (λ x. p x && not (q x)) xs) ∙ mask_none_but p q xs
       ]
 
-  -- where all of a set pass, they are those of the set who pass
+  -- if all of a set pass a test, the set doesn't change by it
   pub mask_kept : (p q : X → Bool) (xs : List X) → list_all q (filter p xs) ≡ true → mask_of p xs ≡ mask_of (λ x. p x && q x) xs
   mask_kept p q [] h = refl
   mask_kept p q (x ∷ xs) h =

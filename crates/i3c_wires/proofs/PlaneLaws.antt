@@ -20,7 +20,7 @@ use mir.Val.{bits as bits_of}
 abbrev pub mask_width : Width
 mask_width = w64
 
--- ---- those of a set who drive 0, one place after another
+-- ---- the elements of a set that drive 0, one place after another
 
 -- the places without the lowest one
 abbrev pub without_lowest : ℕ → ℕ
@@ -61,7 +61,7 @@ subtracted rest some fits = omega (arith, lowest_off rest some fits)
 abbrev pub key_at : List (ℕ × ℕ) → ℕ → ℕ
 key_at keys i = (get_or keys i (0, 0)).1
 
--- of the places that aren't left over, those who drive 0
+-- the places that drive 0, of those that aren't left over
 pub record ZerosSoFar (keys : List (ℕ × ℕ)) (among left rest low : ℕ) : Type 0 where
   pub within : (i : ℕ) → bit_at rest i ≡ 1 → bit_at among i ≡ 1
   pub are : (i : ℕ) → i < bits_of mask_width → bit_at low i ≡ cond (not (is_one i rest) && (is_one i among && not (is_one left (key_at keys i)))) 1 0
@@ -305,12 +305,12 @@ slots_all keys places first slots few h p named =
 
 -- ---- the steps of a contest
 
--- what was read before the last `left` bits, and who is still in
+-- the bits read before the last `left` bits, and the contenders still in
 pub record Contested (cuts : CutList) (keys : List (ℕ × ℕ)) (width left bits still : ℕ) : Type 0 where
   pub reading : Reading cuts keys width left bits
   pub still_in : still ≡ mask_of (stays cuts width left bits) keys
 
--- the sets of one bit: who is cut there, and who drives 1 there
+-- the sets of one bit: the contenders cut there, and those that drive 1 there
 pub record Sets (cuts : CutList) (keys : List (ℕ × ℕ)) (width left drop plane : ℕ) : Type 0 where
   pub few : length keys ≤ bits_of mask_width
   pub cut : drop ≡ mask_of (λ e. is_at (width - suc left) (cut_of cuts e.0)) keys
@@ -320,14 +320,14 @@ module _ (cuts : CutList) (keys : List (ℕ × ℕ)) (width : ℕ) where
   pub still_first : (mask : ℕ) → All (λ e. e.1 < 2 ^ width) keys → mask ≡ 2 ^ length keys - 1 → mask ≡ mask_of (stays cuts width width 0) keys
   still_first mask fit e = omega (arith, e, mask_every (stays cuts width width 0) keys (recursion_from_All (λ e. stays cuts width width 0 e ≡ true) keys (All-weaker (λ e. e.1 < 2 ^ width) (λ e. stays cuts width width 0 e ≡ true) (stays_first cuts width) keys fit)))
 
-  -- who is in and not cut at the bit
+  -- the contenders that are in and not cut at the bit
   pub still_driving : (left bits still drop : ℕ) → length keys ≤ bits_of mask_width → still ≡ mask_of (stays cuts width (suc left) bits) keys → drop ≡ mask_of (λ e. is_at (width - suc left) (cut_of cuts e.0)) keys → bit_and still (bit_not mask_width drop) ≡ mask_of (drives cuts width left bits) keys
   still_driving left bits still drop few s d =
       (λ t. bit_and (s t) (bit_not mask_width (d t)))
       ∙ (mask_but mask_width (stays cuts width (suc left) bits) (λ e. is_at (width - suc left) (cut_of cuts e.0)) keys few
       ∙ mask_agree (λ e. stays cuts width (suc left) bits e && not (is_at (width - suc left) (cut_of cuts e.0))) (drives cuts width left bits) keys (drives_is cuts width left bits))
 
-  -- who of them drives 0
+  -- those of them that drive 0
   still_low : (left bits driving plane : ℕ) → length keys ≤ bits_of mask_width → driving ≡ mask_of (drives cuts width left bits) keys → plane ≡ mask_of (drives_one left) keys → bit_and driving (bit_not mask_width plane) ≡ mask_of (λ e. drives cuts width left bits e && not (drives_one left e)) keys
   still_low left bits driving plane few s p = (λ t. bit_and (s t) (bit_not mask_width (p t))) ∙ mask_but mask_width (drives cuts width left bits) (drives_one left) keys few
 
@@ -368,7 +368,7 @@ module _ (cuts : CutList) (keys : List (ℕ × ℕ)) (width : ℕ) where
       let read = read_zero left bits _ low some in
       record { reading = reading_more cuts keys width left bits false h.reading read; still_in = still_zero left bits _ (omega (arith, h.reading.within)) low }
 
-  -- all bits were read: who is still in holds the number, and isn't lost
+  -- all bits were read: a contender that is still in holds the number, and isn't lost
   pub contested_last : (left bits still : ℕ) (winners : List ℕ) → 0 < width → left ≤ 0 → Contested cuts keys width left bits still → ((p : ℕ × ℕ → Bool) → still ≡ mask_of p keys → winners ≡ map (λ e. e.0) (filter p keys)) → (winners ≡ holders cuts keys width bits) × Reading cuts keys width 0 bits
   contested_last left bits still winners l none h named =
       let last : Contested cuts keys width 0 bits still = subst (λ n. Contested cuts keys width n bits still) (omega arith) h in

@@ -1,4 +1,4 @@
--- The invariant of a contest: what was read so far, and who is still in.
+-- The invariant of a contest: the bits read so far, and the contenders still in.
 use Rattle.std.proofs.Common.{◌≡◌, ◌≢◌, ℕ, zero, suc, ◌+◌, ◌-◌, ◌*◌, ◌/◌, ◌%◌, ◌^◌, ◌<◌, ◌≤◌, ◌==◌, nat_lt, Bool, true, false, cond, List, [], ◌∷◌, get_or, map, refl, ap, sym, ◌∙◌, arith, not, ◌&&◌, inl, inr, ◌⊎◌, Option, Some, None}
 use Rattle.std.proofs.lemmas.Bool.{cases_Bool, cases_lt, and_parts, and_cases, and_from, cond-true, cond-false, eqb-true, eqb-false, eq-eqb, both_ways, not_from_false, true_from_ne_false}
 use Rattle.std.proofs.lemmas.Bool.Decides.{nat_tests}
@@ -12,7 +12,7 @@ use mir.Val.{bool_byte}
 
 -- ---- numbers: one bit more
 
--- what stands before the bit with `left` bits after it
+-- the bits above the one with `left` bits after it
 upper : (n left : ℕ) → n / 2 ^ suc left ≡ n / 2 ^ left / 2
 upper n left = rw pow-suc (sym (div-div-eq-div-mul n (2 ^ left) 2))
 
@@ -110,7 +110,7 @@ by_later : (bit last : ℕ) (cut : Option ℕ) → bit ≤ last → is_by last c
 by_later bit last None l h = refl
 by_later bit last (Some cut) l h = grind (arith, nat_tests)
 
--- ---- who is in
+-- ---- the contenders that are in
 
 -- in when `left` bits are still to come: the key agrees with what was read, and there was no cut before
 abbrev pub stays : CutList → ℕ → ℕ → ℕ → ℕ × ℕ → Bool
@@ -127,7 +127,7 @@ drives_is cuts width left bits e = shift (e.1 / 2 ^ suc left == bits) _ _ _ (bef
     shift true b c d h = h
     shift false b c d h = refl
 
--- who stays after the bit drove what was read
+-- a contender that stays after the bit drove what was read
 pub stays_is : (cuts : CutList) (width left bits : ℕ) (b : Bool) (e : ℕ × ℕ) → left < width → stays cuts width left (2 * bits + bool_byte b) e ≡ (drives cuts width left bits e && cond b (drives_one left e) (not (drives_one left e)))
 stays_is cuts width left bits b e l =
     let more : width - left ≡ suc (width - suc left) = omega arith in
@@ -148,7 +148,7 @@ stays_first cuts width e l =
 
 -- ---- what was read so far
 
--- each bit of what was read so far is the AND of those who drove there
+-- each bit that was read so far is the AND of the contenders that drove there
 abbrev EachSoFar : CutList → List (ℕ × ℕ) → ℕ → ℕ → ℕ → Type 0
 EachSoFar cuts keys width left bits = (k : ℕ) → left + k < width → is_one k bits ≡ list_all (drives_one (left + k)) (filter (λ e. e.1 / 2 ^ suc (left + k) == bits / 2 ^ suc k && not (is_cut cuts width (left + k) e)) keys)
 
@@ -246,7 +246,7 @@ read_least cuts keys width bits r k d l uncut =
     let e : ℕ × ℕ = get_or keys k d in
     elim (held_last keys bits e (r.held e (Contains-get_or keys k d l) uncut)) [ inl same ↦ omega arith | inr above ↦ omega (arith, above.0) ]
 
--- all pass, or one of those who don't has the least number
+-- all pass, or one that doesn't has the least number
 some_least : (p : ℕ × ℕ → Bool) (xs : List (ℕ × ℕ)) → AllByRecursion (λ e. p e ≡ true) xs ⊎ ((m : ℕ × ℕ) × Contains xs m × (p m ≡ false) × AllByRecursion (λ f. p f ≡ false → m.1 ≤ f.1) xs)
 some_least p [] = inl tt
 some_least p (x ∷ xs) =

@@ -29,7 +29,7 @@ module _ {X : Type 0} where
   each_in P Q [] f h = tt
   each_in P Q (x ∷ xs) f h = (f x h.0, each_in P Q xs f h.1)
 
-  -- who passes nothing is left of
+  -- no element passes a test whose mask is empty
   nobody_left : (p : X → Bool) (xs : List X) → mask_of p xs ≡ 0 → filter p xs ≡ []
   nobody_left p [] e = refl
   nobody_left p (x ∷ xs) e =
@@ -48,7 +48,7 @@ module _ {X : Type 0} where
             ap (λ b. cond b 1 0 + 2 * mask_of q xs) (f x out) ∙ omega (arith, fewer p q xs f rest)
       ]
 
-  -- all who are left drive the same, and somebody is left
+  -- all that are left drive the same, and one is left
   reads_true : (p q : X → Bool) (xs : List X) → AllByRecursion (λ x. q x ≡ true) xs → list_all q (filter p xs) ≡ true
   reads_true p q [] h = refl
   reads_true p q (x ∷ xs) h =
@@ -268,7 +268,7 @@ ones_below bits left l i low = one_bit _ i (ap (λ n. bit_at (bit_or bits n) i) 
 
 -- ---- from turn to turn
 
--- before the turns that are left: who is still in, what was read, and below it nothing else is decided
+-- before the remaining turns: the contenders still in, the bits read, and no bit below them decided
 pub record Turning (cuts : CutList) (keys : List (ℕ × ℕ)) (width turns bits still : ℕ) : Type 0 where
   pub left : ℕ
   pub contested : Contested cuts keys width left (bits / 2 ^ left) still

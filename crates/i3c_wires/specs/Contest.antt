@@ -1,5 +1,6 @@
--- Arbitration: what contenders drive, who is still in at each bit, and whose key was read. A contender is a slot and its key.
--- The first bit, 0, is the most significant one of the width. A cut contender drives nothing from the bit of its cut on.
+-- Arbitration: what contenders drive, which of them are still in at each bit, and whose key was read. A contender is a slot
+-- and its key. The first bit, 0, is the most significant one of the width. A cut contender drives nothing from the bit of its
+-- cut on.
 use Rattle.std.specs.Prelude.{ℕ, suc, ◌≡◌, ◌-◌, ◌/◌, ◌%◌, ◌^◌, ◌<◌, ◌==◌, Bool, false, not, ◌&&◌, IsTrue, List, Option, map, unwrap_or}
 use Rattle.std.specs.List.{All, Contains, filter, list_all}
 use Rattle.i3c_base.specs.Cutting.{CutList, lost_by, no_cuts}
@@ -24,7 +25,7 @@ is_in read left e = e.1 / 2 ^ suc left == read / 2 ^ suc left
 abbrev pub is_cut : CutList → ℕ → ℕ → ℕ × ℕ → Bool
 is_cut cuts width left e = lost_by cuts (width - suc left) e.0
 
--- each bit of the number that was read, of this width, is the AND of what those drive there who are still in and not cut
+-- each bit of the number that was read, of this width, is the AND of the contenders that are still in and not cut
 abbrev pub EachBit : CutList → List (ℕ × ℕ) → ℕ → ℕ → Type 0
 EachBit cuts keys width read = (left : ℕ) → left < width → is_one left read ≡ list_all (drives_one left) (filter (λ e. is_in read left e && not (is_cut cuts width left e)) keys)
 
@@ -32,7 +33,7 @@ EachBit cuts keys width read = (left : ℕ) → left < width → is_one left rea
 abbrev pub is_lost : CutList → ℕ → ℕ × ℕ → Bool
 is_lost cuts width e = lost_by cuts (width - 1) e.0
 
--- the slots, in the order of the keys, whose key is this number and who aren't lost
+-- the slots that have this number as their key and aren't lost, in the order of the keys
 abbrev pub holders : CutList → List (ℕ × ℕ) → ℕ → ℕ → List ℕ
 holders cuts keys width number = map (λ e. e.0) (filter (λ e. e.1 == number && not (is_lost cuts width e)) keys)
 

@@ -21,7 +21,7 @@ pub record AreTurned (planes : Planes) : Type 0 where
 abbrev pub IsNobody : ℕ → Type 0
 IsNobody among = (s : ℕ) → s < SLOTS → is_among among s ≡ false
 
--- of these slots some have the number that was read, which are the winners, and nobody has a lower one
+-- the winners are the slots, of these, with the number that was read: at least one, and none of these has a lower number
 pub record IsWon (numbers : List ℕ) (among : ℕ) (won : Won) : Type 0 where
   pub winners : (s : ℕ) → s < SLOTS → is_among won.winners s ≡ (is_among among s && slice_index numbers s == won.bits)
   pub some : (s : ℕ) × (s < SLOTS) × (is_among won.winners s ≡ true)

@@ -13,21 +13,21 @@ use i3c_base::{Cuts, SLOTS, Slot};
 /// The contest of these slots, each with its key of `width` bits (1 to 64). All drive their keys at once, the most
 /// significant bit first, and one that drives 1 and reads 0 drives nothing more (I3C Basic 5.1.2.2.1, 5.1.4).
 ///
-/// The cuts count bits from the contest's first one, which is 0: a contender that is cut drives nothing from that bit on.
-/// The winners are those who are cut at no bit of the contest and whose whole key was read, which is then the least key
-/// of all who aren't cut. Nobody wins where all are cut, nor where the others had lost to one that was cut after that.
-/// With no contender every bit reads 1.
+/// The cuts count bits from the contest's first one, which is 0: a contender that is cut drives nothing from that bit on. The
+/// winners are the contenders that are cut at no bit of the contest and whose whole key was read, which is then the least key
+/// of all that aren't cut. Nobody wins if all are cut, or if the others had lost to one that was cut after that. With no
+/// contender every bit reads 1.
 pub fn contest(keys: &ArrayVec<(Slot, u64), SLOTS>, width: u32, cuts: &Cuts) -> Contest
     requires some_bits { 0 < width }
     requires few_bits { width ≤ 64 }
     requires fit { All (λ e. e.1 < 2 ^ width) keys.now.items }
 
-    // the winners are those whose key was read and who aren't lost, that is, cut at the last bit or before; of all who
-    // aren't lost nobody has a lower key
+    // the winners are the slots whose key was read and that aren't lost, that is, cut at the last bit or before; no slot that
+    // isn't lost has a lower key
     ensures winners { result.winners.items ≡ holders cuts.now keys.now.items width result.bits }
     ensures least { All (λ e. is_lost cuts.now width e ≡ false → result.bits ≤ e.1) keys.now.items }
 
-    // nobody wins only if all are lost, or one of the lost has a lower key than all who aren't
+    // nobody wins only if all are lost, or one of the lost has a lower key than all that aren't
     ensures none { result.winners.items ≡ [] → AllLost cuts.now keys.now.items width ⊎ LostIsBelow cuts.now keys.now.items width }
 
     // each bit is the AND of the contenders still in and not cut there

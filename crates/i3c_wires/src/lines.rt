@@ -5,7 +5,7 @@ ghost use Rattle.std.specs.List.{list_all};
 pub struct Lines;
 
 impl Lines {
-    /// One clock: what everyone reads is the AND of what is driven, and 1 (`true`) where nobody drives.
+    /// One clock: everyone reads the AND of what is driven, and 1 (`true`) if nobody drives.
     pub fn clock(driven: &[bool]) -> bool
         ensures { result ≡ list_all (λ b. b) driven.now }
     {

@@ -25,7 +25,7 @@ pub(crate) fn first_places(count: usize) -> Mask
     }
 }
 
-/// Those of these places who drive 0 at the bit after which this many follow.
+/// Those of these places that drive 0 at the bit after which this many follow.
 pub(crate) fn zeros_among(keys: &[(Slot, u64)], among: Mask, left: u32) -> Mask
     requires bit { left < 64 }
     requires few { length keys.now ≤ SLOT_COUNT }
@@ -55,7 +55,7 @@ fn is_cut_at(cuts: &Cuts, slot: Slot, bit: u32) -> bool
     }
 }
 
-/// Those who are cut at this bit, counted from the first one: nobody where there are no cuts.
+/// The contenders that are cut at this bit, counted from the first one: none without cuts.
 pub(crate) fn cut_at(keys: &[(Slot, u64)], cuts: Option<&Cuts>, bit: u32) -> Mask
     requires few { length keys.now ≤ SLOT_COUNT }
     ensures { result ≡ mask_of (λ e. is_at bit (cut_of (cuts_in (option_copied cuts.entry)) e.0)) keys.now }
@@ -66,7 +66,7 @@ pub(crate) fn cut_at(keys: &[(Slot, u64)], cuts: Option<&Cuts>, bit: u32) -> Mas
     }
 }
 
-/// Those whom these cuts cut at this bit, counted from the first one.
+/// The contenders that these cuts cut at this bit, counted from the first one.
 fn cut_among(keys: &[(Slot, u64)], cuts: &Cuts, bit: u32) -> Mask
     requires few { length keys.now ≤ SLOT_COUNT }
     ensures { result ≡ mask_of (λ e. is_at bit (cut_of cuts.now e.0)) keys.now }

@@ -1,7 +1,7 @@
 use arrayvec::ArrayVec;
 use i3c_base::{SLOTS, Slot};
 
-/// What a contest read, and who won it (I3C Basic 5.1.2.2.1).
+/// The number that a contest read, and its winners (I3C Basic 5.1.2.2.1).
 #[derive(Debug, PartialEq, Clone, Drop)]
 pub struct Contest {
     /// The slots that drove to the end, in the order of the keys. Those with equal keys win together.

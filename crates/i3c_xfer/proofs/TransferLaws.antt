@@ -1,4 +1,4 @@
--- Who answers at an address, and what is read there.
+-- The devices that answer at an address, and the bytes read there.
 use Rattle.std.proofs.Common.{length-take-le}
 use Rattle.std.proofs.lemmas.List.{get_or-take}
 use Rattle.std.proofs.Common.{◌≡◌, ℕ, zero, suc, ◌+◌, ◌-◌, ◌*◌, ◌<◌, ◌≤◌, ◌↔◌, ◌⊎◌, true, false, if◌then◌else◌, List, length, take, get_or, set, Option, Some, None, is_some, inl, inr, refl, sym, ap, ◌∙◌, subst, arith}
@@ -23,7 +23,7 @@ use Rattle.i3c_xfer.specs.declared.answers.Write.{Write}
 pub left_there : (st : State) (a : ℕ) (lost : Lost) (devices : List (Option Device)) (active : ℕ) → HasDevices st devices active → SomeLeftIn (with_active devices active) a lost → SomeLeftAt st a lost
 left_there st a lost devices active has some = subst (λ all. SomeLeftIn all a lost) (sym (population_is st devices active has)) some
 
--- nobody is
+-- no device is there
 pub none_there : (st : State) (a : ℕ) (lost : Lost) (devices : List (Option Device)) (active : ℕ) → HasDevices st devices active → ¬ SomeLeftIn (with_active devices active) a lost → ¬ SomeLeftAt st a lost
 none_there st a lost devices active has none some = none (subst (λ all. SomeLeftIn all a lost) (population_is st devices active has) some)
 
@@ -59,7 +59,7 @@ not_both b z o = omega (arith, z, o)
 abbrev pub DrivesByte : Driving → State → ℕ → ℕ → ℕ → ℕ → Type 0
 DrivesByte own st a k s v = (d : Device) × IsTargetAt st a s d × (v ≡ get_or (own d) k 0)
 
--- which is the AND of what they drive where nobody of them is lost by the end
+-- the AND of what they drive, if none of them is lost by the end
 pub and_there : (own : Driving) (count : ℕ) (st : State) (a : ℕ) (cuts : CutList) (first last : ℕ) (bytes : List ℕ) → first + 9 * count ≤ suc last → AreDrivenBy own count st a cuts first bytes
     → ((k : ℕ) → k < count → get_or bytes k 0 < 256)
     → ((s : ℕ) (d : Device) → IsTargetAt st a s d → lost_by cuts last s ≡ false) → (k : ℕ) → k < count → IsAnd (get_or bytes k 0) (DrivesByte own st a k)

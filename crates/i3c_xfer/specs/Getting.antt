@@ -19,7 +19,7 @@ abbrev pub is_get_acknowledged : Get → Bool
 is_get_acknowledged Get.Nobody = false
 is_get_acknowledged _ = true
 
--- so many bytes of a datum as the devices at an address drive them, the first bit of all at bit `first` of the frame
+-- `count` bytes of a datum as the devices at an address drive them, the first bit of all at bit `first` of the frame
 abbrev pub AreTold : State → Datum → ℕ → ℕ → CutList → ℕ → List ℕ → Type 0
 AreTold st what count a cuts first bytes = AreDrivenBy (told_bytes what) count st a cuts first bytes × (length bytes ≡ count) × All (λ byte. byte < 256) bytes
 

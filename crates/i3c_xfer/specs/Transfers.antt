@@ -17,7 +17,7 @@ read_answer to (Read.Legacy bytes) = Answer.Bytes bytes
 read_answer to (Read.Ended bytes) = Answer.Bytes bytes
 read_answer to (Read.Torn bytes) = Answer.NoEnd
 
--- its bits: a header, and after its ACK a word for each byte
+-- the bits of a read: a header, and after its ACK a word for each byte
 abbrev pub bits_of_read : Read → ℕ
 bits_of_read Read.Nobody = 9
 bits_of_read (Read.Legacy bytes) = 153
@@ -40,7 +40,7 @@ abbrev pub is_write_acknowledged : Write → Bool
 is_write_acknowledged Write.Nobody = false
 is_write_acknowledged _ = true
 
--- a legacy target stands at the address
+-- a legacy target is at the address
 abbrev pub HasLegacy : State → ℕ → Type 0
 HasLegacy st a = (target : LegacyTarget) × (legacy_target_at st a ≡ Some target)
 
@@ -48,7 +48,7 @@ HasLegacy st a = (target : LegacyTarget) × (legacy_target_at st a ≡ Some targ
 abbrev pub AnyAnswers : State → ℕ → Lost → Type 0
 AnyAnswers st a lost = HasLegacy st a ⊎ SomeLeftAt st a lost
 
--- so many bytes as devices of this bus at the address drive them, the first bit of all at bit `first` of the frame
+-- `count` bytes as devices of this bus at the address drive them, the first bit of all at bit `first` of the frame
 abbrev pub AreDrivenBy : Driving → ℕ → State → ℕ → CutList → ℕ → List ℕ → Type 0
 AreDrivenBy own count st a cuts first bytes = AreBytesOf own count (population st) a cuts first bytes
 
@@ -56,14 +56,14 @@ AreDrivenBy own count st a cuts first bytes = AreBytesOf own count (population s
 abbrev pub AreDriven : State → ℕ → CutList → ℕ → List ℕ → Type 0
 AreDriven st a cuts first bytes = AreDrivenBy registers_of (length bytes) st a cuts first bytes × (length bytes ≡ transfer_length st Direction.Read a) × All (λ byte. byte < 256) bytes
 
--- whose bytes were read, and how: a legacy target's registers, or where none stands those that the devices drive
+-- the bytes read, and their source: a legacy target's registers, or without one the devices at the address
 abbrev pub IsReadAs : State → ℕ → CutList → ℕ → Read → Type 0
 IsReadAs st a cuts first Read.Nobody = ⊤
 IsReadAs st a cuts first (Read.Legacy bytes) = (target : LegacyTarget) × (legacy_target_at st a ≡ Some target) × (bytes ≡ target.registers)
 IsReadAs st a cuts first (Read.Ended bytes) = (legacy_target_at st a ≡ None) × AreDriven st a cuts first bytes
 IsReadAs st a cuts first (Read.Torn bytes) = (legacy_target_at st a ≡ None) × AreDriven st a cuts first bytes
 
--- who took the bytes of a write: a legacy target, or where none stands devices
+-- the party that took the bytes of a write: a legacy target, or without one the devices at the address
 abbrev pub IsWrittenBy : State → ℕ → Write → Type 0
 IsWrittenBy st a Write.Nobody = legacy_target_at st a ≡ None
 IsWrittenBy st a Write.Legacy = HasLegacy st a

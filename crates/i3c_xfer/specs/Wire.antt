@@ -38,7 +38,7 @@ AreWritten side _ _ = ⊥
 abbrev pub answered_wire : ℕ → Bool → List Symbol → List Symbol
 answered_wire to read words = Repeated ∷ Header to read true ∷ words ++ Stop ∷ []
 
--- a transfer whose header isn't
+-- a transfer whose header isn't acknowledged
 abbrev pub IsUnansweredWire : ℕ → Bool → List Symbol → Type 0
 IsUnansweredWire to read wire = wire ≡ Repeated ∷ Header to read false ∷ Stop ∷ []
 
@@ -67,7 +67,7 @@ IsGetWire what to get wire = (code : Word) × (told : List Symbol) × IsAskingWo
 abbrev pub IsWrittenWire : ℕ → Side → List ℕ → List Symbol → Type 0
 IsWrittenWire to side bytes wire = (words : List Symbol) × AreWritten side bytes words × (wire ≡ answered_wire to false words)
 
--- a write
+-- the wire of a write, by its result
 abbrev pub IsWriteWire : ℕ → List ℕ → Write → List Symbol → Type 0
 IsWriteWire to bytes Write.Nobody wire = IsUnansweredWire to false wire
 IsWriteWire to bytes Write.Legacy wire = IsWrittenWire to Legacy bytes wire

@@ -64,7 +64,7 @@ impl Read {
         }
     }
 
-    /// Its bits: a header, and after its ACK a word for each byte.
+    /// The bits of a read: a header, and after its ACK a word for each byte.
     pub fn bits(&self) -> u16
         ensures { result ≡ bits_of_read self.now }
     {
@@ -119,8 +119,8 @@ impl Write {
     }
 }
 
-/// The bits of the code of a datum, of which so many bytes are read, with this answer: a word and a header, and after its
-/// ACK a word for each byte.
+/// The bits of a read of `count` bytes of a datum with this answer: the code's word and a header, and after its ACK a word
+/// for each byte.
 pub fn get_bits(count: usize, answer: &Answer) -> u16
     requires { count ≤ 6 }
     ensures { (what : DatumValue) (entry : Option Entry) → count ≡ told_length what entry → result ≡ get_bits what entry answer.now }

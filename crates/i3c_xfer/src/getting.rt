@@ -10,9 +10,9 @@ use i3c_base::{Addr7, Cuts, Datum, Slot};
 use i3c_device::Devices;
 use i3c_word::WORD_BITS;
 
-/// A datum is asked for at an address, after so many bits of its frame in which these devices are cut: its code and a
-/// header, and where that is acknowledged so many bytes (I3C Basic 5.1.9.3). Of the devices at the address all answer but
-/// the active controller, and the lines give the AND of what they drive.
+/// A datum is asked for at an address: its code and a header, and if that is acknowledged its bytes (I3C Basic 5.1.9.3).
+/// `begun` bits of the frame come before it, and `cuts` are the devices cut in the frame. All devices at the address answer,
+/// except the active controller, and the lines give the AND of what they drive.
 pub fn get(
     devices: &Devices,
     active: Slot,

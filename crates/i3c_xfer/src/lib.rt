@@ -1,5 +1,5 @@
-//! Transfers with an address, with I3C devices and legacy I2C targets: what becomes of a private read or write and of a
-//! datum that is asked for, and how they are told.
+//! Transfers with an address, with I3C devices and legacy I2C targets: private reads and writes and requests for a datum,
+//! their results, and their symbols.
 #![tactic(auto)]
 
 mod answers;

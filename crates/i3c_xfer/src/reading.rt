@@ -11,10 +11,10 @@ use i3c_device::Devices;
 use i3c_legacy::LegacyTargets;
 use i3c_word::WORD_BITS;
 
-/// A private read from an address, after so many bits of its frame in which these devices are cut: a header, and where it
-/// is acknowledged the first registers, as many as may be read (I3C Basic 5.1.2.2, 5.1.2.3.4). A legacy target answers for
-/// its address alone. Of the devices at an address all answer but the active controller, and the lines give the AND of what
-/// they drive.
+/// A private read from an address: a header, and if it is acknowledged the first registers, as many as may be read (I3C Basic
+/// 5.1.2.2, 5.1.2.3.4). `begun` bits of the frame come before it, and `cuts` are the devices cut in the frame. A legacy
+/// target answers for its address alone. Otherwise all devices at the address answer, except the active controller, and the
+/// lines give the AND of what they drive.
 pub fn read(
     devices: &Devices,
     legacy: &LegacyTargets,

@@ -8,7 +8,7 @@ use i3c_ccc::{Code, byte_of};
 use i3c_frame::{Symbol, Tap};
 use i3c_word::{Word, write_word};
 
-/// Whose bytes pass.
+/// The party whose bytes pass.
 pub(crate) enum Side {
     /// Those of devices: each is a word, with a T.
     Devices,
@@ -29,8 +29,8 @@ pub fn tell_read<T: Tap>(tap: &mut T, to: Addr7, read: &Read)
     }
 }
 
-/// Tells the code of a datum and what came of it as it came out on the lines: the code, a repeated START, the header, where
-/// that is acknowledged the words, and STOP (I3C Basic 5.1.9.3).
+/// Tells a datum's code and the answer as they came out on the lines: the code, a repeated START, the header, the words if it
+/// is acknowledged, and STOP (I3C Basic 5.1.9.3).
 pub fn tell_get<T: Tap>(tap: &mut T, what: Datum, to: Addr7, get: &Get)
     ensures { Tells T.note_gives tap.old tap.new (IsGetWire what to get.now) }
 {

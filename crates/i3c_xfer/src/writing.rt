@@ -10,7 +10,7 @@ use i3c_base::{Addr7, Cuts, Slot};
 use i3c_device::Devices;
 use i3c_legacy::LegacyTargets;
 
-/// Who takes the bytes of a write to an address: whoever acknowledges its header, by this bit of the frame.
+/// The party that takes the bytes of a write to an address: it acknowledges the header, by this bit of the frame.
 fn taker(
     devices: &Devices,
     legacy: &LegacyTargets,
@@ -33,9 +33,9 @@ fn taker(
     }
 }
 
-/// A private write of these bytes to an address, after so many bits of its frame in which these devices are cut: a
-/// header, and where it is acknowledged a word for each byte (I3C Basic 5.1.2.2, 5.1.2.3.1). They go into the first
-/// registers of whoever has the address. Where nobody acknowledges, nothing changes; whoever is lost behind the
+/// A private write of these bytes to an address: a header, and if it is acknowledged a word for each byte (I3C Basic 5.1.2.2,
+/// 5.1.2.3.1). `begun` bits of the frame come before it, and `cuts` are the devices cut in the frame. The bytes go into the
+/// first registers of each party that has the address. If none acknowledges, nothing changes; a device lost behind the
 /// acknowledgement is still among the devices.
 pub fn write(
     devices: &mut Devices,

@@ -10,7 +10,7 @@ use Rattle.i3c_scenario.proofs.Gathered.{nothing_out, some_after}
 use Rattle.i3c_scenario.proofs.TraceWritten.{some_out}
 use Rattle.i3c_scenario.proofs.Written.{appends_both}
 
--- what three writes append, of which the last may fail
+-- the bytes that three writes append; the last may fail
 pub three_out : (a b c d : Option (List ℕ)) (first second last : List ℕ) (result : Result (Unit {0}) ScriptFault) → Appends a b first → Appends b c second
     → MatchResult result (λ _. Appends c d last) (λ fault. (fault ≡ ScriptFault.Write) × AppendsSome c d last) → IsWritten a d (first ++ (second ++ last)) result
 three_out a b c d first second last (Ok done) one two three = appends_both a b d first (second ++ last) one (appends_both b c d second last two three)

@@ -97,7 +97,7 @@ from_start : (legacies : ℕ) (a b : Option (List ℕ)) (text : List ℕ) (old n
 from_start legacies a b text old new lines start end puts =
     subst (λ o. Puts (output a script_preamble) o (shown_dump legacies free_bus lines)) end (subst (λ d. Puts d.output new.output (shown_dump d.legacies d.wave lines)) start puts)
 
--- the same with the prefix of a line, of which the writer took no more
+-- the same with a prefix of a line, after which the writer failed
 cut_start : (legacies : ℕ) (a b : Option (List ℕ)) (text : List ℕ) (old mid new : Dumping) (lines : List Shown) (last : Shown) → old ≡ dump_at legacies free_bus a script_preamble → new.output ≡ output b text
     → Seen old mid lines → PutsOrFails mid.output new.output (seen_dump mid.legacies mid.wave last.line last.printed last.wire) (Err ScriptFault.Write) → AppendsSome a b (script_dump legacies (lines ++ last ∷ []))
 cut_start legacies a b text old mid new lines last start end seen failed =

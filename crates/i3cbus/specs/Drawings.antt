@@ -15,7 +15,7 @@ use Rattle.i3cbus.specs.declared.drawing.Drawing.{Drawing}
 abbrev pub IsBlank : Picture → Type 0
 IsBlank picture = (picture.rows ≡ []) × (picture.pen ≡ pen_at 36)
 
--- a row was drawn
+-- a row was added to the picture
 abbrev pub DrawsRow : Picture → Drawn → Picture → Type 0
 DrawsRow old drawn new = (new.rows ≡ old.rows ++ row_text old.pen drawn) × (new.pen ≡ after_row old.pen drawn)
 
@@ -24,7 +24,7 @@ abbrev pub DrawsLine : Picture → List ℕ → List ℕ → List Symbol → Pic
 DrawsLine old [] printed wire new = new ≡ old
 DrawsLine old (byte ∷ line) printed wire new = DrawsRow old (record { line = byte ∷ line; printed = printed; wire = wire }) new
 
--- the same of what is being drawn
+-- the same of a picture that is being drawn
 abbrev pub Draws : Drawing → List ℕ → List ℕ → List Symbol → Drawing → Type 0
 Draws old line printed wire new = DrawsLine old.picture line printed wire new.picture
 

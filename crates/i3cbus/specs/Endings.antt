@@ -4,7 +4,7 @@ use Rattle.i3c_frame.specs.declared.traces.TraceFault.{TraceFault}
 use Rattle.i3c_scenario.specs.declared.faults.ScriptFault.{ScriptFault}
 use Rattle.i3c_scenario.specs.declared.script.Tally.{Tally}
 use Rattle.i3c_scenario.specs.declared.report.StressFault.{StressFault}
-use Rattle.i3c_tracks.specs.declared.exploring.Answer.{Answer}
+use Rattle.i3c_tracks.specs.declared.answer.Answer.{Answer}
 use Rattle.i3c_wave.specs.declared.capture_fault.CaptureFault.{CaptureFault}
 use Rattle.i3c_wave.specs.declared.fault.WaveFault.{WaveFault}
 use Rattle.i3cbus.specs.declared.fault.Fault.{Fault}
@@ -17,19 +17,19 @@ told_as ScriptFault.Read = Fault.Read
 told_as ScriptFault.Write = Fault.Write
 told_as ScriptFault.TooLarge = Fault.TooLarge
 
--- that of devices on threads
+-- the program's fault for a fault of devices on threads
 abbrev pub stress_told_as : StressFault → Fault
 stress_told_as StressFault.Memory = Fault.Memory
 stress_told_as StressFault.NotBalanced = Fault.NotBalanced
 
--- that of a waveform
+-- the program's fault for a fault of a waveform
 abbrev pub wave_told_as : WaveFault → Fault
 wave_told_as WaveFault.Memory = Fault.Memory
 wave_told_as WaveFault.Read = Fault.Read
 wave_told_as WaveFault.Write = Fault.Write
 wave_told_as WaveFault.TooLarge = Fault.TooLarge
 
--- that of a capture
+-- the program's fault for a fault of a capture
 abbrev pub capture_told_as : CaptureFault → Fault
 capture_told_as CaptureFault.Memory = Fault.Memory
 capture_told_as CaptureFault.Read = Fault.Read
@@ -67,22 +67,23 @@ explore_ending (Err fault) flushed = Err (told_as fault)
 explore_ending (Ok answer) true = Ok (Ending.Explored answer)
 explore_ending (Ok answer) false = Err Fault.Write
 
--- what lines came to, as what the program came to
-abbrev pub ran : Result Tally Fault → Result Ending Fault
-ran (Ok tally) = Ok (Ending.Ran tally)
-ran (Err fault) = Err fault
+-- the ending of a run of lines
+abbrev pub lines_ending : Result Tally Fault → Result Ending Fault
+lines_ending (Ok tally) = Ok (Ending.Ran tally)
+lines_ending (Err fault) = Err fault
 
--- 0 where every order holds, 1 where the file or a limit is refused, 3 where an order breaks an expectation
+-- 0 if every order holds, 1 if the file or a limit is refused, 3 if an order breaks an expectation
 abbrev pub answer_status : Answer → ℕ
 answer_status Answer.Holds = 0
 answer_status Answer.Refused = 1
 answer_status Answer.Breaks = 3
 
--- 0 where each line was done and each expectation met, 1 where a line was refused, 3 where an expectation wasn't met, refused lines or not
+-- 0 if each line was done and each expectation met, 1 if a line was refused, 3 if an expectation wasn't met, refused lines or
+-- not
 abbrev pub tally_status : Tally → ℕ
 tally_status tally = if tally.unmet == 0 then (if tally.refused == 0 then 0 else 1) else 3
 
--- the status of lines, or of an exploration; 2 where the script or the exploration didn't come to its end
+-- the status of lines, or of an exploration; 2 if the script or the exploration wasn't done to its end
 abbrev pub exit_status : Result Ending Fault → ℕ
 exit_status (Ok (Ending.Ran tally)) = tally_status tally
 exit_status (Ok (Ending.Explored answer)) = answer_status answer

@@ -44,7 +44,7 @@ pub record Dumping : Type 0 where
 abbrev pub dump_at : ℕ → Wave → Option (List ℕ) → List ℕ → Dumping
 dump_at legacies wave out gathered = record { legacies = legacies; wave = wave; output = output out gathered }
 
--- a line was put behind, of which some may go out
+-- a line was put behind, and part of it may be written out
 abbrev pub WavesLine : Dumping → List ℕ → List ℕ → List Symbol → Dumping → Type 0
 WavesLine old line printed wire new =
     (new.legacies ≡ old.legacies) × (new.wave ≡ after_wire old.legacies old.wave wire) × Puts old.output new.output (seen_dump old.legacies old.wave line printed wire)
@@ -53,7 +53,7 @@ WavesLine old line printed wire new =
 abbrev pub FailsLine : Dumping → List ℕ → List ℕ → List Symbol → ScriptFault → Dumping → Type 0
 FailsLine old line printed wire fault new = PutsOrFails old.output new.output (seen_dump old.legacies old.wave line printed wire) (Err fault)
 
--- what is gathered goes out in the end, whatever lines came to; but nothing goes to a writer that failed
+-- the gathered output is written out at the end, whatever the result of the lines; but nothing goes to a writer that failed
 abbrev pub GoesLast : Option (List ℕ) → Option (List ℕ) → List ℕ → Result Tally ScriptFault → Result Tally ScriptFault → Type 0
 GoesLast old new gathered (Err ScriptFault.Write) result = (result ≡ Err ScriptFault.Write) × (new ≡ old)
 GoesLast old new gathered outcome result = ((result ≡ outcome) × Appends old new gathered) ⊎ ((result ≡ Err ScriptFault.Write) × AppendsSome old new gathered)

@@ -9,7 +9,7 @@ use i3c_text::Text;
 use std::alloc::{AllocError, Global};
 use std::io::{Read, Write};
 
-/// A picture has at most so many bytes, since its rows are gathered before its height is known.
+/// A picture has at most this many bytes, since its rows are gathered before its height is known.
 const MOST_BYTES: usize = 16_777_216;
 
 /// Runs a script, and writes a picture of it once it was run to its end. With a fault nothing is written, unless writing is what

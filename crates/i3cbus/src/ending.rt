@@ -1,5 +1,5 @@
 ghost use Rattle.std.specs.Prelude.{◌≡◌};
-ghost use Rattle.i3cbus.specs.Endings.{ending, exit_status, explore_ending, ran, tally_status, wave_ending};
+ghost use Rattle.i3cbus.specs.Endings.{ending, exit_status, explore_ending, lines_ending, tally_status, wave_ending};
 
 use crate::fault::Fault;
 use i3c_frame::TraceFault;
@@ -7,10 +7,10 @@ use i3c_scenario::{ScriptFault, Tally};
 use i3c_tracks::Answer;
 use i3c_wave::WaveFault;
 
-/// What a run of the program came to.
+/// How a run of the program ended.
 #[derive(Clone, Copy, Debug, PartialEq, Eq)]
 pub(crate) enum Ending {
-    /// Lines were run, checked or told, of which so many were refused, and so many expectations not met.
+    /// Lines were run, checked or told; the tally counts the refused ones, and the expectations not met.
     Ran(Tally),
     /// Orders of lines were explored.
     Explored(Answer),
@@ -19,17 +19,17 @@ pub(crate) enum Ending {
 /// The script was run to its end: no line was refused, and each expectation was met.
 const DONE: u8 = 0;
 
-/// It was run to its end: a line was refused, and each expectation was met.
+/// The script was run to its end: a line was refused, and each expectation was met.
 const REFUSED: u8 = 1;
 
-/// It wasn't run to its end.
+/// The script wasn't run to its end.
 const FAULT: u8 = 2;
 
 /// An expectation wasn't met, or an order of lines breaks one.
 const BREAKS: u8 = 3;
 
-/// What a run came to: how its script ended, and whether all that it printed was taken.
-pub(crate) fn came_to(outcome: Result<Tally, ScriptFault>, flushed: bool) -> Result<Tally, Fault>
+/// The tally of a run, or its fault: the fault of its script, or that its output wasn't taken whole.
+pub(crate) fn tally_of(outcome: Result<Tally, ScriptFault>, flushed: bool) -> Result<Tally, Fault>
     ensures { result ≡ ending outcome flushed }
 {
     let tally = outcome?;
@@ -40,8 +40,8 @@ pub(crate) fn came_to(outcome: Result<Tally, ScriptFault>, flushed: bool) -> Res
     }
 }
 
-/// What a waveform came to: whether its trace had a fault, and whether all that it printed was taken.
-pub(crate) fn waved(
+/// The ending of a waveform: whether its trace had a fault, and whether its output was taken whole.
+pub(crate) fn wave_ending(
     outcome: Result<Option<TraceFault>, WaveFault>,
     flushed: bool,
 ) -> Result<Tally, Fault>
@@ -63,8 +63,11 @@ pub(crate) fn waved(
     }
 }
 
-/// What an exploration came to: its answer, and whether all that it printed was taken.
-pub(crate) fn explored(outcome: Result<Answer, ScriptFault>, flushed: bool) -> Result<Ending, Fault>
+/// The ending of an exploration: its answer, and whether its output was taken whole.
+pub(crate) fn explore_ending(
+    outcome: Result<Answer, ScriptFault>,
+    flushed: bool,
+) -> Result<Ending, Fault>
     ensures { result ≡ explore_ending outcome flushed }
 {
     let answer = outcome?;
@@ -75,9 +78,9 @@ pub(crate) fn explored(outcome: Result<Answer, ScriptFault>, flushed: bool) -> R
     }
 }
 
-/// What lines came to, as what the program came to.
-pub(crate) fn ran(outcome: Result<Tally, Fault>) -> Result<Ending, Fault>
-    ensures { result ≡ ran outcome }
+/// The ending of a run of lines.
+pub(crate) fn lines_ending(outcome: Result<Tally, Fault>) -> Result<Ending, Fault>
+    ensures { result ≡ lines_ending outcome }
 {
     match outcome {
         Ok(tally) => Ok(Ending::Ran(tally)),
@@ -98,7 +101,7 @@ fn tally_status(tally: &Tally) -> u8
     }
 }
 
-/// The exit status of what the program came to.
+/// The exit status of an ending.
 pub(crate) fn status_of(outcome: &Result<Ending, Fault>) -> u8
     ensures { result ≡ exit_status outcome.now }
 {

@@ -1,5 +1,5 @@
 use crate::drawing::draw_script;
-use crate::ending::{Ending, came_to, explored, ran, status_of, waved};
+use crate::ending::{Ending, explore_ending, lines_ending, status_of, tally_of, wave_ending};
 use crate::fault::Fault;
 use crate::stressing::run_stress;
 use crate::task::{Capturing, STANDARD_INPUT, Task, Telling, Work, task_named};
@@ -44,14 +44,16 @@ where
 {
     let words = words_given(rt)?;
     match task_named(rt.alloc(), &words)? {
-        Task::File(work, file) => ran(run_file(rt, work, file)),
-        Task::Capture(capturing, telling, file) => ran(run_capture(rt, capturing, telling, file)),
+        Task::File(work, file) => lines_ending(run_file(rt, work, file)),
+        Task::Capture(capturing, telling, file) => lines_ending(run_capture(
+            rt, capturing, telling, file,
+        )),
         Task::Explore(limits, part, jobs, file) => {
             let watcher = Watcher::new(rt, is_watched);
             run_exploration(rt, limits, part, jobs, &watcher, file)
         }
-        Task::Stress(stress) => ran(run_stress(rt, &stress, is_watched)),
-        Task::Version => ran(print_version(rt)),
+        Task::Stress(stress) => lines_ending(run_stress(rt, &stress, is_watched)),
+        Task::Version => lines_ending(print_version(rt)),
     }
 }
 
@@ -156,7 +158,7 @@ fn run_from<R: Print + Eprint + AllocGlobal, S: Read>(
         Work::Tell(telling) => tell_from(rt, telling, input, &mut printed),
     };
     let flushed = printed.flush().is_ok();
-    came_to(outcome, flushed)
+    tally_of(outcome, flushed)
 }
 
 /// Tells the trace of a reader.
@@ -215,17 +217,17 @@ fn timed_from<R: Print + Eprint + AllocGlobal, S: Read>(
     input: &mut S,
 ) -> Result<Tally, Fault> {
     let mut told = Vec::new(rt.alloc());
-    let outcome = gathered(tell_from(rt, telling, input, &mut told));
+    let outcome = gathered_tally(tell_from(rt, telling, input, &mut told));
     let mut text = Text::new(rt.alloc());
     push_timed(times, &told, &mut text)?;
     let mut printed = io::writer(rt);
     let written = write_out(text.as_bytes(), &mut printed).is_ok();
     let flushed = printed.flush().is_ok();
-    came_to(outcome, written && flushed)
+    tally_of(outcome, written && flushed)
 }
 
-/// What came of lines that are gathered, which are lost for want of memory alone.
-fn gathered(outcome: Result<Tally, ScriptFault>) -> Result<Tally, ScriptFault> {
+/// The result of lines whose output is gathered: it is lost only for want of memory.
+fn gathered_tally(outcome: Result<Tally, ScriptFault>) -> Result<Tally, ScriptFault> {
     match outcome {
         Err(ScriptFault::Write) => Err(ScriptFault::Memory),
         outcome => outcome,
@@ -242,7 +244,7 @@ fn wave_from<R: Print + AllocGlobal, S: Read>(
     let mut printed = io::writer(rt);
     let outcome = run_wave(rt.alloc(), legacies, input, &mut printed);
     let flushed = printed.flush().is_ok();
-    waved(outcome, flushed)
+    wave_ending(outcome, flushed)
 }
 
 /// Prints the waveform of a reader's script. What was printed is written out on a fault too.
@@ -254,7 +256,7 @@ fn wave_script_from<R: Print + AllocGlobal, S: Read>(
 ) -> Result<Tally, Fault> {
     let (outcome, mut printed) = wave_script(rt.alloc(), legacies, input, io::writer(rt));
     let flushed = printed.flush().is_ok();
-    came_to(outcome, flushed)
+    tally_of(outcome, flushed)
 }
 
 /// Prints the picture of a reader's script.
@@ -263,7 +265,7 @@ fn draw_from<R: Print + AllocGlobal, S: Read>(rt: &R, input: &mut S) -> Result<T
     let mut printed = io::writer(rt);
     let outcome = draw_script(rt.alloc(), input, &mut printed);
     let flushed = printed.flush().is_ok();
-    came_to(outcome, flushed)
+    tally_of(outcome, flushed)
 }
 
 /// Explores the file of a reader.
@@ -279,7 +281,7 @@ fn explore_from<R: Print + Eprint + AllocGlobal + Threads + Sync, S: Read>(
     let alloc = rt.alloc();
     let outcome = run_explore(rt, alloc, input, &mut printed, limits, part, jobs, watcher);
     let flushed = printed.flush().is_ok();
-    explored(outcome, flushed)
+    explore_ending(outcome, flushed)
 }
 
 /// Runs the script of a reader, and shows more of it.
@@ -294,14 +296,17 @@ fn watch_from<R: Print + Eprint + AllocGlobal, S: Read>(
     let outcome = run_watched(rt.alloc(), input, &mut printed, &mut errors, watching);
     let flushed = printed.flush().is_ok();
     match outcome {
-        Ok(tally) => came_to(Ok(tally), flushed),
-        Err(WatchFault::Script(fault)) => came_to(Err(fault), flushed),
-        Err(WatchFault::NoForm(reason)) => Err(Fault::NoForm(said(rt.alloc(), reason.as_bytes())?)),
+        Ok(tally) => tally_of(Ok(tally), flushed),
+        Err(WatchFault::Script(fault)) => tally_of(Err(fault), flushed),
+        Err(WatchFault::NoForm(reason)) => Err(Fault::NoForm(owned_text(
+            rt.alloc(),
+            reason.as_bytes(),
+        )?)),
     }
 }
 
-/// A text of the run's own.
-fn said(alloc: Global, text: &[u8]) -> Result<String, Fault> {
+/// A copy of a text.
+fn owned_text(alloc: Global, text: &[u8]) -> Result<String, Fault> {
     match str::from_utf8(text) {
         Ok(text) => Ok(text.to_string(alloc)?),
         Err(_) => Ok(String::new(alloc)),

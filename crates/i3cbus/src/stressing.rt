@@ -6,10 +6,10 @@ use std::io;
 use std::sync::Wait;
 use std::thread::Threads;
 
-/// After so many tries of the device in slot 1 a watcher is told.
+/// A watcher is told once the device in slot 1 has made this many tries.
 const TOLD_EVERY: u64 = 10_000;
 
-/// A gate that lets each device go on at once, and tells who watches how far that in slot 1 is.
+/// A gate that lets each device go on at once, and tells a watcher the progress of the one in slot 1.
 #[derive(Drop)]
 struct Progress<'a, R> {
     rt: &'a R,
@@ -27,8 +27,8 @@ impl<R: Eprint> Gate for Progress<'_, R> {
     }
 }
 
-/// Lets devices post from threads of their own, and prints that each post is accounted for. Who watches on a terminal
-/// is told how far it is.
+/// Lets devices post from threads of their own, and prints that each post is accounted for. Tells its progress if standard
+/// error is a terminal.
 pub(crate) fn run_stress<R: Threads + Wait + Sync + Print + Eprint + AllocGlobal>(
     rt: &R,
     asked: &Stress,
@@ -63,7 +63,7 @@ pub(crate) fn run_stress<R: Threads + Wait + Sync + Print + Eprint + AllocGlobal
     }
 }
 
-/// Prints a report, and what became of the posts if that is asked for.
+/// Prints a report, and the totals of the posts if they are asked for.
 fn print_report<R: Print>(
     rt: &R,
     devices: u8,

@@ -19,8 +19,8 @@ pub(crate) const STANDARD_INPUT: &str = "-";
 /// The command that runs a script.
 const RUN: &str = "run";
 
-/// Its options: the run ends at a line without a form; lines are numbered, go out themselves, and are explained. A capture's
-/// frames have their times by the second.
+/// Options of `run`: it ends at a line without a form; lines are numbered, echoed, and explained. A capture's frames have
+/// their times by the second.
 const STRICT: &str = "strict";
 
 const NUMBERS: &str = "numbers";
@@ -35,21 +35,21 @@ const CHECK: &str = "check";
 /// The command that reads a trace.
 const TRACE: &str = "trace";
 
-/// Its flag that asks for faults too.
+/// The flag of `trace` that asks for faults too.
 const LINT: &str = "lint";
 
-/// Its flag that says that the file is a capture of the lines.
+/// The flag of `trace` for a file that is a capture of the lines.
 const VCD: &str = "vcd";
 
-/// Its options that name the signals of a capture, which are called so without them.
+/// The options of `trace` that name the signals of a capture, with their values if they aren't given.
 const SCL: &str = "scl";
 
 const SDA: &str = "sda";
 
-/// Its option that names the address of a legacy target.
+/// The option of `trace` that names the address of a legacy target.
 const LEGACY: &str = "legacy";
 
-/// The flags with which it takes such an address.
+/// The flags with which it takes the addresses of legacy targets.
 const WITH_LEGACIES: &str = "with-legacies";
 
 /// The least and the most address of a legacy target.
@@ -60,7 +60,7 @@ const MOST_LEGACY: u8 = 0x77;
 /// The command that answers the lines of another program.
 const DRIVE: &str = "drive";
 
-/// Its flag: each answer is a JSON object.
+/// The flag of `drive` for answers as JSON objects.
 const JSON: &str = "json";
 
 /// The command that prints a picture of a script.
@@ -69,13 +69,13 @@ const DRAW: &str = "draw";
 /// The command that tries every order of a file's tracks.
 const EXPLORE: &str = "explore";
 
-/// Its option: how many lines may be run.
+/// The option of `explore` for the number of lines that may be run.
 const MOST: &str = "most";
 
-/// Its option: which part of all orders is tried.
+/// The option of `explore` for the part of all orders that is tried.
 const PART: &str = "part";
 
-/// Its option: how many threads run lines.
+/// The option of `explore` for the number of threads that run lines.
 const JOBS: &str = "jobs";
 
 /// How many lines may be run without `--most`, as the help has it.
@@ -87,18 +87,18 @@ const MOST_STATES: usize = 16_384;
 /// The command that prints a wire as a waveform.
 const WAVE: &str = "wave";
 
-/// Its flag that says that the file is a trace.
+/// The flag of `wave` for a file that is a trace.
 const FROM_TRACE: &str = "trace";
 
 /// The command that lets devices post from threads of their own.
 const STRESS: &str = "stress";
 
-/// Its number of devices, and of posts of each.
+/// The options of `stress` for the number of devices, and of posts of each.
 const DEVICES: &str = "devices";
 
 const POSTS: &str = "posts";
 
-/// Its option: what became of the posts is printed too.
+/// The option of `stress` that prints the totals of the posts too.
 const TOTALS: &str = "totals";
 
 /// The word that asks which program this is.
@@ -192,7 +192,7 @@ pub(crate) enum Task<'a> {
     File(Work, &'a str),
     /// Reads this file as a capture, and tells its symbols.
     Capture(Capturing<'a>, Telling, &'a str),
-    /// Tries every order of this part, of this file's tracks, within these limits, by up to so many jobs.
+    /// Tries every order of this part, of this file's tracks, within these limits, by up to this number of jobs.
     Explore(Limits, Part, usize, &'a str),
     /// Lets devices post from threads of their own.
     Stress(Stress),
@@ -249,7 +249,7 @@ pub(crate) struct Capturing<'a> {
 pub(crate) struct Stress {
     pub devices: u8,
     pub posts: u64,
-    /// Whether what became of the posts is printed too.
+    /// Whether the totals of the posts are printed too.
     pub totals: bool,
 }
 
@@ -266,7 +266,7 @@ pub(crate) fn task_named<'a>(alloc: Global, words: &'a [String]) -> Result<Task<
     task_given(&parsed(alloc, words)?)
 }
 
-/// Whether the words ask which program this is, and nothing else.
+/// Whether the words ask only which program this is.
 fn is_version(words: &[String]) -> bool {
     match words {
         [only] => only.as_str() == VERSION,
@@ -308,7 +308,7 @@ fn task_given<'a>(matches: &ArgMatches<'a>) -> Result<Task<'a>, Fault> {
     }
 }
 
-/// In which form lines are to be answered.
+/// The form in which lines are to be answered.
 fn drive_given(matches: &ArgMatches<'_>) -> Work {
     if matches.get_flag(JSON) {
         Work::Drive(Form::Json)

@@ -1,14 +1,14 @@
 use i3c_explore::{Progress, Watch};
 use std::cell::Cell;
 
-/// After so many lines that were run somebody who watches is told how far an exploration is. They take a quarter of a second
-/// to a second.
+/// A watcher is told the progress of an exploration each time this many lines were run: every quarter of a second to a
+/// second.
 const TOLD_EVERY: u64 = 200_000;
 
 /// Takes the cursor to the beginning of a terminal's line, and clears the line.
 const CLEAR: &str = "\r\x1b[K";
 
-/// Tells somebody who watches standard error on a terminal how far an exploration is, on one line, which is cleared at the end.
+/// Tells the progress of an exploration on standard error, if that is a terminal: on one line, which is cleared at the end.
 #[derive(Drop)]
 pub(crate) struct Watcher<'a, R> {
     rt: &'a R,
@@ -18,7 +18,7 @@ pub(crate) struct Watcher<'a, R> {
 }
 
 impl<'a, R> Watcher<'a, R> {
-    /// Whoever watches standard error of this runtime, if somebody does.
+    /// A watcher on standard error of this runtime, if somebody watches it.
     pub(crate) fn new(rt: &'a R, is_watched: bool) -> Watcher<'a, R> {
         Watcher {
             rt,

@@ -11,7 +11,7 @@ use i3c_wave::{Wave, push_script_line, push_script_preamble, push_served};
 use std::alloc::{AllocError, Global};
 use std::io::{Read, Write};
 
-/// A dump goes out once so many bytes of it are gathered.
+/// A dump is written out once this many bytes of it are gathered.
 const GATHERED: usize = 1024;
 
 /// Runs a script, and writes the value change dump (IEEE 1364) of its wire, with its lines and what they printed, to a writer that
@@ -48,7 +48,7 @@ pub(crate) fn wave_script<R: Read, W: Write>(
     (result, out)
 }
 
-/// The dump of a script that runs, of which the last bytes are gathered, and what it has of the line in hand.
+/// The dump of a script that runs, its last bytes gathered, and its part of the line in hand.
 struct Waving<W> {
     legacies: Addresses,
     wave: Wave,
@@ -147,7 +147,8 @@ fn write_gathered<W: Write>(text: &mut Text, out: &mut W) -> Result<(), ScriptFa
     }
 }
 
-/// Writes out what is gathered in the end, whatever the lines came to. But to a writer that failed nothing is written.
+/// Writes out the gathered output at the end, whatever the result of the lines. But it writes nothing to a writer that
+/// failed.
 fn write_last<W: Write>(
     outcome: Result<Tally, ScriptFault>,
     gathered: &[u8],

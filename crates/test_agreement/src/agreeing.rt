@@ -1,4 +1,4 @@
-use crate::course::{Plainly, Ran, on_bus, on_plain, slots};
+use crate::course::{BusRun, PlainRun, on_bus, on_plain, slots};
 use crate::cutting::{Bits, Place, cuts_of};
 use crate::faults::Fault;
 use crate::script::{KNOWN, Script};
@@ -15,9 +15,9 @@ const CHOICES: [Choice; 3] = [Choice::Heard, Choice::Lost, Choice::Silent];
 pub(crate) struct Verdict {
     pub events: usize,
     pub cuts: usize,
-    /// So many of the cuts left two questions open, which the plain machine's one choice can't answer both.
+    /// The number of cuts that left two questions open, which the plain machine's one choice can't both answer.
     pub twofold: usize,
-    /// After so many of them a byte differs that the definitions leave open.
+    /// The number of events after which a byte differs that the definitions leave open.
     pub open: usize,
     pub disagreements: Vec<Disagreement>,
 }
@@ -36,13 +36,13 @@ pub(crate) enum Disagreement {
 enum Measure {
     /// All.
     Whole,
-    /// All but bytes: of devices that drive one together, of whom one is lost, it may be any.
+    /// All but bytes: if devices drive one together and one of them is lost, it may be any.
     ButBytes,
 }
 
-/// Whether the plain machine comes to what the bus came to. Where the bus says that a byte is torn, and that its device
-/// doesn't answer later in the same frame, the plain machine may say the first alone.
-fn agree(ran: &Ran, plainly: &Plainly, measure: Measure) -> bool {
+/// Whether the plain machine has the results of the bus. If on the bus a byte is torn and its device doesn't answer later in
+/// the same frame, the plain machine may have the first alone.
+fn agree(ran: &BusRun, plainly: &PlainRun, measure: Measure) -> bool {
     let (records, due) = (ran.records.as_slice(), plainly.plain.records());
     ran.seen == plainly.seen
         && records.len() == due.len()
@@ -115,13 +115,13 @@ fn all_heard(alloc: Global, count: usize) -> Result<Vec<Choice>, Fault> {
     Ok(choices)
 }
 
-/// The choice at an event with which so many events come to what they came to on the bus.
+/// The choice at an event with which the plain machine has the results of these runs.
 fn choice_for(
     alloc: Global,
     script: &Script,
     choices: &mut [Choice],
     at: usize,
-    ran: &[Ran],
+    ran: &[BusRun],
     measure: Measure,
 ) -> Result<Option<Choice>, Fault> {
     let _ = KNOWN;
@@ -136,12 +136,12 @@ fn choice_for(
     Ok(None)
 }
 
-/// Whether each of these runs, which have so many events of the script, is one of the plain machine with these choices.
+/// Whether each of these runs, of the first events of the script, is one of the plain machine with these choices.
 fn all_agree(
     alloc: Global,
     script: &Script,
     choices: &[Choice],
-    ran: &[Ran],
+    ran: &[BusRun],
     measure: Measure,
 ) -> Result<bool, Fault> {
     for run in ran {
@@ -160,7 +160,7 @@ fn has_cuts(event: &mut Event) -> bool {
     }
 }
 
-/// Runs the script as it stands, and then each of its frames with each device cut at these bits.
+/// Runs the script unchanged, and then each of its frames with each device cut at these bits.
 pub(crate) fn judge(alloc: Global, mut script: Script, bits: Bits) -> Result<Verdict, Fault> {
     let mut verdict = Verdict {
         events: script.own,
@@ -177,7 +177,7 @@ pub(crate) fn judge(alloc: Global, mut script: Script, bits: Bits) -> Result<Ver
     Ok(verdict)
 }
 
-/// The script as it stands: the first event after which the machines disagree, whatever is chosen at it.
+/// The unchanged script: the first event after which the machines disagree, whatever is chosen at it.
 fn as_it_stands(alloc: Global, script: &mut Script) -> Result<Option<usize>, Fault> {
     let _ = KNOWN;
     let count = script.events.len();
@@ -249,7 +249,7 @@ fn one_frame(
 fn each_slot(
     alloc: Global,
     script: &mut Script,
-    before: &Plainly,
+    before: &PlainRun,
     at: usize,
     last: u16,
     bits: Bits,
@@ -286,7 +286,7 @@ fn each_bit(
     Ok(())
 }
 
-/// One cut, which is taken back: with one of the choices both come to the same after its frame, and at the end.
+/// One cut, which is taken back: with one of the choices both have the same results after its frame, and at the end.
 fn one_cut(
     alloc: Global,
     script: &mut Script,
@@ -309,7 +309,7 @@ fn judge_cut(
     alloc: Global,
     script: &Script,
     place: Place,
-    ran: &[Ran],
+    ran: &[BusRun],
     verdict: &mut Verdict,
 ) -> Result<(), Fault> {
     let _ = KNOWN;
@@ -328,12 +328,12 @@ fn judge_cut(
     Ok(())
 }
 
-/// Whether one of the choices at an event has the plain machine come to these runs, all else being heard.
+/// Whether one of the choices at an event makes the plain machine agree with these runs, with the choice `Heard` elsewhere.
 fn is_chosen(
     alloc: Global,
     script: &Script,
     at: usize,
-    ran: &[Ran],
+    ran: &[BusRun],
     measure: Measure,
 ) -> Result<bool, Fault> {
     let _ = KNOWN;
@@ -342,7 +342,7 @@ fn is_chosen(
 }
 
 /// Whether the last reply of a run leaves two questions open.
-fn ends_twofold(run: &Ran) -> bool {
+fn ends_twofold(run: &BusRun) -> bool {
     run.replies.last().is_some_and(|reply| is_twofold(reply))
 }
 
@@ -356,7 +356,7 @@ fn put(script: &mut Script, at: usize, cuts: Cuts) {
 }
 
 /// How many addresses may be known by then: the main device's, the legacy targets', and those that were given.
-fn known(script: &Script, before: &Plainly) -> usize {
+fn known(script: &Script, before: &PlainRun) -> usize {
     let given = script
         .events
         .iter()
@@ -373,7 +373,8 @@ fn is_giving(event: &Event, reply: &Reply) -> bool {
     matches!(event, Event::SetStatic(..)) || matches!(reply, Reply::Round(RoundReply::Assigned(..)))
 }
 
-/// The bit past the last one that the frame of an index may send, if the event is one, where so many addresses are known.
+/// The bit past the last one that the frame of an index may send, if the event is one, where this number of addresses is
+/// known.
 fn past(script: &Script, at: usize, addresses: usize) -> Option<u16> {
     match script.events.get(at)? {
         Event::Serve(..) => Some(10),

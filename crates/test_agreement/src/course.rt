@@ -5,9 +5,9 @@ use i3c_bus::{Bus, Event, Outcome, Records, Reply, run_events};
 use i3c_model::{Choice, Plain};
 use std::alloc::Global;
 
-/// What is seen of a bus, but its records.
+/// The readable state of a bus, without its records.
 #[derive(Clone, Copy, Debug, PartialEq, Eq)]
-pub(crate) struct Seen {
+pub(crate) struct BusView {
     active: Slot,
     in_session: bool,
     listed: bool,
@@ -16,10 +16,10 @@ pub(crate) struct Seen {
     waiting: [usize; SLOTS],
 }
 
-impl Seen {
-    fn of_bus(bus: &Bus) -> Seen {
+impl BusView {
+    fn of_bus(bus: &Bus) -> BusView {
         let slots = slots();
-        Seen {
+        BusView {
             active: bus.active(),
             in_session: bus.in_session(),
             listed: bus.listed(),
@@ -29,9 +29,9 @@ impl Seen {
         }
     }
 
-    fn of_plain(plain: &Plain) -> Seen {
+    fn of_plain(plain: &Plain) -> BusView {
         let slots = slots();
-        Seen {
+        BusView {
             active: plain.active(),
             in_session: plain.in_session(),
             listed: plain.listed(),
@@ -54,19 +54,19 @@ impl Seen {
     }
 }
 
-/// What events came to on the bus.
+/// The results of events on the bus.
 #[derive(Drop)]
-pub(crate) struct Ran {
+pub(crate) struct BusRun {
     pub replies: Vec<Reply>,
-    pub seen: Seen,
+    pub seen: BusView,
     pub records: Records,
 }
 
-/// What they came to on the plain machine.
+/// Their results on the plain machine.
 #[derive(Drop)]
-pub(crate) struct Plainly {
+pub(crate) struct PlainRun {
     pub replies: Vec<Reply>,
-    pub seen: Seen,
+    pub seen: BusView,
     pub plain: Plain,
 }
 
@@ -81,7 +81,7 @@ pub(crate) fn slots() -> [Slot; SLOTS] {
     slots
 }
 
-/// So many events of a script.
+/// The first `count` events of a script.
 fn first_of(script: &Script, count: usize) -> &[Event] {
     match script.events.get(..count) {
         Some(events) => events,
@@ -89,8 +89,8 @@ fn first_of(script: &Script, count: usize) -> &[Event] {
     }
 }
 
-/// Runs so many events of a script on the bus.
-pub(crate) fn on_bus(alloc: Global, script: &Script, count: usize) -> Result<Ran, Fault> {
+/// Runs the first `count` events of a script on the bus.
+pub(crate) fn on_bus(alloc: Global, script: &Script, count: usize) -> Result<BusRun, Fault> {
     let _ = KNOWN;
     let events = first_of(script, count);
     let Outcome { bus, hand, replies } = run_events(
@@ -99,28 +99,28 @@ pub(crate) fn on_bus(alloc: Global, script: &Script, count: usize) -> Result<Ran
         script.legacies.copied(),
         events,
     )?;
-    let seen = Seen::of_bus(&bus);
+    let seen = BusView::of_bus(&bus);
     let records = bus.retire(hand);
-    Ok(Ran {
+    Ok(BusRun {
         replies,
         seen,
         records,
     })
 }
 
-/// Runs so many events of a script on the plain machine, with a choice for each.
+/// Runs the first events of a script on the plain machine, with a choice for each.
 pub(crate) fn on_plain(
     alloc: Global,
     script: &Script,
     choices: &[Choice],
     count: usize,
-) -> Result<Plainly, Fault> {
+) -> Result<PlainRun, Fault> {
     let _ = KNOWN;
     let mut plain = Plain::new(alloc, script.main, script.legacies.copied())?;
     let replies = replies_of(alloc, &mut plain, first_of(script, count), choices)?;
-    Ok(Plainly {
+    Ok(PlainRun {
         replies,
-        seen: Seen::of_plain(&plain),
+        seen: BusView::of_plain(&plain),
         plain,
     })
 }

@@ -244,7 +244,7 @@ impl Running {
         Ok(self.script)
     }
 
-    // What shows wishes, enabled kinds, kept addresses and static ones that nothing tells of: whoever asks is served, each
+    // Shows wishes, enabled kinds, kept addresses and static ones, which no other event tells: requests are served, each
     // device comes again, is assigned, and interrupts. Then addresses are reset, and each static one is made a dynamic one.
     fn ask_on(&mut self, alloc: Global) -> Result<(), Fault> {
         self.script.own = self.script.events.len();

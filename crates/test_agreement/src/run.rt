@@ -6,7 +6,7 @@ use crate::script::Script;
 use std::rt::{Env, Files};
 use std::{env, fs, io};
 
-/// Both machines came to the same.
+/// Both machines have the same results.
 const AGREE: u8 = 0;
 
 /// They didn't.

@@ -132,8 +132,8 @@ fn commands(rt: HostRuntime) -> Result<(), Fail> {
     Ok(())
 }
 
-// Four frames that give addresses: a declared device gets one at its static address, and another in its place. Whoever has
-// one doesn't take a second at its static address. An address that is nobody's static one is refused, and so is a declared
+// Four frames that give addresses: a declared device gets one at its static address, and another in its place. A device that
+// has one doesn't take a second at its static address. An address that isn't a static one is refused, and so is a declared
 // one as a dynamic one.
 #[test]
 fn addresses_are_set(rt: HostRuntime) -> Result<(), Fail> {

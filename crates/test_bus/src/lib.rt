@@ -1,10 +1,10 @@
-//! Tests of the bus and of the plain machine by their public calls alone. Tests inside a crate would have it proved again,
-//! so these have a crate of their own.
+//! Tests of the bus and of the plain machine by their public calls alone. Tests inside a crate would have it proved again, so
+//! these have a crate of their own.
 //!
 //! `calls` has typed calls of the bus, and what a refused growth leaves; lists of events with their replies, wires and
-//! records are scripts, in `tests/scripts`. `plain` has the plain machine's own refusal; what it does else stands in
-//! `tests/choices` and `tests/agreement`. `sizes` has the sizes of what is kept by the million. `checks` has what they
-//! assert.
+//! records are scripts, in `tests/scripts`. `plain` has the plain machine's own refusal; the other tests of it are in
+//! `tests/choices` and `tests/agreement`. `sizes` has the sizes of values that are kept by the million. `checks` has what
+//! they assert.
 #![tactic(auto)]
 
 #[cfg(test)]

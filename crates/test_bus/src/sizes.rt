@@ -26,11 +26,10 @@ fn a_reply_is_48_bytes(rt: HostRuntime) {
 
 // A bus has 64 devices with eight waiting interrupts each. Nine marks are words with a bit for each slot. Each slot has a key
 // and the address at which its device answers, and each address a word of the slots that answer there. The numbers of the
-// identities stand there twice, by slot and by bit.
-// Its table has thirteen bytes for each address, two of them for a static address and one for the order of known
-// identities, and three sets of addresses. It has a list of all addresses, sixteen declared identities of 24 bytes with a byte
-// for each address that tells where its identity may stand, and legacy targets with sixteen registers. All is inline, so
-// that a frame wants no memory but for a record.
+// identities are kept twice, by slot and by bit. Its table has thirteen bytes for each address, two of them for a static
+// address and one for the order of known identities, and three sets of addresses. It has a list of all addresses, sixteen
+// declared identities of 24 bytes with a byte for each address that tells where its identity may be, and legacy targets with
+// sixteen registers. All is inline, so that a frame wants no memory except for a record.
 #[test]
 fn a_bus_is_17952_bytes(rt: HostRuntime) {
     same(&rt, size_of::<Bus>(), 17952);

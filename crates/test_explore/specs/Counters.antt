@@ -15,6 +15,6 @@ counted n (Risk k) way = if nat_lt 0 way then 0 else n + k
 abbrev pub Counts : Counter → Line → ℕ → Counter → Type 0
 Counts old line way new = (new.count ≡ counted old.count line way) × (new.count < 1000)
 
--- and breaks where it isn't
+-- a line breaks an expectation if the counter comes to 1000
 abbrev pub Overflows : Counter → Line → ℕ → Type 0
 Overflows old line way = 1000 ≤ counted old.count line way

@@ -22,7 +22,7 @@ impl Watch for Nobody {
     fn ended(&self) {}
 }
 
-/// Somebody who notes what was told last, and how often an exploration was over.
+/// A watcher that notes the last progress, and how often an exploration was over.
 #[derive(Drop)]
 struct Notes {
     last: Cell<Option<Progress>>,
@@ -76,8 +76,8 @@ fn explored(
     explore(alloc, Counter { count: 1 }, &blocks, limits)
 }
 
-/// Explores the part of this number, of so many, of blocks from a counter at 1. Without such a part it says that a limit was
-/// reached.
+/// Explores the part of this number, out of a number of parts, of blocks from a counter at 1. Without that part it says that
+/// a limit was reached.
 fn part_explored(
     alloc: Global,
     blocks: &[&[&[Line]]],
@@ -91,12 +91,12 @@ fn part_explored(
     explore_part(alloc, Counter { count: 1 }, &blocks, WIDE, part)
 }
 
-/// Whether an exploration has so many ends, orders and steps.
+/// Whether an exploration has these numbers of ends, orders and steps.
 fn has(found: &Explored<Counter>, ends: usize, orders: Option<u64>, steps: u64) -> bool {
     found.ends.len() == ends && found.orders == orders && found.steps == steps
 }
 
-/// Whether an end has this count, with so many orders, and is reached by the turns of these tracks first.
+/// Whether an end has this count and this number of orders, and is reached by the turns of these tracks first.
 fn ends_at(
     found: &Explored<Counter>,
     end: usize,
@@ -142,7 +142,7 @@ fn two_tracks_have_three_orders(rt: HostRuntime) -> Result<(), Fail> {
     Ok(())
 }
 
-// 12! / (4! 4! 4!) orders; 125 places, of which 100 have a line left of each track
+// 12! / (4! 4! 4!) orders; 125 places, 100 of which have a line left of each track
 #[test]
 fn three_tracks_of_four_lines_have_34650_orders(rt: HostRuntime) -> Result<(), Fail> {
     let lines = [Line::Add(1), Line::Add(2), Line::Add(3), Line::Add(4)];

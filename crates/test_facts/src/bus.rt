@@ -71,16 +71,16 @@ fn slot(rt: &impl Abort, number: u8) -> Slot {
     Slot::new(number).expect(rt, "a slot")
 }
 
-/// A bus with names, and what the line before came to.
+/// A bus with names, and the result of the previous line.
 #[derive(Drop)]
-struct Seen<'a> {
+struct NamedBus<'a> {
     bus: &'a Bus,
     names: &'a Names,
     before: Before,
     alloc: Global,
 }
 
-impl Seen<'_> {
+impl NamedBus<'_> {
     // The line's facts hold.
     fn is_met(&self, rt: &impl Abort, line: &str) {
         let facts = expected(rt, self.alloc, line);
@@ -121,7 +121,7 @@ static MET: [&str; 18] = [
     "expect waiting 0 or t at 09",
 ];
 
-/// Facts that don't, and what is there.
+/// Facts that don't hold, and what holds in their place.
 static UNMET: [(&str, &str); 22] = [
     ("expect active t", "active hub"),
     ("expect active x", "active hub"),
@@ -152,7 +152,7 @@ static UNMET: [(&str, &str); 22] = [
 fn facts_of_a_bus(rt: HostRuntime) -> Result<(), Fail> {
     let names = names(&rt, rt.alloc());
     let (bus, role) = interrupted(rt.alloc())?;
-    let seen = Seen {
+    let seen = NamedBus {
         bus: &bus,
         names: &names,
         before: Before::Nothing,
@@ -176,7 +176,7 @@ fn facts_of_a_recorded_interrupt(rt: HostRuntime) -> Result<(), Fail> {
     let mut accept = ACCEPT;
     let _served = bus.serve(&role, &mut accept, &mut Silent, &Cuts::new());
     let _attached = bus.attach(slot(&rt, 2), setup(T + 1));
-    let seen = Seen {
+    let seen = NamedBus {
         bus: &bus,
         names: &names,
         before: Before::Done,
@@ -201,7 +201,7 @@ fn facts_of_a_refused_line(rt: HostRuntime) -> Result<(), Fail> {
     let at = Refusal::Bus(BusRefusal::NoAnswer(Addr7::new(0x50)?));
     let names = names(&rt, rt.alloc());
     let (bus, role) = interrupted(rt.alloc())?;
-    let mut seen = Seen {
+    let mut seen = NamedBus {
         bus: &bus,
         names: &names,
         before: Before::Refused(at),

@@ -3,7 +3,7 @@ use i3c_text::Text;
 use std::alloc::Global;
 use std::process::Abort;
 
-/// Lines that are printed as they stand.
+/// Lines that are printed unchanged.
 static LINES: [&str; 25] = [
     "any",
     "anywhere t",

@@ -84,7 +84,7 @@ fn first(setting: &Setting) -> Answer {
     }
 }
 
-/// Who drives the first request.
+/// The slots that drive the first request.
 fn driving(setting: &Setting) -> Result<SlotSet, Fault> {
     match setting.devices.first_request(setting.active) {
         Some((_, drivers)) => Ok(drivers),
@@ -97,7 +97,7 @@ fn told_set(alloc: Global, set: SlotSet) -> Answer {
     told_slots(alloc, &slots_of(alloc, set)?)
 }
 
-/// Whether one of those who drive the first request isn't cut by a bit.
+/// Whether a driver of the first request isn't cut by a bit.
 fn outlasts(setting: &Setting, last: u16) -> Answer {
     let outlasts = driving(setting)?.outlasts(&setting.cuts, last);
     told(setting.alloc, &outlasts)
@@ -113,7 +113,7 @@ fn is_heard(setting: &Setting, words: &mut Words<'_>) -> Answer {
     told(setting.alloc, &heard)
 }
 
-/// The lowest slot of those who would take the role.
+/// The lowest slot of the devices that would take the role.
 fn lowest_willing(setting: &Setting, words: &mut Words<'_>) -> Answer {
     let address = words.address()?;
     let last = words.bit()?;
@@ -123,7 +123,7 @@ fn lowest_willing(setting: &Setting, words: &mut Words<'_>) -> Answer {
     told_slots(setting.alloc, &lowest)
 }
 
-/// The slots of those who take SETDASA at a static address.
+/// The slots of the devices that take SETDASA at a static address.
 fn unaddressed_at(setting: &Setting, fixed: Addr7) -> Answer {
     let takers = setting.devices.unaddressed_at(setting.active, fixed);
     told_set(setting.alloc, takers)

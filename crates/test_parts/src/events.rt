@@ -13,7 +13,7 @@ use i3c_events::{
 use i3c_word::Word;
 use std::alloc::Global;
 
-/// The most bits that may stand before a command: a mandatory byte's word and a header.
+/// The most bits that may come before a command: a mandatory byte's word and a header.
 pub(crate) const MOST_BEGUN: u16 = 18;
 
 /// The commands that set an address.
@@ -71,7 +71,7 @@ fn bits_of_length(words: &mut Words<'_>) -> Result<u16, Fault> {
     Ok(length_bits(&to, &answer_of(&heard)))
 }
 
-/// What became of a command: it was `heard`, or at its address by `nobody`.
+/// The result of a command: it was `heard`, or at its address by `nobody`.
 fn heard(words: &mut Words<'_>, to: Option<Addr7>) -> Result<Result<(), NoAnswer>, Fault> {
     match words.word()? {
         "heard" => Ok(Ok(())),
@@ -104,7 +104,7 @@ fn relength(setting: &mut Setting, words: &mut Words<'_>) -> Answer {
     told_hex(setting.alloc, &heard)
 }
 
-/// How SETMWL or SETMRL is told after the header of its frame.
+/// The symbols of SETMWL or SETMRL after the header of its frame.
 fn trace_of_length(alloc: Global, words: &mut Words<'_>) -> Answer {
     let way = words.named(&WAYS)?;
     let to = words.target()?;
@@ -131,7 +131,7 @@ fn readdress(setting: &mut Setting, call: &str, words: &mut Words<'_>) -> Answer
     told_hex(setting.alloc, &heard)
 }
 
-/// How SETDASA or SETNEWDA is told after the header of its frame: `heard`, or by nobody.
+/// The symbols of SETDASA or SETNEWDA after the header of its frame: `heard`, or by nobody.
 fn trace_of_setting(alloc: Global, words: &mut Words<'_>) -> Answer {
     let sets = words.named(&SETS)?;
     let target = words.address()?;

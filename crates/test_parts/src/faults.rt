@@ -10,7 +10,7 @@ pub(crate) enum Fault {
     Memory,
     /// The text's first line names no crate.
     NoCrate,
-    /// The line is no call, or its call wants something else, or may not be made.
+    /// The line is no call, or its call wants other arguments, or may not be made.
     Unknown,
 }
 

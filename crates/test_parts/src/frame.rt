@@ -96,7 +96,7 @@ fn quoted(alloc: Global, text: &str) -> Result<String, Fault> {
     Ok(read)
 }
 
-/// What stands between two quotes.
+/// The text between two quotes.
 fn unquoted(text: &str) -> Option<&str> {
     text.strip_prefix('"')?.strip_suffix('"')
 }

@@ -79,7 +79,7 @@ fn of_targets(alloc: Global, targets: &mut LegacyTargets, words: &mut Words<'_>)
     }
 }
 
-/// Writes bytes, of which there may be as many as registers.
+/// Writes bytes: at most as many as there are registers.
 fn written(alloc: Global, targets: &mut LegacyTargets, words: &mut Words<'_>) -> Answer {
     let address = words.address()?;
     let bytes = words.bytes(alloc)?;

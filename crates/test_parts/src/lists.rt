@@ -48,7 +48,7 @@ fn replace(list: &mut [Word], words: &mut Words<'_>) -> Result<(), Fault> {
     }
 }
 
-/// Appends so many devices without static addresses, each at an address that is so many further.
+/// Appends a number of devices without static addresses, each at an address a step above the one before.
 fn append(list: &mut Vec<Word>, words: &mut Words<'_>) -> Result<(), Fault> {
     let mut address = words.byte()?;
     let step = words.byte()?;

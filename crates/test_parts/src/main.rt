@@ -1,16 +1,16 @@
 //! `test_parts FILE` reads a text whose lines are calls of the public functions of a crate that the bus is made of, on a
 //! small setting. Its first line names the crate, as `crate i3c_word`. It prints each line and after it a line `= ANSWER`, if
-//! the call answers something. Lines that begin with
-//! `#` and empty lines are printed as they are, and a line that is no call is answered by `?`.
+//! the call answers something. Lines that begin with `#` and empty lines are printed as they are, and a line that is no call
+//! is answered by `?`.
 //!
-//! A call has the name of its function, and then its arguments, each parted from the next by a space. Slots, bits, counts
-//! and sizes are decimal; addresses, bytes, identities and words on a bus are hexadecimal. An identity is a PID, BCR and
-//! DCR, in one word or in three, or a BCR alone. For a slot `-` stands for the device in hand, which is in no slot, and for
-//! an address `all` for none. What is cut, who is active, and how many bits of a frame stand before a command, is set by
-//! lines of their own, until `new`.
+//! A call has the name of its function, and then its arguments, each parted from the next by a space. Slots, bits, counts and
+//! sizes are decimal; addresses, bytes, identities and words on a bus are hexadecimal. An identity is a PID, BCR and DCR, in
+//! one word or in three, or a BCR alone. For a slot `-` stands for the device in hand, which is in no slot, and for an
+//! address `all` for none. The cuts, the active controller's slot, and the number of bits of a frame before a command are set
+//! by lines of their own, until `new`.
 //!
-//! Answers of devices and of what frames carry have hexadecimal numbers too, but for counts, bits of frames, faults, and
-//! slots that stand alone. Of the crates that stand lowest each text says at its head which numbers are in which digits.
+//! Answers of devices and of frames' contents have hexadecimal numbers too, except for counts, bits of frames, faults, and
+//! slots alone. For the lowest crates each text says at its head which numbers are in which digits.
 //!
 //! `calls` has what is set, `subject` picks the crate, `words` reads what a line says, `setting` has what stays from one line
 //! to the next, and `told` prints answers. The other modules have the calls, each with those of a crate or of a part of one.

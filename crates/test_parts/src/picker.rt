@@ -7,7 +7,7 @@ use i3c_picker::pick;
 use i3c_table::{Row, Table};
 use std::alloc::Global;
 
-/// The calls that pick an address of the table: `give` also gives so many, one after another.
+/// The calls that pick an address of the table: `give` also gives a number of them, one after another.
 pub(crate) fn call(setting: &mut Setting, call: &str, words: &mut Words<'_>) -> Answer {
     let alloc = setting.alloc;
     match call {
@@ -17,7 +17,7 @@ pub(crate) fn call(setting: &mut Setting, call: &str, words: &mut Words<'_>) -> 
     }
 }
 
-/// Puts rows at the addresses that are picked, until there are so many or none is left.
+/// Puts rows at the addresses that are picked, until `count` are given or none is left.
 fn give(alloc: Global, table: &mut Table, count: u64) -> Answer {
     let mut given: Vec<Addr7> = Vec::new(alloc);
     for _ in 0..count {

@@ -47,7 +47,7 @@ fn pass_role(alloc: Global, words: &mut Words<'_>) -> Answer {
     told(alloc, &(before, after))
 }
 
-/// What becomes of the role that is offered to an address.
+/// The offer of the role to an address.
 fn offered(setting: &Setting, words: &mut Words<'_>) -> Result<Offer, Fault> {
     let address = words.address()?;
     let begun = setting.begun;
@@ -63,7 +63,7 @@ fn offered(setting: &Setting, words: &mut Words<'_>) -> Result<Offer, Fault> {
     ))
 }
 
-/// How an offer is told after the header of its frame.
+/// The symbols of an offer after the header of its frame.
 fn told_offer(alloc: Global, words: &mut Words<'_>) -> Answer {
     let address = words.address()?;
     let offer = match words.word()? {

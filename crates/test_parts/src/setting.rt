@@ -21,7 +21,7 @@ pub(crate) struct Setting {
     pub cuts: Cuts,
     /// With which the cuts are compared.
     pub others: Cuts,
-    /// So many bits of a frame stand before a command.
+    /// The number of bits of a frame before a command.
     pub begun: u16,
     pub policy: Counting,
     /// The legacy targets, as lines of their own declared them.

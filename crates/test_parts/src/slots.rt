@@ -21,7 +21,7 @@ pub(crate) fn call(setting: &mut Setting, call: &str, words: &mut Words<'_>) -> 
     nothing(setting.alloc)
 }
 
-/// A new device, in hand or in a slot. The static address of a `static-device` stands before its identity.
+/// A new device, in hand or in a slot. The static address of a `static-device` comes before its identity.
 fn enter(setting: &mut Setting, call: &str, words: &mut Words<'_>) -> Answer {
     let place = words.place()?;
     let fixed = match call {
@@ -102,7 +102,7 @@ fn accept_first(setting: &mut Setting) {
     }
 }
 
-/// Those whom it reaches hear a command.
+/// The devices that it reaches hear a command.
 fn command(setting: &mut Setting, words: &mut Words<'_>) -> Answer {
     let to = words.target()?;
     let code = words.code()?;
@@ -120,7 +120,7 @@ pub(crate) fn written(alloc: Global, words: &mut Words<'_>) -> Result<Vec<Word>,
     Ok(written)
 }
 
-/// An identity wins a round: those who hear and have it, and aren't cut by a bit, take an address.
+/// An identity wins a round: the hearers that have it, and aren't cut by a bit, take an address.
 fn assign(setting: &mut Setting, words: &mut Words<'_>) -> Answer {
     let identity = words.identity()?;
     let address = words.usable()?;
@@ -139,7 +139,7 @@ fn readdress(setting: &mut Setting, words: &mut Words<'_>) -> Answer {
     nothing(setting.alloc)
 }
 
-/// Those whom it reaches have a maximum length.
+/// The devices that it reaches have a maximum length.
 fn limit(setting: &mut Setting, words: &mut Words<'_>) -> Answer {
     let way = words.named(&WAYS)?;
     let to = words.target()?;
@@ -149,7 +149,7 @@ fn limit(setting: &mut Setting, words: &mut Words<'_>) -> Answer {
     nothing(setting.alloc)
 }
 
-/// Those who hear and have an identity.
+/// The hearers that have an identity.
 fn hearers_of(setting: &Setting, identity: &Identity) -> Result<SlotSet, Fault> {
     let mut hearers = Vec::new(setting.alloc);
     for slot in &slots_of(setting.alloc, setting.devices.hearers())? {

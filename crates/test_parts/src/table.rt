@@ -43,7 +43,7 @@ fn legacies_of(declared: &[(Addr7, Lvr)]) -> Result<Legacies, Fault> {
     Ok(legacies)
 }
 
-/// Enters a row at an address that may be picked, and keeps it for its device or not. A static address may stand behind.
+/// Enters a row at an address that may be picked, and keeps it for its device or not. A static address may follow.
 fn put(table: &mut Table, words: &mut Words<'_>, is_kept: bool) -> Result<(), Fault> {
     let address = words.address()?;
     let identity = words.identity()?;
@@ -137,7 +137,7 @@ fn renumber(table: &mut Table, words: &mut Words<'_>) -> Result<(), Fault> {
     Ok(())
 }
 
-/// Enters an identity again, with another BCR, at the address that is kept for it. A static address may stand behind.
+/// Enters an identity again, with another BCR, at the address that is kept for it. A static address may follow.
 fn put_again(table: &mut Table, words: &mut Words<'_>) -> Result<(), Fault> {
     let identity = words.identity()?;
     let bcr = Bcr(words.byte()?);

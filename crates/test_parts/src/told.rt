@@ -7,7 +7,7 @@ use std::fmt::{Debug, Display, Write};
 /// What a call answers, an empty text if nothing, or why it isn't made.
 pub(crate) type Answer = Result<String, Fault>;
 
-/// What stands before the number that an address, a slot or a PID is.
+/// The texts before the number of an address, a slot or a PID.
 const BEGINS: [&str; 3] = ["Addr7 { value: ", "Slot { value: ", "Pid { value: "];
 
 /// The answer of a call that answers nothing.
@@ -36,7 +36,7 @@ pub(crate) fn told<T: Debug>(alloc: Global, answer: &T) -> Answer {
     format!(in alloc; "{answer:?}").or(Err(Fault::Memory))
 }
 
-/// Such an answer, where there is one.
+/// An answer of this kind, if there is one.
 pub(crate) fn told_if<T: Debug + Drop>(alloc: Global, answer: Result<T, Fault>) -> Answer {
     told(alloc, &answer?)
 }
@@ -60,7 +60,7 @@ pub(crate) fn told_lvrs<T: Debug>(alloc: Global, answer: &T) -> Answer {
     bare(alloc, &told_hex(alloc, answer)?, "Lvr(", ")")
 }
 
-/// A text in which what stands between this beginning and this end stands alone.
+/// A text in which everything from this beginning to this end is replaced by the text between them.
 fn bare(alloc: Global, text: &str, begin: &str, end: &str) -> Answer {
     let mut bare = String::new(alloc);
     let mut rest = text;

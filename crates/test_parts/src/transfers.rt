@@ -36,7 +36,7 @@ pub(crate) fn call(setting: &mut Setting, call: &str, words: &mut Words<'_>) -> 
     }
 }
 
-/// A read: what it came to, its answer, or its bits.
+/// A read: its result, its answer, or its bits.
 fn of_read(setting: &Setting, call: &str, words: &mut Words<'_>) -> Answer {
     let alloc = setting.alloc;
     let to = words.address()?;
@@ -64,7 +64,7 @@ fn came(setting: &Setting, to: Addr7) -> Result<Read, Fault> {
     ))
 }
 
-/// A write: what it came to, its answer, or its bits.
+/// A write: its result, its answer, or its bits.
 fn of_write(setting: &mut Setting, call: &str, words: &mut Words<'_>) -> Answer {
     let alloc = setting.alloc;
     let to = words.address()?;
@@ -115,7 +115,7 @@ fn legacy_registers(setting: &Setting, words: &mut Words<'_>) -> Answer {
     }
 }
 
-/// How a read is told after the header of its frame.
+/// The symbols of a read after the header of its frame.
 fn trace_of_read(alloc: Global, words: &mut Words<'_>) -> Answer {
     let to = words.address()?;
     let came = read_named(alloc, words)?;
@@ -153,7 +153,7 @@ fn registers(words: &mut Words<'_>) -> Result<[u8; REGISTERS], Fault> {
     Ok(bytes)
 }
 
-/// How a write is told after the header of its frame.
+/// The symbols of a write after the header of its frame.
 fn trace_of_write(alloc: Global, words: &mut Words<'_>) -> Answer {
     let to = words.address()?;
     let wrote = words.named(&WRITES)?;
@@ -163,8 +163,8 @@ fn trace_of_write(alloc: Global, words: &mut Words<'_>) -> Answer {
     told_trace(alloc, &told.symbols)
 }
 
-/// A datum that is asked for: what it came to, its answer, or its bits. Behind the address stands whether the interrupts
-/// there have a byte.
+/// A read of a datum: its result, its answer, or its bits. The word behind the address says whether the interrupts there have
+/// a byte.
 fn of_get(setting: &Setting, call: &str, words: &mut Words<'_>) -> Answer {
     let alloc = setting.alloc;
     let what = words.named(&DATA)?;
@@ -196,7 +196,7 @@ fn count_of(words: &mut Words<'_>) -> Result<usize, Fault> {
     Ok(told_count(what, words.named(&BITS)?))
 }
 
-/// How a datum is told after the header of its frame.
+/// The symbols of a datum after the header of its frame.
 fn trace_of_get(alloc: Global, words: &mut Words<'_>) -> Answer {
     let what = words.named(&DATA)?;
     let to = words.address()?;

@@ -44,7 +44,7 @@ fn levels(alloc: Global, words: &mut Words<'_>) -> Result<Vec<bool>, Fault> {
     Ok(levels)
 }
 
-/// The contest of the contenders with the cuts, on so many bits: what was read, and the slots that won it.
+/// The contest of the contenders with the cuts, on `width` bits: the number that was read, and the slots that won it.
 fn held(setting: &Setting, width: u32) -> Answer {
     let alloc = setting.alloc;
     if width == 0 || width > 64 || !fit(&setting.contenders, width) {
@@ -56,7 +56,7 @@ fn held(setting: &Setting, width: u32) -> Answer {
     format!(in alloc; "({bits}, {winners})").or(Err(Fault::Memory))
 }
 
-/// Whether each contender's key has so many bits at most.
+/// Whether each contender's key has `width` bits at most.
 fn fit(contenders: &ArrayVec<(Slot, u64), SLOTS>, width: u32) -> bool
     requires { width ≤ 64 }
     ensures { IsTrue result → All (λ e. e.1 < 2 ^ width) contenders.now.items }
@@ -65,7 +65,7 @@ fn fit(contenders: &ArrayVec<(Slot, u64), SLOTS>, width: u32) -> bool
     contenders.iter().all(|contender| contender.1 <= most)
 }
 
-/// The largest number of so many bits.
+/// The largest number of `width` bits.
 fn largest(width: u32) -> u64
     requires { width ≤ 64 }
     ensures { result < 2 ^ width }

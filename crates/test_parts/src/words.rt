@@ -6,7 +6,7 @@ use i3c_ccc::Code;
 use i3c_word::{Word, write_word};
 use std::alloc::Global;
 
-/// The PID of an identity of which a line has the BCR alone.
+/// The PID of an identity for which a line has the BCR alone.
 const PID: u64 = 0x0204_0000_0010;
 
 /// Its DCR.

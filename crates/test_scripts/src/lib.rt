@@ -1,8 +1,8 @@
-//! Tests of scripts and traces, and of what their lines are made of, by public calls alone. Tests inside a crate would have
-//! it proved again, so these have a crate of their own.
+//! Tests of scripts and traces, and of the parts of their lines, by public calls alone. Tests inside a crate would have it
+//! proved again, so these have a crate of their own.
 //!
-//! `lines` has names, numbers and refusals, `script` whole scripts and traces with what they print, and readers and
-//! writers that fail.
+//! `lines` has names, numbers and refusals, `script` whole scripts and traces with what they print, and readers and writers
+//! that fail.
 #![tactic(auto)]
 
 #[cfg(test)]

@@ -5,7 +5,7 @@ use i3c_lines::{Name, Names, Refusal};
 use i3c_text::Text;
 use std::process::Abort;
 
-/// The name stands for this slot, or for none, as is due.
+/// The name has this slot, or the refusal that is expected.
 fn stands(rt: &impl Abort, names: &Names, name: &Name, due: Result<Slot, Refusal>) {
     same(rt, names.slot_of(name), due);
 }
@@ -88,7 +88,7 @@ impl Two {
         stands(rt, names, &self.second, Ok(self.one));
     }
 
-    // A name that was given to another slot stands there, though its old slot is taken by a new name.
+    // A name that was given to another slot has that one, though its old slot is taken by a new name.
     fn slots_exchanged(&self, rt: &impl Abort, names: &mut Names) {
         give(rt, names, &self.second, self.two);
         give(rt, names, &self.first, self.one);

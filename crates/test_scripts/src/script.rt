@@ -27,12 +27,12 @@ fn run(alloc: Global, script: &[u8]) -> (Vec<u8>, Result<Tally, ScriptFault>) {
     (printed, outcome)
 }
 
-/// What a script comes to of which so many lines are refused, and that expects nothing.
+/// The tally of a script with this number of refused lines, and without expectations.
 fn tally(refused: u64) -> Tally {
     Tally { refused, unmet: 0 }
 }
 
-/// A script prints this, and so many of its lines are refused.
+/// A script prints this, and this number of its lines are refused.
 fn prints(rt: &impl Abort, alloc: Global, script: &str, wanted: &str, refused: u64) {
     let (printed, outcome) = run(alloc, script.as_bytes());
     let printed = str::from_utf8(&printed).unwrap_or("no text");
@@ -47,7 +47,7 @@ fn goes_on(rt: &impl Abort, alloc: Global, script: &str, wanted: &str, refused: 
     prints(rt, alloc, script.as_str(), wanted.as_str(), refused);
 }
 
-/// The last line of what was printed.
+/// The last line of an output.
 fn last_line<'a>(rt: &impl Abort, printed: &'a [u8]) -> &'a str {
     let text = str::from_utf8(printed).expect(rt, "a text");
     text.lines().last().expect(rt, "a line")
@@ -92,7 +92,7 @@ fn long_lines(rt: HostRuntime) {
     }
 }
 
-/// A line of so many bytes.
+/// A line of `length` bytes.
 fn long_line(rt: &impl Abort, alloc: Global, first: char, length: usize) -> String {
     let mut line = String::new(alloc);
     line.push(first).expect(rt, "memory");
@@ -112,7 +112,7 @@ fn alone_and_not_last(rt: &impl Abort, alloc: Global, line: &str, wanted: &str) 
     same_in(rt, line, printed.as_slice(), wanted.as_bytes());
 }
 
-/// A script of so many bytes: comments, and at last a line of four bytes.
+/// A script of `length` bytes: comments, and at last a line of four bytes.
 fn long_script(rt: &impl Abort, alloc: Global, length: usize) -> Vec<u8> {
     let mut script = Vec::new(alloc);
     for _ in 0..length {
@@ -125,7 +125,7 @@ fn long_script(rt: &impl Abort, alloc: Global, length: usize) -> Vec<u8> {
     script
 }
 
-// The line that ends with the last byte that a script may have is run, and one that ends later isn't.
+// A line that ends with a script's last allowed byte is run, and one that ends later isn't.
 #[test]
 fn large_scripts(rt: HostRuntime) {
     let mut script = long_script(&rt, rt.alloc(), SCRIPT_LENGTH);
@@ -183,7 +183,7 @@ fn a_reader_fails(rt: HostRuntime) {
     }
 }
 
-/// A writer that takes so many bytes, and then fails or takes nothing.
+/// A writer that takes a number of bytes, and then fails or takes nothing.
 #[derive(Drop)]
 struct FullWriter {
     printed: Vec<u8>,
@@ -227,7 +227,7 @@ fn a_writer_fails(rt: HostRuntime) {
     }
 }
 
-/// A reader or a writer over memory, of which one call alone fails. Later calls go on as if nothing had been.
+/// A reader or a writer over memory with one call that fails. Later calls go on as if nothing had been.
 #[derive(Drop)]
 struct Flaky<'a> {
     rest: &'a [u8],
@@ -346,7 +346,7 @@ fn one_read_fails(rt: HostRuntime) {
     same(&rt, printed, whole.len());
 }
 
-/// So many interrupts that are raised and served, as a script's lines.
+/// The lines of a script that raises and serves `count` interrupts.
 fn served(rt: &impl Abort, alloc: Global, count: u64) -> String {
     let mut script = String::new(alloc);
     for number in 1..=count {
@@ -405,7 +405,7 @@ fn symbols_are_a_trace(rt: HostRuntime) {
     same(&rt, symbols.len(), 252);
 }
 
-/// A script of so many sessions, and then the wire's symbols.
+/// A script of `count` sessions, and then the wire's symbols.
 fn sessions(rt: &impl Abort, alloc: Global, count: u64) -> String {
     let mut script = String::from_str(alloc, HUB).expect(rt, "memory");
     for _ in 0..count {

@@ -71,7 +71,7 @@ fn the_next_port_is_told(rt: HostRuntime) {
     on_a_bus::<TheNextPortIsTold, HostRuntime>(&rt, rt.alloc());
 }
 
-/// A port that was let go is out for good, and so is that of a device that a cut took away, until it is handed in.
+/// A port that was let go is out for good. The port of a device that a cut took away is out until it is handed in.
 struct PortsOfNobodyAreOut;
 
 impl Trial for PortsOfNobodyAreOut {

@@ -14,8 +14,8 @@ use std::process::Abort;
 use std::sync::Wait;
 use std::sync::ledger::{Blank, Ledger};
 
-/// A port of the slot of another bus, with one untaken post, if there is memory for that bus. The bus and what else it had
-/// are let go.
+/// A port of the slot of another bus, with one untaken post, if there is memory for that bus. That bus and the rest of it are
+/// let go.
 fn stranger<R: Wait + Abort>(rt: &R, alloc: Global, at: Slot) -> Option<Port> {
     let (active, session, frames) = (Blank::new(1), Blank::new(1), Blank::new(1));
     stranger_with::<R, Brand, Brand, Brand>(rt, alloc, at, active, session, frames)

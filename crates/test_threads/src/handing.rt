@@ -97,7 +97,7 @@ fn the_new_holder_takes_the_role(rt: HostRuntime) {
     on_a_bus::<TheNewHolderTakesTheRole, HostRuntime>(&rt, rt.alloc());
 }
 
-/// Who holds the role doesn't wish for it.
+/// The holder of the role doesn't wish for it.
 struct TheNewHolderDoesNotAsk;
 
 impl Trial for TheNewHolderDoesNotAsk {

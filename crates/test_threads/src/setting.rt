@@ -45,7 +45,7 @@ pub(crate) fn target<R: Abort>(rt: &R) -> Setup {
     setup(rt, 0x0204_0000_0010, 0x06, 0x44)
 }
 
-/// Another such device, whose number is greater.
+/// Another target, with a greater number.
 pub(crate) fn other_target<R: Abort>(rt: &R) -> Setup {
     setup(rt, 0x0204_0000_0011, 0x06, 0x44)
 }
@@ -276,7 +276,7 @@ pub(crate) fn served<L: Ledger, M: Ledger, N: Ledger, R: Wait>(
     commanded(rt, bus, role, Command::Serve, Cuts::new())
 }
 
-/// A serve that accepts all comes to this.
+/// A serve that accepts all has this result.
 pub(crate) fn serves<L: Ledger, M: Ledger, N: Ledger, R: Wait + Abort>(
     rt: &R,
     bus: &SharedBus<L, M, N>,
@@ -476,7 +476,7 @@ pub(crate) fn closed<L: Ledger, M: Ledger, N: Ledger, R: Abort>(
     }
 }
 
-/// What comes back where a close is refused so: a role if there was one, and as many ports.
+/// What a refused close hands back: a role if there was one, and as many ports.
 pub(crate) fn unclosed<L: Ledger, M: Ledger, N: Ledger, R: Abort>(
     rt: &R,
     bus: SharedBus<L, M, N>,
@@ -537,7 +537,7 @@ pub(crate) fn got(run: &Run, place: usize) -> Option<Entry> {
     }
 }
 
-/// Whether these entries stand in the run from this place on.
+/// Whether these entries are in the run from this place on.
 pub(crate) fn has_from(run: &Run, place: usize, due: &[Entry]) -> bool {
     let mut at = place;
     for entry in due {

@@ -51,7 +51,7 @@ impl<'a, R: Clock> Policy for Lingering<'a, R> {
     }
 }
 
-/// What a serve under such a policy answers.
+/// The answer to a serve under a policy that lingers.
 fn serve_lingering<L: Ledger, M: Ledger, N: Ledger, R: Wait + Clock>(
     rt: &R,
     bus: &SharedBus<L, M, N>,
@@ -196,7 +196,7 @@ fn ask_and_count<L: Ledger, M: Ledger, N: Ledger, R: Wait>(
     }
 }
 
-/// Each of these ports' devices asks to join, from a thread of its own where one can be made, and else from this one.
+/// Each of these ports' devices asks to join, from a thread of its own if one can be made, and otherwise from this one.
 fn ask_from_threads<
     L: Ledger + Send + Sync,
     M: Ledger + Send + Sync,
@@ -264,7 +264,7 @@ fn asked(at: Slot) -> Entry {
     entry(Event::AskJoin(at), Reply::Asked)
 }
 
-/// Whether this entry stands in the run.
+/// Whether this entry is in the run.
 fn has(run: &Run, due: &Entry) -> bool {
     for place in 0..run.len() {
         match got(run, place) {

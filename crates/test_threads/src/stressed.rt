@@ -38,7 +38,7 @@ impl<'a, R: Clock> Watched<'a, R> {
         }
     }
 
-    /// Waits until so many calls were counted.
+    /// Waits until `least` calls were counted.
     fn wait_for(&self, calls: &AtomicU64, least: u64) {
         if !reached(self.rt, calls, least) {
             self.late.fetch_add(1, Ordering::SeqCst);
@@ -83,7 +83,7 @@ fn raised(byte: u8, reply: Reply) -> Entry {
     entry(Event::Raise(Slot::from_index(1), Some(byte)), reply)
 }
 
-/// What has to stand at a place of the run: eight accepted raises, a serve, four refused raises, and eleven serves.
+/// The expected entry at a place of the run: eight accepted raises, a serve, four refused raises, and eleven serves.
 fn due(place: usize) -> Entry {
     match place {
         5..=12 => raised(place as u8 - 5, Reply::Raised(place as u64 - 4)),
@@ -95,7 +95,7 @@ fn due(place: usize) -> Entry {
     }
 }
 
-/// What a watched run came to: its report, whether it had all the memory that it asked for, how often a thread waited for
+/// The result of a watched run: its report, whether it had all the memory that it asked for, how often a thread waited for
 /// too long, and how often something was wrong.
 #[derive(Drop)]
 struct Outcome {

@@ -125,7 +125,7 @@ impl<'a, R: Clock> Policy for Patient<'a, R> {
     }
 }
 
-/// What the serve under such a policy answers.
+/// The answer to a serve under a patient policy.
 fn serve_patiently<L: Ledger, M: Ledger, N: Ledger, R: Wait + Clock>(
     rt: &R,
     bus: &SharedBus<L, M, N>,
@@ -137,7 +137,7 @@ fn serve_patiently<L: Ledger, M: Ledger, N: Ledger, R: Wait + Clock>(
     commanded_by(rt, bus, role, Command::Serve, &mut policy, Cuts::new())
 }
 
-/// Nine posts of the bytes 1 to 9, once the policy was asked. It answers what the ninth came to.
+/// Nine posts of the bytes 1 to 9, once the policy was asked. It answers the result of the ninth.
 fn post_nine<R: Clock>(rt: &R, port: &mut Port, counts: &Counts) -> Result<(), Full> {
     if !reached(rt, &counts.asked, 1) {
         counts.late.fetch_add(1, Ordering::SeqCst);

@@ -7,7 +7,7 @@ use crate::script::{HUB, HUB_LINE, last_line, prints, run};
 use std::alloc::Global;
 use std::process::Abort;
 
-/// The usable dynamic address that comes after so many others, from `08` on: `3E`, `5E`, `6E` and `76` are left out.
+/// The usable dynamic address behind the first `before`, from `08` on: `3E`, `5E`, `6E` and `76` are left out.
 fn usable_address(before: u8) -> u8
     requires { before < 108 }
 {
@@ -54,7 +54,7 @@ fn coming_lines(rt: &impl Abort, alloc: Global) -> String {
 const LAST: &str = "attach d 02040001006B 06 44\nopen\nround\nround\nend\ndrop d\n\
     attach d 02040001006C 06 44\ndaa\nshow\nsymbols\n";
 
-/// What that prints, but for the symbols.
+/// Its output, except for the symbols.
 const LAST_LINES: &str =
     "d slot 1\nopen\nassigned 77 02040001006B 06 44\nrefused NoAddress\nended\ndropped\n\
     d slot 1\nrefused NoAddress\nactive 08\nhub 08 waiting 0\nd -- waiting 0\nrecords 0\n";
@@ -83,7 +83,7 @@ fn all_come(rt: &impl Abort, alloc: Global) -> String {
     format!(in alloc; "{HUB}{coming}{LAST}").expect(rt, "memory")
 }
 
-/// The 53rd and the 54th device stand beside an address that is left out.
+/// The addresses of the 53rd and the 54th device are next to one that is left out.
 fn left_out(rt: &impl Abort, lines: &str) {
     let is_before = lines.contains("assigned 3D 020400010035 06 44\n");
     holds(rt, is_before, "the 53rd has 3D");

@@ -28,7 +28,7 @@ fn script(rt: &impl Abort, alloc: Global) -> String {
     script
 }
 
-/// What its lines print that end within so many bytes.
+/// The output of its lines that end within the first `bytes` bytes.
 fn answers_within(rt: &impl Abort, alloc: Global, bytes: usize) -> String {
     let (mut answers, mut end) = (String::new(alloc), 0usize);
     for (line, answer) in HANDOVER {

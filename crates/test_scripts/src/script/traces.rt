@@ -24,7 +24,7 @@ fn a_trace_is_not_read(rt: HostRuntime) {
     }
 }
 
-// With room for a beginning of what is told, this is what goes out.
+// With room for a prefix of the lines, this is written out.
 #[test]
 fn a_trace_is_not_written(rt: HostRuntime) {
     for room in 0..TOLD.len() {

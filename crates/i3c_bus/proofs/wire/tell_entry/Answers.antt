@@ -7,7 +7,6 @@ use Rattle.i3c_word.specs.declared.Word.{Word as WordValue}
 use Rattle.i3c_bus.proofs.Listing.{four_words}
 use Rattle.i3c_bus.proofs.wire.tell_entry.Goals as goal
 
--- a blank word
 abbrev blank : WordValue
 blank = record { byte = 0; t = false }
 

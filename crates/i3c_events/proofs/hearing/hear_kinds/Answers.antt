@@ -1,4 +1,4 @@
--- Who is reached, and what they do with the command.
+-- The devices that the command reaches, and its effect on them.
 use Rattle.std.proofs.Common.{◌≡◌, ◌+◌, ◌∙◌, ℕ, Some, refl, sym, subst}
 use Rattle.std.proofs.lemmas.Bool.{both_ways, false≢true}
 use Rattle.std.proofs.lemmas.Option.{same_Some}

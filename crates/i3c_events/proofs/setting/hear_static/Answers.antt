@@ -1,4 +1,4 @@
--- Who takes the new address, and that nobody does where none is left to acknowledge.
+-- The devices that take the new address: none if no device is left to acknowledge.
 use Rattle.std.proofs.Common.{◌+◌, refl}
 use Rattle.std.proofs.lemmas.Bool.{both_ways, false≢true}
 use Rattle.i3c_base.specs.Cutting.{lost_by}

@@ -1,4 +1,4 @@
--- Where none of these slots is a driver, nobody drives; else the lowest has a front.
+-- If none of these slots is a driver, there is no driver; otherwise the lowest has a front.
 use Rattle.std.proofs.Common.{sym, ◌∙◌}
 use Rattle.std.proofs.lemmas.Bool.{both_ways}
 use Rattle.i3c_base.specs.declared.requests.Request.TheVariants.{Interrupt}

@@ -1,4 +1,4 @@
--- The byte that the fronts have is read where one is due, and there is none where none is.
+-- The byte of the fronts is read if they have one, and otherwise none.
 use Rattle.std.proofs.Common.{◌≡◌, ◌∙◌, ap, sym, subst, is_some}
 use Rattle.i3c_base.specs.declared.requests.Request.TheVariants.{Interrupt}
 use Rattle.i3c_base.specs.State.{Population, population, with_active}

@@ -1,7 +1,7 @@
 use Rattle.std.proofs.Common.{◌≤◌, [], arith, Ok, refl, subst, sym}
 use Rattle.std.proofs.lemmas.Grind.{common_steps}
 use Rattle.i3c_base.specs.State.{no_board}
-use Rattle.i3c_facts.specs.declared.holding.Before.{Before}
+use Rattle.i3c_facts.specs.declared.before.Before.{Before}
 use Rattle.i3c_script.specs.declared.stage.Stage.{Stage}
 use Rattle.i3c_script.specs.Obeying.{script}
 use Rattle.i3c_scenario.specs.Expecting.{HasBegun, Standing}

@@ -1,4 +1,4 @@
--- Whoever tells has the identity that the table has.
+-- A device that tells it has the identity that the table has.
 use Rattle.i3c_step.proofs.Data.{data_along}
 use Rattle.i3c_step.proofs.laws.data_are_of_the_table.Goals as goal
 

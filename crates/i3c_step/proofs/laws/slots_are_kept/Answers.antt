@@ -1,4 +1,4 @@
--- No event does anything else.
+-- No other event changes a slot.
 use Rattle.i3c_step.proofs.SlotLaws.{slots_kept}
 use Rattle.i3c_step.proofs.laws.slots_are_kept.Goals as goal
 

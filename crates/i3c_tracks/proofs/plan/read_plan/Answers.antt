@@ -2,7 +2,7 @@
 use Rattle.std.proofs.Common.{◌∙◌, ◌+◌, [], ◌∷◌, arith, subst, sym}
 use Rattle.i3c_tracks.specs.declared.plan.Plan.{Plan}
 use Rattle.i3c_tracks.specs.Planning.{IsPlan}
-use Rattle.i3c_tracks.specs.Saying.{IsSaid}
+use Rattle.i3c_tracks.specs.Saying.{IsFileLine}
 use Rattle.i3c_tracks.proofs.Reading.{formed, if_ok, none_said, one_said}
 use Rattle.i3c_tracks.proofs.plan.read_plan.Goals as goal
 
@@ -16,7 +16,7 @@ loop-index-preserved c =
       later.0,
       later.1,
       λ rest are.
-          let says = subst (λ bytes. IsSaid bytes taken.0) c.as_slice.ensures.value taken.1 in
+          let says = subst (λ bytes. IsFileLine bytes taken.0) c.as_slice.ensures.value taken.1 in
           let all = so_far.2 ((at + 1, taken.0) ∷ rest) (one_said c.args.lines.now at line taken.0 rest c.loop-index-test.true c.index-lines-index.is says (formed c.loop-index.draft taken.0 taken.2) are) in
           (all.0, all.1, all.2 ∙ sym (later.2 rest)),
     )

@@ -2,7 +2,7 @@ use Rattle.std.proofs.Common.{◌≡◌, length}
 use Rattle.i3c_wave.specs.CaptureTexts.{bytes_read, input, letters_in}
 use Rattle.i3c_wave.proofs.capture_run.take_bytes.Given as goal
 
--- what is read so far leads with the bytes to come to what all bytes lead to
+-- the bytes read so far lead with the rest to the result of all bytes
 abbrev pub invariant-loop-count : goal.invariant-loop-count
 invariant-loop-count l = record {
   count : l.count ≡ letters_in l.rest;

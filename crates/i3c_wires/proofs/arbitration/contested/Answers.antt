@@ -8,7 +8,7 @@ use Rattle.i3c_wires.proofs.TurnLaws.{IsTop, first_of, none_contend, none_of, tu
 use Rattle.i3c_wires.proofs.arbitration.contested.Goals as goal
 use Rattle.i3c_wires.proofs.arbitration.contested.Goals.{then-low-eq0, else-low-eq0}
 
--- those who are cut at a bit, by the bits that follow it
+-- the contenders that are cut at a bit, by the bits that follow it
 cut_there : (cuts : CutList) (keys : List (ℕ × ℕ)) (width t drop : ℕ) → drop ≡ mask_of (λ (e : ℕ × ℕ). is_at (width - 1 - t) (cut_of cuts e.0)) keys → drop ≡ mask_of (λ (e : ℕ × ℕ). is_at (width - suc t) (cut_of cuts e.0)) keys
 cut_there cuts keys width t drop e =
     let same : width - 1 - t ≡ width - suc t = omega arith in

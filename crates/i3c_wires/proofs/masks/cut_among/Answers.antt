@@ -1,4 +1,4 @@
--- Each contender is put in who is cut there.
+-- Each contender that is cut there is put in.
 use Rattle.std.proofs.Common.{ℕ, ap, arith, refl, sym, ◌∙◌}
 use Rattle.std.proofs.lemmas.Bool.{cond-false, cond-true}
 use Rattle.std.proofs.lemmas.Nat.{one_shl}

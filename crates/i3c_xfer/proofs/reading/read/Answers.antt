@@ -13,7 +13,7 @@ use Rattle.i3c_xfer.proofs.TransferLaws.{all_lost, and_there, any_there, devices
 use Rattle.i3c_xfer.proofs.reading.read.Goals as goal
 use Rattle.i3c_xfer.proofs.reading.read.Goals.{After-is_heard, After-new-bytes}
 
--- no legacy target stands there
+-- no legacy target is there
 free : (c : After-is_heard) (st : State) → st.legacy ≡ c.args.legacy.now → legacy_target_at st c.args.to ≡ None
 free c st e = legacy_there st c.args.to c.args.legacy.now c.get.result e c.get.ensures ∙ c.in_default.is
 

@@ -1,4 +1,4 @@
--- The code, and what came of it.
+-- The code, and the answer to it.
 use Rattle.std.proofs.Common.{◌∷◌, ◌∙◌, ap, false, refl, subst, sym, true}
 use Rattle.i3c_frame.specs.declared.symbols.Symbol.{Symbol}
 use Rattle.i3c_xfer.specs.declared.wire.Side.{Side}

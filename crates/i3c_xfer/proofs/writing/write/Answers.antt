@@ -1,4 +1,4 @@
--- Where the header is acknowledged the bytes are written, and else nothing changes.
+-- If the header is acknowledged the bytes are written, and otherwise nothing changes.
 use Rattle.std.proofs.Common.{◌+◌, ◌∙◌, sym}
 use Rattle.std.proofs.lemmas.Bool.{both_ways}
 use Rattle.i3c_base.specs.declared.answers.Answer.{Answer}

@@ -1,4 +1,4 @@
--- The mask's bit is set, and the earlier bit stands at the slot.
+-- The mask's bit is set, and the earlier bit is in the slot's place.
 use Rattle.std.proofs.Common.{◌≡◌, ◌∙◌, ap, arith}
 use Rattle.i3c_base.specs.declared.range.TheConstants.{SLOTS}
 use Rattle.i3c_base.specs.Cutting.{cut_of, earlier}

@@ -1,4 +1,4 @@
--- Whom the command reaches hears it, and who is cut by then is gone.
+-- Each device that the command reaches hears it, and devices cut by then are gone.
 use Rattle.std.proofs.Common.{◌∙◌, ◌+◌, ℕ, ap, subst, sym}
 use Rattle.i3c_base.specs.declared.answers.Answer.{Answer}
 use Rattle.i3c_base.specs.Cutting.{lost_by}

@@ -1,4 +1,4 @@
--- Who has the old address has the new one, and the row moves there; or nothing changes.
+-- The devices with the old address have the new one, and the row moves there; or nothing changes.
 use Rattle.std.proofs.Common.{◌≡◌, ◌∙◌, ◌+◌, ◌↔◌, ℕ, List, Option, true, ap, refl, subst, sym, Result, IsOk, MatchResult, false}
 use Rattle.std.proofs.lemmas.Bool.{both_ways}
 use Rattle.i3c_base.specs.Covered.{Table}
@@ -20,7 +20,7 @@ use Rattle.i3c_bus.proofs.bus.Bus.give_new.Goals as goal
 same : (c : goal.After-renumber) → HasDevices (seen c.self.inside) c.self.inside.devices c.active-active.result
 same c = seen_devices _ _ _ c.self.view_is c.active-active.ensures
 
--- who was there, and the devices then
+-- a device has the old address, and the devices afterwards
 heard : (c : goal.After-renumber) → AnyAt (seen c.self.inside) c.args.old × (c.hear_new-heard.new.devices ≡ each_in (with_new_at c.active-active.result c.args.old c.args.new) c.self.inside.devices)
 heard c = subst (λ (r : Result (Unit {0}) NoAnswer). MatchResult r
     (λ u. AnyAt (seen c.self.inside) c.args.old × (c.hear_new-heard.new.devices ≡ each_in (with_new_at c.active-active.result c.args.old c.args.new) c.self.inside.devices))

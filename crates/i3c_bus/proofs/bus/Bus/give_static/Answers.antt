@@ -1,4 +1,4 @@
--- Who takes SETDASA has the new address, and so has the table; or nothing changes.
+-- The devices that take SETDASA have the new address, and so has the table; or nothing changes.
 use Rattle.std.proofs.Common.{◌≡◌, ◌∙◌, ◌+◌, ◌||◌, ◌↔◌, ℕ, List, Option, Some, true, ap, inl, inr, refl, subst, sym, Result, IsOk, MatchResult, false}
 use Rattle.std.proofs.lemmas.Bool.{both_ways, or_cases}
 use Rattle.i3c_base.specs.Covered.{Table}
@@ -25,7 +25,7 @@ given c = subst (λ (h : Held). (is_pickable h.state c.args.new || is_kept_for h
 same : (c : goal.After-settle) → HasDevices (seen c.self.inside) c.self.inside.devices c.active-active.result
 same c = seen_devices _ _ _ c.self.view_is c.active-active.ensures
 
--- who was there, and the devices then
+-- a device without a dynamic address is at the static one, and the devices afterwards
 heard : (c : goal.After-settle) → AnyUnaddressedAt (seen c.self.inside) c.args.fixed × (c.hear_static-heard.new.devices ≡ each_in (with_static_at c.active-active.result c.args.fixed c.args.new) c.self.inside.devices)
 heard c = subst (λ (r : Result (Unit {0}) NoAnswer). MatchResult r
     (λ u. AnyUnaddressedAt (seen c.self.inside) c.args.fixed × (c.hear_static-heard.new.devices ≡ each_in (with_static_at c.active-active.result c.args.fixed c.args.new) c.self.inside.devices))

@@ -1,4 +1,4 @@
--- Who has the old address has the new one, and who is cut by then is gone.
+-- The devices with the old address have the new one, and devices cut by then are gone.
 use Rattle.std.proofs.Common.{◌∙◌, ◌+◌, ℕ, Some, ap, subst, sym}
 use Rattle.i3c_base.specs.declared.answers.Answer.{Answer}
 use Rattle.i3c_base.specs.Cutting.{lost_by}

@@ -1,4 +1,4 @@
--- Who takes SETDASA has the new address, and who is cut by then is gone.
+-- The devices that take SETDASA have the new address, and devices cut by then are gone.
 use Rattle.std.proofs.Common.{◌∙◌, ◌+◌, ℕ, Some, ap, subst, sym}
 use Rattle.i3c_base.specs.declared.answers.Answer.{Answer}
 use Rattle.i3c_base.specs.Cutting.{lost_by}

@@ -1,4 +1,4 @@
--- Who took the bytes is told, and who is cut by then is gone.
+-- The party that took the bytes is told, and devices cut by then are gone.
 use Rattle.std.proofs.Common.{◌≡◌, ◌∙◌, ◌+◌, ℕ, ap, refl, subst, sym}
 use Rattle.i3c_base.specs.declared.answers.Answer.{Answer}
 use Rattle.i3c_base.specs.Cutting.{lost_by}

@@ -3,7 +3,7 @@ use Rattle.i3c_scenario.specs.Outcomes.{HasNoFeed}
 use Rattle.i3c_scenario.proofs.LinesRead.{gives}
 use Rattle.i3c_scenario.proofs.script_lines.ScriptLines.take_line.Goals as goal
 
--- the line that ends so many bytes behind a place
+-- the line that ends `end` bytes behind a place
 abbrev Gives : ℕ → ℕ → List ℕ → Type 0
 Gives next end bytes = HasNoFeed (take (next + end - next) (drop next bytes)) × (take (next + end + 1) bytes ≡ take next bytes ++ (take (next + end - next) (drop next bytes) ++ 10 ∷ []))
 

@@ -31,8 +31,8 @@ returns-in-Err-clause-never g c =
 
 pub returns-in-Ok-handed-clause-told : goal.returns-in-Ok-handed-clause-told
 returns-in-Ok-handed-clause-told g c =
-    rw (← c.self.view_is) (told_as g.T.Tap.note_gives c.args.tap.now c.carry.new.tap c.self.inside.intake.log (Event.HandOver c.args.to c.args.cuts) c.in-Ok.reply _ c.carry.new.self.log (ap Some (sym c.in-Ok-handed.ensures)) c.in-Ok.ensures.1)
+    rw (← c.self.view_is) (told_as g.T.Tap.note_gives c.args.tap.now c.take_and_apply.new.tap c.self.inside.intake.log (Event.HandOver c.args.to c.args.cuts) c.in-Ok.reply _ c.take_and_apply.new.self.log (ap Some (sym c.in-Ok-handed.ensures)) c.in-Ok.ensures.1)
 
 pub returns-in-Err-clause-told : goal.returns-in-Err-clause-told
 returns-in-Err-clause-told g c =
-    rw (← c.self.view_is) (told_as g.T.Tap.note_gives c.args.tap.now c.carry.new.tap c.self.inside.intake.log (Event.HandOver c.args.to c.args.cuts) c.in-Ok.reply _ c.carry.new.self.log (unhanded_as (record { holder = c.count.new.shares.active; frames = c.count.new.shares.frames }) c.in-Err.why c.in-Ok.reply c.in-Err.ensures) c.in-Ok.ensures.1)
+    rw (← c.self.view_is) (told_as g.T.Tap.note_gives c.args.tap.now c.take_and_apply.new.tap c.self.inside.intake.log (Event.HandOver c.args.to c.args.cuts) c.in-Ok.reply _ c.take_and_apply.new.self.log (unhanded_as (record { holder = c.count.new.shares.active; frames = c.count.new.shares.frames }) c.in-Err.why c.in-Ok.reply c.in-Err.ensures) c.in-Ok.ensures.1)

@@ -24,7 +24,7 @@ returns-clause-rounds g c = search rules
 
 pub returns-clause-told : goal.returns-clause-told
 returns-clause-told g c =
-    let told = told_as g.T.Tap.note_gives c.args.tap.now c.carry.new.tap c.self.inside.intake.log (Event.Round c.args.cuts) c.in-Ok.reply (round_reply c.match-rounded.result) c.carry.new.self.log in
+    let told = told_as g.T.Tap.note_gives c.args.tap.now c.take_and_apply.new.tap c.self.inside.intake.log (Event.Round c.args.cuts) c.in-Ok.reply (round_reply c.match-rounded.result) c.take_and_apply.new.self.log in
     rw (← c.self.view_is) (elim c.match-rounded.branch [
       | in-Ok-rounded w ↦ told (ap round_reply w.result-is ∙ ap Some (sym w.in-Ok-rounded.ensures)) c.in-Ok.ensures.1
       | in-Err w ↦ told (ap round_reply w.result-is ∙ ap Some (sym w.in-Err.ensures)) c.in-Ok.ensures.1

@@ -1,5 +1,5 @@
 use Rattle.std.proofs.Common.{Some, refl}
-use Rattle.i3c_tracks.specs.declared.said.Said.{Said}
+use Rattle.i3c_tracks.specs.declared.file_line.FileLine.{FileLine}
 use Rattle.i3c_tracks.specs.Drafting.{ReadsOn}
 use Rattle.i3c_tracks.proofs.Reading.{on_ok, read_behind}
 use Rattle.i3c_tracks.proofs.draft.Draft.add_mark.Goals as goal
@@ -8,4 +8,4 @@ pub returns-in-Some : goal.returns-in-Some
 returns-in-Some c =
     let old = c.args.self.now in
     let later = c.add_mark.new.self in
-    on_ok c.add_mark.result (λ (on : ReadsOn c.in-Some.body (c.args.number, Said.Marks c.args.mark) later). read_behind old (record old { body = Some later }) c.in-Some.body later (c.args.number, Said.Marks c.args.mark) c.in-Some.is refl on) c.add_mark.ensures
+    on_ok c.add_mark.result (λ (on : ReadsOn c.in-Some.body (c.args.number, FileLine.Marks c.args.mark) later). read_behind old (record old { body = Some later }) c.in-Some.body later (c.args.number, FileLine.Marks c.args.mark) c.in-Some.is refl on) c.add_mark.ensures

@@ -1,5 +1,0 @@
-use Rattle.std.proofs.Common.{length}
-use Rattle.i3c_facts.proofs.claims.+read_claims.Given as goal
-
-abbrev pub decreases-read_claims : goal.decreases-read_claims
-decreases-read_claims l = length l.tokens.now

@@ -1,5 +1,0 @@
-use Rattle.i3c_facts.proofs.ClaimLaws.{IsNoOrBelow}
-use Rattle.i3c_facts.proofs.claims.split_or.Given as goal
-
-abbrev pub invariant-loop-at : goal.invariant-loop-at
-invariant-loop-at l = IsNoOrBelow l.tokens l.at

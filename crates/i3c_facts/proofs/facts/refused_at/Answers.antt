@@ -1,7 +1,0 @@
-use Rattle.i3c_facts.proofs.FactArgs.{refused_at_args}
-use Rattle.i3c_facts.proofs.facts.refused_at.Goals as goal
-
-pub returns-in_err-why : goal.returns-in_err-why
-returns-in_err-why c =
-    rw c.from_residual.ensures
-    (λ fact form. let f = refused_at_args c.args.token.now c.args.address.now fact c.requires.at c.requires.waiting form in c.in_err-why.ensures f.0 f.1)
