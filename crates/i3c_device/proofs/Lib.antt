@@ -17,5 +17,4 @@ pub mod LeastLaws
 pub mod KeepLaws
 mod LengthLaws
 mod RegisterLaws
-mod EightLaws
 pub mod ByteFieldLaws

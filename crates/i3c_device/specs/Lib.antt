@@ -14,5 +14,4 @@ pub mod Answering
 pub mod Least
 pub mod Keeping
 pub mod Lengths
-pub mod Registers
 pub mod ByteFields

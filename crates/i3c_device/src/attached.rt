@@ -3,7 +3,6 @@ ghost use Rattle.std.specs.Int.{from_le_bytes, w64};
 ghost use Rattle.i3c_base.specs.declared.device.TheConstants.{REGISTERS as REGISTER_COUNT};
 ghost use Rattle.i3c_base.specs.Frames.{pid_bytes};
 ghost use Rattle.i3c_device.specs.ByteFields.{HaveSameByteFields, FitBytes, field_bytes};
-ghost use Rattle.i3c_device.specs.Registers.{eight_from};
 
 use crate::answering::NOWHERE;
 use crate::byte_address::ByteAddress;
@@ -118,31 +117,56 @@ impl Attached {
     pub fn copy_from(&mut self, other: &Attached)
         ensures { self.new ≡ other.now }
     {
+        // all that has a byte is read before any of it is written, so that the compiler moves the bytes as one word
+        let fixed = other.fixed.copied();
+        let address = other.address.copied();
+        let willing = other.willing.copied();
+        let join_wish = other.join_wish.copied();
+        let role_wish = other.role_wish.copied();
+        let hearing = other.hearing.copied();
+        let most_written = other.most_written;
+        let most_read = other.most_read;
         self.identity = other.identity;
-        self.fixed = other.fixed.copied();
-        self.address = other.address.copied();
-        self.willing = other.willing.copied();
-        self.join_wish = other.join_wish.copied();
-        self.role_wish = other.role_wish.copied();
-        self.hearing = other.hearing.copied();
-        self.most_written = other.most_written;
-        self.most_read = other.most_read;
+        self.fixed = fixed;
+        self.address = address;
+        self.willing = willing;
+        self.join_wish = join_wish;
+        self.role_wish = role_wish;
+        self.hearing = hearing;
+        self.most_written = most_written;
+        self.most_read = most_read;
         self.registers = other.registers;
         copy_from(&mut self.waiting, &other.waiting);
     }
 
+    /// The same interrupts wait at it as at another one.
+    pub fn copy_waiting(&mut self, other: &Attached)
+        ensures { self.new ≡ record self.old { waiting = other.now.waiting } }
+    {
+        copy_from(&mut self.waiting, &other.waiting);
+    }
+
     /// Whether the other device is the same: clauses see no difference between the two.
+    #[inline(always)]
     pub fn is_same(&self, other: &Attached) -> bool
         ensures same { IsTrue result ↔ (self.now ≡ other.now) }
         ensures kinds { self.now.kinds ≡ other.now.kinds }
     {
+        self.is_same_but_for_waiting(other) && are_same(&self.waiting, &other.waiting)
+    }
+
+    /// Whether the other device is the same, whatever waits at both.
+    #[inline(always)]
+    pub fn is_same_but_for_waiting(&self, other: &Attached) -> bool
+        ensures { IsTrue result ↔ (record self.now { waiting = other.now.waiting } ≡ other.now) }
+    {
         self.identity == other.identity
             && self.has_same_byte_fields(other)
             && are_same_registers(&self.registers, &other.registers)
-            && are_same(&self.waiting, &other.waiting)
     }
 
     /// Whether the other device has the same of what has a byte each.
+    #[inline(always)]
     fn has_same_byte_fields(&self, other: &Attached) -> bool
         ensures { IsTrue result ↔ HaveSameByteFields self.now other.now }
     {
@@ -509,27 +533,14 @@ fn pid_bytes(pid: u64) -> [u8; LONGEST]
     ]
 }
 
-/// Whether both are the same registers, eight at a time.
+/// Whether both are the same registers. All are compared, which is faster than to stop at the first that differs.
+#[inline(always)]
 fn are_same_registers(registers: &[u8; REGISTERS], others: &[u8; REGISTERS]) -> bool
     ensures { IsTrue result ↔ (registers.now ≡ others.now) }
 {
-    eight_from(registers, 0) == eight_from(others, 0)
-        && eight_from(registers, 8) == eight_from(others, 8)
-}
-
-/// Eight registers as one number, from this one on.
-fn eight_from(registers: &[u8; REGISTERS], first: usize) -> u64
-    requires { first + 8 ≤ REGISTER_COUNT }
-    ensures { result ≡ from_le_bytes w64 (eight_from first registers.now) }
-{
-    u64::from_le_bytes([
-        registers[first],
-        registers[first + 1],
-        registers[first + 2],
-        registers[first + 3],
-        registers[first + 4],
-        registers[first + 5],
-        registers[first + 6],
-        registers[first + 7],
-    ])
+    let mut same = true;
+    for index in 0..REGISTERS {
+        same = same & (registers[index] == others[index]);
+    }
+    same
 }

@@ -1,7 +1,7 @@
 use crate::attached::Attached;
 use crate::kept::Kept;
 use crate::marks::Marks;
-use crate::places::{byte_from, length_in, pull_low, raise, stands, wishes_interrupt};
+use crate::places::{byte_from, length_in, pull_low, raise, requeue, stands, wishes_interrupt};
 use crate::slot_set::SlotSet;
 use crate::slot_update::{Driven, SlotUpdate, Sought, update_in};
 use i3c_base::{Addr7, Cuts, Direction, Length, REGISTERS, RaiseRefusal, SLOTS, Slot};
@@ -43,7 +43,7 @@ impl Occupants {
     ghost use Rattle.i3c_device.specs.Lengths.{IsLeastLength};
     ghost use Rattle.i3c_device.specs.Sets.{has};
     ghost use Rattle.i3c_device.specs.Walks.{AreTakers, AreReached};
-    ghost use Rattle.std.specs.Prelude.{◌≡◌, ◌<◌, ◌&&◌, ℕ, All, is_some, length, suc, true, Some, None, option_copied, option_map, slice_index, slice_index_or, slice_set, MatchOption, MatchResult, OnOk, OnErr};
+    ghost use Rattle.std.specs.Prelude.{◌≡◌, ◌<◌, ◌&&◌, ℕ, All, IsTrue, false, is_some, length, suc, true, Some, None, option_copied, option_map, slice_index, slice_index_or, slice_set, MatchOption, MatchResult, OnOk, OnErr};
 
     /// Empty slots.
     #[inline(always)]
@@ -72,13 +72,39 @@ impl Occupants {
         ensures put { self.new ≡ slice_set self.old slot (option_copied device.entry) }
         ensures slots { length self.old ≡ SLOT_COUNT }
     {
-        let Some(device) = device else {
-            self.put(slot, None);
-            return;
-        };
-        if !stands(device, self.at(slot)) {
-            self.put(slot, Some(device.copied()));
+        match device {
+            Some(device) => self.wake_device(slot, device),
+            None => self.put(slot, None),
         }
+    }
+
+    /// This device stands in a slot from now on.
+    fn wake_device(&mut self, slot: Slot, device: &Attached)
+        ensures put { self.new ≡ slice_set self.old slot (Some device.now) }
+        ensures slots { length self.old ≡ SLOT_COUNT }
+    {
+        if stands(device, self.at(slot)) {
+            return;
+        }
+        if self.requeue(slot, device) {
+            return;
+        }
+        self.put(slot, Some(device.copied()));
+    }
+
+    /// This device stands in a slot from now on, if it differs in what waits alone from the one that stands there. Answers
+    /// whether it does.
+    fn requeue(&mut self, slot: Slot, device: &Attached) -> bool
+        ensures put { IsTrue result → self.new ≡ slice_set self.old slot (Some device.now) }
+        ensures kept { result ≡ false → self.new ≡ self.old }
+    {
+        let index = slot.index();
+        if !requeue(&mut self.places[index], device) {
+            return false;
+        }
+        let interrupts = wishes_interrupt(&self.places[index]);
+        self.marks.queued(index, interrupts);
+        true
     }
 
     /// How many slots there are.

@@ -8,7 +8,7 @@ ghost use Rattle.i3c_base.specs.State.{Device as DeviceState, in_slot};
 ghost use Rattle.i3c_base.specs.Local.{with_raise, wishing_join, wishing_role};
 ghost use Rattle.i3c_device.specs.Addressing.{IsDynamicIn};
 ghost use Rattle.i3c_device.specs.Holding.{length_in, address_in, byte_in, front_in, identity_in, waiting_in};
-ghost use Rattle.i3c_device.specs.Marks.{answer_in, key_in};
+ghost use Rattle.i3c_device.specs.Marks.{answer_in, key_in, requeued};
 ghost use Rattle.i3c_device.specs.Raising.{interrupting_if, next_fault};
 ghost use Rattle.i3c_device.specs.Reading.{IsByteFrom, IsDrivenFrom};
 ghost use Rattle.i3c_device.specs.Walks.{taken_from, willing_at};
@@ -28,6 +28,21 @@ pub(crate) fn stands(device: &Attached, place: &Option<Attached>) -> bool
     match place {
         Some(held) => held.is_same(device),
         None => false,
+    }
+}
+
+/// What stands here becomes this device, if it differs from it in what waits alone. Answers whether it does.
+pub(crate) fn requeue(place: &mut Option<Attached>, device: &Attached) -> bool
+    ensures put { IsTrue result → place.new ≡ Some device.now }
+    ensures requeued { IsTrue result → place.new ≡ option_map (requeued (λ _. device.now.waiting)) place.old }
+    ensures kept { result ≡ false → place.new ≡ place.old }
+{
+    match place {
+        Some(held) if held.is_same_but_for_waiting(device) => {
+            held.copy_waiting(device);
+            true
+        }
+        _ => false,
     }
 }
 

@@ -15,10 +15,22 @@ pub(crate) fn copied(waiting: &ArrayVec<Waiting, WAITING>) -> ArrayVec<Waiting, 
 }
 
 /// The same interrupts wait as in another one, in their order.
+#[inline(always)]
 pub(crate) fn copy_from(
     waiting: &mut ArrayVec<Waiting, WAITING>,
     others: &ArrayVec<Waiting, WAITING>,
 )
+    ensures { waiting.new.items ≡ others.now.items }
+{
+    if !others.is_empty() || !waiting.is_empty() {
+        copy_some(waiting, others);
+    }
+}
+
+/// The same where some wait.
+// kept apart, since at most devices none waits
+#[inline(never)]
+fn copy_some(waiting: &mut ArrayVec<Waiting, WAITING>, others: &ArrayVec<Waiting, WAITING>)
     ensures { waiting.new.items ≡ others.now.items }
 {
     waiting.clear();
@@ -28,7 +40,24 @@ pub(crate) fn copy_from(
 }
 
 /// Whether the same interrupts wait in both, in the same order.
+#[inline(always)]
 pub(crate) fn are_same(
+    waiting: &ArrayVec<Waiting, WAITING>,
+    others: &ArrayVec<Waiting, WAITING>,
+) -> bool
+    ensures { IsTrue result ↔ (waiting.now.items ≡ others.now.items) }
+{
+    if others.is_empty() {
+        waiting.is_empty()
+    } else {
+        have_same_items(waiting, others)
+    }
+}
+
+/// The same where some wait.
+// kept apart, since at most devices none waits
+#[inline(never)]
+fn have_same_items(
     waiting: &ArrayVec<Waiting, WAITING>,
     others: &ArrayVec<Waiting, WAITING>,
 ) -> bool

@@ -3,7 +3,7 @@ use Rattle.std.specs.Cmp.Lexicographic.{pointwise}
 use Rattle.std.proofs.lemmas.Slice.Eq.{slice_eq-Decides}
 use Rattle.i3c_base.specs.declared.device.Waiting.{Waiting}
 use Rattle.i3c_base.specs.contracts.device.WaitingPartialEq.TheImpl.{eq-value}
-use Rattle.i3c_device.proofs.queues.are_same.Goals as goal
+use Rattle.i3c_device.proofs.queues.have_same_items.Goals as goal
 
 same_waiting : (a b : Waiting) → Decides (eq-value.it a b) (a ≡ b)
 same_waiting a b = search rules
