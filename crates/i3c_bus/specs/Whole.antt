@@ -21,3 +21,8 @@ pub record IsWhole (st : State) (table : Table) (list : List Entry) : Type 0 whe
   pub sound : IsSound st
   pub covered : IsTable st table
   pub copied : st.listed ≡ true → IsCopyOf st list
+
+-- a sound bus that its active controller's table covers
+pub record IsCovered (st : State) (table : Table) : Type 0 where
+  pub sound : IsSound st
+  pub covered : IsTable st table

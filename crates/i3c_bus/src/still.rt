@@ -1,4 +1,5 @@
 ghost use Rattle.std.specs.Prelude.{◌≡◌, ◌↔◌, IfOk, IsTrue, MatchOption, OnErr, OnOk};
+ghost use Rattle.i3c_table.specs.Room.{HasRoom};
 
 use crate::bus::Bus;
 use crate::hand::Hand;
@@ -6,9 +7,9 @@ use i3c_base::{Record, SLOTS, Slot};
 use i3c_deftgts::List;
 use i3c_device::{Devices, Resting};
 use i3c_handoff::{Active, retire};
-use i3c_legacy::LegacyTargets;
+use i3c_legacy::{LegacyTargets, RestingTargets};
 use i3c_step::OutOfMemory;
-use i3c_table::Table;
+use i3c_table::{RestingTable, Table};
 use i3c_word::WORD_BITS;
 use std::alloc::{AllocError, Global};
 use std::marker::Model;
@@ -25,10 +26,9 @@ pub struct Still {
     devices: Resting,
     raised: [u64; SLOTS],
     active: Slot,
-    table: Table,
-    // what each device that keeps the list read of the last one
-    list: List,
-    legacy: LegacyTargets,
+    // of a current list the table tells each entry
+    table: RestingTable,
+    legacy: RestingTargets,
     in_session: bool,
     records: Vec<Record>,
 }
@@ -36,13 +36,13 @@ pub struct Still {
 impl Model for Still {
     ghost use Rattle.i3c_base.specs.State.{State};
     ghost use Rattle.i3c_bus.specs.Parts.{state_of};
-    ghost use Rattle.i3c_bus.specs.Whole.{IsWhole};
+    ghost use Rattle.i3c_bus.specs.Whole.{IsCovered};
 
     ghost Value = { State };
 
     ghost view = { λ s. state_of s.devices s.raised s.active s.table s.legacy s.in_session s.records.items };
 
-    ghost invariant = { λ s. IsWhole (state_of s.devices s.raised s.active s.table s.legacy s.in_session s.records.items) s.table s.list };
+    ghost invariant = { λ s. IsCovered (state_of s.devices s.raised s.active s.table s.legacy s.in_session s.records.items) s.table };
 }
 
 impl Bus {
@@ -65,12 +65,16 @@ impl Bus {
     /// A number that equal states have in common. Others can have it too: it is no more than a hint where to look first.
     #[inline(never)]
     pub fn key(&self) -> u64 {
-        let mut key = mixed(self.records.len() as u64, self.active.slot().index() as u64);
-        key = mixed(key, with_flag(with_flag(0, self.in_session), self.listed()));
-        key = mixed(key, self.devices.key());
+        let mut key = key_with(
+            self.records.len() as u64,
+            self.active.slot().index() as u64,
+        );
+        let session = u64::from(self.in_session);
+        key = key_with(key, session << 1 | u64::from(self.listed()));
+        key = key_with(key, self.devices.key());
         let first = self.records.len().saturating_sub(HASHED);
         for record in &self.records[first..] {
-            key = mixed(key, record.slot.index() as u64);
+            key = key_with(key, record.slot.index() as u64);
         }
         let mut left = self.devices.present();
         while let Some(index) = left.take_lowest() {
@@ -81,10 +85,12 @@ impl Bus {
 }
 
 impl Still {
-    ghost use Rattle.std.specs.Prelude.{◌≡◌, ◌≤◌, ◌↔◌, IfOk, IsTrue, OnErr, OnOk};
+    ghost use Rattle.std.specs.Prelude.{◌≡◌, ◌≤◌, ◌↔◌, true, IfOk, IsTrue, OnErr, OnOk};
+    ghost use Rattle.i3c_base.specs.Covered.{IsTable};
     ghost use Rattle.i3c_base.specs.Frames.{list_bits};
     ghost use Rattle.i3c_bus.specs.Hands.{HandFits};
     ghost use Rattle.i3c_bus.specs.Near.{IsNear};
+    ghost use Rattle.i3c_bus.specs.Whole.{IsCopyOf};
 
     /// The bus once more, with a role or session of its own.
     ///
@@ -100,14 +106,17 @@ impl Still {
         };
         let mut devices = Devices::new();
         devices.wake(&self.devices);
+        let table = Table::woken(&self.table);
+        let mut list = List::new();
+        self.wake_list(&table, &mut list);
         let (active, role) = Active::new(self.active);
         let bus = Bus {
             devices,
             raised: self.raised,
             active,
-            table: self.table.copied(),
-            list: self.list.copied(),
-            legacy: self.legacy.copied(),
+            table,
+            list,
+            legacy: LegacyTargets::woken(&self.legacy),
             in_session: self.in_session,
             records,
         };
@@ -139,9 +148,9 @@ impl Still {
         retire(mem::replace(&mut bus.active, holder), hand.into_role());
         bus.devices.wake(&self.devices);
         bus.raised = self.raised;
-        bus.table.copy_from(&self.table);
-        copy_list(&mut bus.list, &self.list);
-        copy_targets(&mut bus.legacy, &self.legacy);
+        bus.table.wake(&self.table);
+        self.wake_list(&bus.table, &mut bus.list);
+        bus.legacy.wake(&self.legacy);
         bus.in_session = self.in_session;
         (Hand::new(role, self.in_session), Ok(()))
     }
@@ -185,13 +194,18 @@ impl Still {
         let Ok(devices) = Resting::of(alloc, &bus.devices) else {
             return Err(OutOfMemory);
         };
+        let Ok(table) = RestingTable::of(alloc, &bus.table) else {
+            return Err(OutOfMemory);
+        };
+        let Ok(legacy) = RestingTargets::of(alloc, &bus.legacy) else {
+            return Err(OutOfMemory);
+        };
         Ok(Still {
             devices,
             raised: bus.raised,
             active: bus.active.slot(),
-            table: bus.table.copied(),
-            list: bus.list.copied(),
-            legacy: bus.legacy.copied(),
+            table,
+            legacy,
             in_session: bus.in_session,
             records,
         })
@@ -201,7 +215,7 @@ impl Still {
     ///
     /// # Errors
     ///
-    /// There is no memory for its records. It stays in its state.
+    /// There is no memory for more of it. It stays in its state.
     #[inline(never)]
     pub fn copy_from(&mut self, alloc: Global, bus: &Bus) -> Result<(), OutOfMemory>
         ensures copied { OnOk result (self.new ≡ bus.now.state) }
@@ -210,17 +224,27 @@ impl Still {
         let Ok(records) = other_records(alloc, &self.records, &bus.records) else {
             return Err(OutOfMemory);
         };
+        let Ok(table) = other_table(alloc, &self.table, &bus.table) else {
+            return Err(OutOfMemory);
+        };
+        let Ok(legacy) = other_targets(alloc, &self.legacy, &bus.legacy) else {
+            return Err(OutOfMemory);
+        };
         let Ok(()) = self.devices.copy_from(&bus.devices) else {
             return Err(OutOfMemory);
         };
         if let Some(records) = records {
             self.records = records;
         }
+        match table {
+            Some(table) => self.table = table,
+            None => self.table.copy_from(&bus.table),
+        }
+        if let Some(legacy) = legacy {
+            self.legacy = legacy;
+        }
         self.active = bus.active.slot();
         self.raised = bus.raised;
-        self.table.copy_from(&bus.table);
-        copy_list(&mut self.list, &bus.list);
-        copy_targets(&mut self.legacy, &bus.legacy);
         self.in_session = bus.in_session;
         Ok(())
     }
@@ -245,12 +269,21 @@ impl Still {
         ensures bits { result ≡ list_bits self.now }
         ensures few { result ≤ 4482 }
     {
+        WORD_BITS * (2 + 4 * self.table.list_len() as u16)
+    }
+
+    // A list becomes that of the table, which is this bus's, if it is current.
+    fn wake_list(&self, table: &Table, list: &mut List)
+        requires { IsTable self.now table.now }
+        ensures { self.now.listed ≡ true → IsCopyOf self.now list.new }
+    {
+        if !table.list_current() {
+            return;
+        }
         let Some(own) = self.devices.address(self.active) else {
             unreachable!();
         };
-        let mut list = self.list.copied();
-        list.rewrite(&self.table, own);
-        WORD_BITS * (2 + 4 * list.len() as u16)
+        list.rewrite(table, own);
     }
 
     // Whether both have the same devices with the same raises, the same active controller, either both or neither a session,
@@ -287,20 +320,15 @@ impl Still {
     fn has_tables_of(&self, bus: &Bus) -> bool
         ensures { IsTrue result ↔ ((self.now.given ≡ bus.now.state.given) × (self.now.declared ≡ bus.now.state.declared) × (self.now.listed ≡ bus.now.state.listed) × (self.now.legacy ≡ bus.now.state.legacy)) }
     {
-        self.table.is_same(&bus.table) && self.legacy.is_same(&bus.legacy)
+        self.table.is_of(&bus.table) && self.legacy.is_of(&bus.legacy)
     }
 }
 
-/// A hash of a number and what is added to it.
-fn mixed(key: u64, more: u64) -> u64 {
+/// The key of what has a key so far and of a number more.
+fn key_with(key: u64, more: u64) -> u64 {
     (key ^ more)
         .wrapping_mul(0x9E37_79B9_7F4A_7C15)
         .rotate_left(23)
-}
-
-/// A number with one bit more.
-fn with_flag(key: u64, flag: bool) -> u64 {
-    key << 1 | u64::from(flag)
 }
 
 /// Whether both are the same numbers, slot by slot. All are looked at, which is faster than to stop at the first that differs.
@@ -350,22 +378,32 @@ fn other_records(
     Ok(Some(records_again(alloc, others)?))
 }
 
-/// A list becomes the same as another one.
-fn copy_list(list: &mut List, other: &List)
-    ensures { list.new ≡ other.now }
+/// A table at rest once more, unless there is room for it in this one.
+fn other_table(
+    alloc: Global,
+    resting: &RestingTable,
+    table: &Table,
+) -> Result<Option<RestingTable>, AllocError>
+    ensures { IfOk result (λ copy. MatchOption copy (HasRoom resting.now table.now) (λ copy. copy ≡ table.now)) }
 {
-    if !list.is_same(other) {
-        *list = other.copied();
+    if resting.has_room_for(table) {
+        return Ok(None);
     }
+    Ok(Some(RestingTable::of(alloc, table)?))
 }
 
-/// These become the same targets as others.
-fn copy_targets(targets: &mut LegacyTargets, others: &LegacyTargets)
-    ensures { targets.new ≡ others.now }
+/// Targets at rest once more, unless these are the same.
+fn other_targets(
+    alloc: Global,
+    resting: &RestingTargets,
+    targets: &LegacyTargets,
+) -> Result<Option<RestingTargets>, AllocError>
+    ensures { IfOk result (λ copy. MatchOption copy (resting.now ≡ targets.now) (λ copy. copy ≡ targets.now)) }
 {
-    if !targets.is_same(others) {
-        *targets = others.copied();
+    if resting.is_of(targets) {
+        return Ok(None);
     }
+    Ok(Some(RestingTargets::of(alloc, targets)?))
 }
 
 /// The same records once more.

@@ -1,9 +1,65 @@
-ghost use Rattle.std.specs.Prelude.{◌↔◌, All, Contains, IsTrue};
+ghost use Rattle.std.specs.Prelude.{◌≡◌, ◌↔◌, All, Contains, IsTrue};
+ghost use Rattle.i3c_legacy.specs.Boards.{board_of};
+ghost use Rattle.i3c_legacy.specs.Rows.{places, HasOwnAddresses};
 
 use crate::legacies::{Declared, DeclaredIdentity};
 
+/// Whether these legacy targets and identities declare the same at each static address as others, in any order.
+pub(crate) fn are_same_boards(
+    targets: &[Declared],
+    identities: &[DeclaredIdentity],
+    others: &[Declared],
+    more: &[DeclaredIdentity],
+) -> bool
+    requires targets { HasOwnAddresses (λ d. d.address) targets.now }
+    requires identities { HasOwnAddresses (λ d. d.address) identities.now }
+    requires others { HasOwnAddresses (λ d. d.address) others.now }
+    requires more { HasOwnAddresses (λ d. d.address) more.now }
+    ensures { IsTrue result ↔ (board_of targets.now identities.now ≡ board_of others.now more.now) }
+{
+    are_same_targets(targets, others) && are_same_identities(identities, more)
+}
+
+/// Whether these legacy targets have the LVRs of others, each at its static address.
+fn are_same_targets(targets: &[Declared], others: &[Declared]) -> bool
+    requires targets { HasOwnAddresses (λ d. d.address) targets.now }
+    requires others { HasOwnAddresses (λ d. d.address) others.now }
+    ensures { IsTrue result ↔ (places (λ d. d.address) (λ d. d.lvr) targets.now ≡ places (λ d. d.address) (λ d. d.lvr) others.now) }
+{
+    if are_equal_targets(targets, others) {
+        return true;
+    }
+    targets_among(targets, others) && targets_among(others, targets)
+}
+
+/// Whether these identities are declared at the same static addresses as others.
+fn are_same_identities(identities: &[DeclaredIdentity], others: &[DeclaredIdentity]) -> bool
+    requires identities { HasOwnAddresses (λ d. d.address) identities.now }
+    requires others { HasOwnAddresses (λ d. d.address) others.now }
+    ensures { IsTrue result ↔ (places (λ d. d.address) (λ d. d.identity) identities.now ≡ places (λ d. d.address) (λ d. d.identity) others.now) }
+{
+    if are_equal_identities(identities, others) {
+        return true;
+    }
+    identities_among(identities, others) && identities_among(others, identities)
+}
+
+/// Whether these are the same legacy targets as others, in the same order.
+fn are_equal_targets(targets: &[Declared], others: &[Declared]) -> bool
+    ensures { IsTrue result ↔ (targets.now ≡ others.now) }
+{
+    targets == others
+}
+
+/// Whether these are the same identities as others, in the same order.
+fn are_equal_identities(identities: &[DeclaredIdentity], others: &[DeclaredIdentity]) -> bool
+    ensures { IsTrue result ↔ (identities.now ≡ others.now) }
+{
+    identities == others
+}
+
 /// Whether each of these legacy targets is one of the others.
-pub(crate) fn targets_among(targets: &[Declared], others: &[Declared]) -> bool
+fn targets_among(targets: &[Declared], others: &[Declared]) -> bool
     ensures { IsTrue result ↔ All (Contains others.now) targets.now }
 {
     for target in targets {
@@ -15,7 +71,7 @@ pub(crate) fn targets_among(targets: &[Declared], others: &[Declared]) -> bool
 }
 
 /// Whether each of these declared identities is one of the others.
-pub(crate) fn identities_among(identities: &[DeclaredIdentity], others: &[DeclaredIdentity]) -> bool
+fn identities_among(identities: &[DeclaredIdentity], others: &[DeclaredIdentity]) -> bool
     ensures { IsTrue result ↔ All (Contains others.now) identities.now }
 {
     for declared in identities {

@@ -1,14 +1,16 @@
-ghost use Rattle.std.specs.Prelude.{◌≡◌};
+ghost use Rattle.std.specs.Prelude.{◌≡◌, ◌≤◌, length};
+ghost use Rattle.i3c_legacy.specs.declared.legacies.TheConstants.{DECLARED as DECLARED_COUNT, LEGACIES as LEGACY_COUNT};
 
 use crate::legacies::{DECLARED, Declared, DeclaredIdentity, LEGACIES};
 use arrayvec::ArrayVec;
 
 /// The same legacy targets once more, in their order.
-pub(crate) fn targets_again(targets: &ArrayVec<Declared, LEGACIES>) -> ArrayVec<Declared, LEGACIES>
-    ensures { result ≡ targets.now }
+pub(crate) fn targets_again(targets: &[Declared]) -> ArrayVec<Declared, LEGACIES>
+    requires { length targets.now ≤ LEGACY_COUNT }
+    ensures { result.items ≡ targets.now }
 {
     let mut copy = ArrayVec::new();
-    let Ok(()) = copy.try_extend_from_slice(targets.as_slice()) else {
+    let Ok(()) = copy.try_extend_from_slice(targets) else {
         unreachable!()
     };
     copy
@@ -16,12 +18,13 @@ pub(crate) fn targets_again(targets: &ArrayVec<Declared, LEGACIES>) -> ArrayVec<
 
 /// The same declared identities once more, in their order.
 pub(crate) fn identities_again(
-    identities: &ArrayVec<DeclaredIdentity, DECLARED>,
+    identities: &[DeclaredIdentity],
 ) -> ArrayVec<DeclaredIdentity, DECLARED>
-    ensures { result ≡ identities.now }
+    requires { length identities.now ≤ DECLARED_COUNT }
+    ensures { result.items ≡ identities.now }
 {
     let mut copy = ArrayVec::new();
-    let Ok(()) = copy.try_extend_from_slice(identities.as_slice()) else {
+    let Ok(()) = copy.try_extend_from_slice(identities) else {
         unreachable!()
     };
     copy

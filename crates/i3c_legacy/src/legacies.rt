@@ -1,8 +1,9 @@
-ghost use Rattle.std.specs.Prelude.{◌≡◌, ◌≢◌, ◌<◌, All, HoldsAt, MatchOption, length};
+ghost use Rattle.std.specs.Prelude.{◌≡◌, ◌≢◌, ◌<◌, ◌≤◌, All, HoldsAt, MatchOption, length};
+ghost use Rattle.i3c_legacy.specs.declared.legacies.TheConstants.{DECLARED as DECLARED_COUNT};
 ghost use Rattle.i3c_base.specs.State.{is_static};
 
-use crate::comparing::{identities_among, targets_among};
 use crate::copying::{identities_again, targets_again};
+use crate::resting::RestingLegacies;
 use crate::{DeclareFault, LegacyFault};
 use arrayvec::ArrayVec;
 use i3c_base::{ADDRESSES, Addr7, Addresses, Identity, Lvr};
@@ -35,11 +36,11 @@ pub(crate) struct DeclaredIdentity {
 #[derive(Drop)]
 pub struct Legacies {
     pub(crate) targets: ArrayVec<Declared, LEGACIES>,
-    identities: ArrayVec<DeclaredIdentity, DECLARED>,
+    pub(crate) identities: ArrayVec<DeclaredIdentity, DECLARED>,
     // at a static address, where its identity may be found among these
     hints: [u8; ADDRESSES],
     // the addresses of all these
-    addresses: Addresses,
+    pub(crate) addresses: Addresses,
 }
 
 impl Model for Legacies {
@@ -79,36 +80,33 @@ impl Legacies {
         ensures { result ≡ self.now }
     {
         Legacies {
-            targets: targets_again(&self.targets),
-            identities: identities_again(&self.identities),
+            targets: targets_again(self.targets.as_slice()),
+            identities: identities_again(self.identities.as_slice()),
             hints: self.hints,
             addresses: self.addresses,
         }
     }
 
-    /// Whether both declare the same at each static address, in any order.
-    pub fn is_same(&self, other: &Legacies) -> bool
-        ensures { IsTrue result ↔ (self.now ≡ other.now) }
+    /// It becomes what was at rest.
+    pub fn wake(&mut self, resting: &RestingLegacies)
+        ensures { self.new ≡ resting.now }
     {
-        self.has_same_targets(other) && self.has_same_identities(other)
+        if !resting.is_of(self) {
+            *self = Legacies::woken(resting);
+        }
     }
 
-    // Whether both declare the same legacy targets.
-    fn has_same_targets(&self, other: &Legacies) -> bool
-        ensures { IsTrue result ↔ (self.now.legacy ≡ other.now.legacy) }
+    /// What was at rest.
+    fn woken(resting: &RestingLegacies) -> Legacies
+        ensures { result ≡ resting.now }
     {
-        let ours = self.targets.as_slice();
-        let theirs = other.targets.as_slice();
-        targets_among(ours, theirs) && targets_among(theirs, ours)
-    }
-
-    // Whether both declare the same identities, each at the same address.
-    fn has_same_identities(&self, other: &Legacies) -> bool
-        ensures { IsTrue result ↔ (self.now.declared ≡ other.now.declared) }
-    {
-        let ours = self.identities.as_slice();
-        let theirs = other.identities.as_slice();
-        identities_among(ours, theirs) && identities_among(theirs, ours)
+        let identities = resting.identities.as_slice();
+        Legacies {
+            targets: targets_again(resting.targets.as_slice()),
+            identities: identities_again(identities),
+            hints: hints_for(identities),
+            addresses: resting.addresses,
+        }
     }
 
     /// The LVR of the target at a static address, if there is one.
@@ -256,6 +254,17 @@ pub fn is_static(address: Addr7) -> bool
     ensures { result ≡ is_static address }
 {
     matches!(address.get(), 0x08..=0x77)
+}
+
+// At each static address where an identity is declared, its index.
+fn hints_for(identities: &[DeclaredIdentity]) -> [u8; ADDRESSES]
+    requires { length identities.now ≤ DECLARED_COUNT }
+{
+    let mut hints = [0; ADDRESSES];
+    for (index, declared) in identities.iter().enumerate() {
+        hints[declared.address.get() as usize] = index as u8;
+    }
+    hints
 }
 
 // The index of the target at an address.

@@ -1,17 +1,18 @@
-ghost use Rattle.std.specs.Prelude.{◌≡◌, ◌≢◌, ◌<◌, ◌≤◌, ◌↔◌, All, Contains, HoldsAt, IsTrue, MatchOption, length};
+ghost use Rattle.std.specs.Prelude.{◌≡◌, ◌≢◌, ◌<◌, ◌≤◌, All, HoldsAt, MatchOption, length};
 ghost use Rattle.i3c_base.specs.declared.device.TheConstants.{REGISTERS as REGISTER_COUNT};
 ghost use Rattle.i3c_base.specs.Frames.{overwritten};
 
 use crate::legacies::{LEGACIES, Legacies};
+use crate::resting_targets::RestingTargets;
 use arrayvec::ArrayVec;
 use i3c_base::{Addr7, LegacyTarget, REGISTERS};
 use std::marker::Model;
 
 // a legacy target at its address
 #[derive(Clone, Copy, PartialEq, Eq, Default)]
-struct Placed {
-    address: Addr7,
-    target: LegacyTarget,
+pub(crate) struct Placed {
+    pub address: Addr7,
+    pub target: LegacyTarget,
 }
 
 /// The legacy I2C targets of a bus with their registers, by their static addresses.
@@ -19,7 +20,7 @@ struct Placed {
 /// Clauses see a place for each of the 128 addresses.
 #[derive(Drop)]
 pub struct LegacyTargets {
-    placed: ArrayVec<Placed, LEGACIES>,
+    pub(crate) placed: ArrayVec<Placed, LEGACIES>,
 }
 
 impl Model for LegacyTargets {
@@ -35,7 +36,7 @@ impl Model for LegacyTargets {
 }
 
 impl LegacyTargets {
-    ghost use Rattle.std.specs.Prelude.{◌≡◌, ◌≤◌, ◌↔◌, IsTrue, length, None, slice_index_or, slice_set};
+    ghost use Rattle.std.specs.Prelude.{◌≡◌, ◌≤◌, length, None, slice_index_or, slice_set};
     ghost use Rattle.i3c_base.specs.declared.device.TheConstants.{REGISTERS as REGISTER_COUNT};
     ghost use Rattle.i3c_base.specs.Frames.{legacy_written};
     ghost use Rattle.i3c_base.specs.State.{legacy_targets_of};
@@ -57,24 +58,24 @@ impl LegacyTargets {
         LegacyTargets { placed }
     }
 
-    /// The same targets once more.
-    pub fn copied(&self) -> LegacyTargets
-        ensures { result ≡ self.now }
+    /// They become the targets that were at rest.
+    pub fn wake(&mut self, resting: &RestingTargets)
+        ensures { self.new ≡ resting.now }
+    {
+        if !resting.is_of(self) {
+            *self = LegacyTargets::woken(resting);
+        }
+    }
+
+    /// The targets that were at rest.
+    pub fn woken(resting: &RestingTargets) -> LegacyTargets
+        ensures { result ≡ resting.now }
     {
         let mut placed = ArrayVec::new();
-        let Ok(()) = placed.try_extend_from_slice(self.placed.as_slice()) else {
+        let Ok(()) = placed.try_extend_from_slice(resting.placed.as_slice()) else {
             unreachable!()
         };
         LegacyTargets { placed }
-    }
-
-    /// Whether both have the same targets with the same registers, in any order.
-    pub fn is_same(&self, other: &LegacyTargets) -> bool
-        ensures { IsTrue result ↔ (self.now ≡ other.now) }
-    {
-        let ours = self.placed.as_slice();
-        let theirs = other.placed.as_slice();
-        are_among(ours, theirs) && are_among(theirs, ours)
     }
 
     /// The target at a static address, if there is one.
@@ -106,25 +107,6 @@ fn index_of(placed: &[Placed], address: Addr7) -> Option<usize>
         (λ i. (i < length placed.now) × HoldsAt (λ p. p.address ≡ address) placed.now i) }
 {
     placed.iter().position(|placed| placed.address == address)
-}
-
-// Whether each of these targets is one of the others.
-fn are_among(placed: &[Placed], others: &[Placed]) -> bool
-    ensures { IsTrue result ↔ All (Contains others.now) placed.now }
-{
-    for target in placed {
-        if !is_among(target, others) {
-            return false;
-        }
-    }
-    true
-}
-
-// Whether a target is one of the others.
-fn is_among(placed: &Placed, others: &[Placed]) -> bool
-    ensures { IsTrue result ↔ Contains others.now placed.now }
-{
-    others.contains(placed)
 }
 
 // These bytes go into a target's first registers.

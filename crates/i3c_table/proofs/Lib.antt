@@ -1,3 +1,4 @@
+pub mod AtRest
 pub mod Ranking
 pub mod Ordering
 pub mod StoredLaws

@@ -2,3 +2,4 @@ pub mod Ranks
 pub mod Stored
 pub mod Rows
 pub mod Putting
+pub mod Room

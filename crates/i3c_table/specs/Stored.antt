@@ -1,5 +1,5 @@
 -- What a table stores at each address, seen as the entries there.
-use Rattle.std.specs.Prelude.{◌≡◌, ℕ, ◌/◌, ◌%◌, ◌&&◌, true, List, map, find, Option, Some, None, option_and_then, if◌then◌else◌, count_by, length, slice_index_or}
+use Rattle.std.specs.Prelude.{◌≡◌, ℕ, ◌<◌, ◌≤◌, ◌/◌, ◌%◌, ◌&&◌, true, List, map, find, Option, Some, None, option_and_then, if◌then◌else◌, count_by, length, slice_index_or}
 use Rattle.std.specs.List.{range_with_len, Contains}
 use Rattle.std.specs.List.Sorted.{IsNonDecreasingBy}
 use Rattle.i3c_base.specs.declared.identity.Identity.{Identity}
@@ -55,6 +55,23 @@ pub record IsWhole (held kept : ℕ) (board : Board) : Type 0 where
   pub apart : (a : ℕ) → is_in held a ≡ true → IsFree board.legacy a
   pub undeclared : (a : ℕ) → is_in held a ≡ true → IsFree board.declared a
   pub among : (a : ℕ) → is_in kept a ≡ true → is_in held a ≡ true
+
+-- lists of registers and of numbers that reach as far as the addresses that were given
+pub record IsReaching (held many numbered : ℕ) : Type 0 where
+  pub few : many ≤ ADDRESSES
+  pub few_numbers : numbered ≤ ADDRESSES
+  pub reached : (a : ℕ) → is_in held a ≡ true → (a < many) × (a < numbered)
+
+-- the lists of two tables reach as far as the address a
+abbrev pub IsReached : ℕ → ℕ → ℕ → ℕ → ℕ → Type 0
+IsReached many numbered others more a = (a < many) × (a < numbered) × (a < others) × (a < more)
+
+-- rows that are stored in lists which reach that far, and the addresses of those that are kept
+pub record AreRows (held kept : ℕ) (order : List ℕ) (many numbered : ℕ) : Type 0 where
+  pub among : (a : ℕ) → is_in kept a ≡ true → is_in held a ≡ true
+  pub all : (a : ℕ) → is_in kept a ≡ true → Contains order a
+  pub alone : (a : ℕ) → Contains order a → is_in kept a ≡ true
+  pub reaching : IsReaching held many numbered
 
 -- the list has the addresses that are kept, each once, by their numbers
 pub record IsInOrder (kept : ℕ) (numbers order : List ℕ) : Type 0 where

@@ -4,9 +4,12 @@
 mod keeping;
 mod order;
 mod registers;
+mod resting;
 mod row;
+mod rows;
 mod table;
 
 pub use i3c_legacy::Legacies;
+pub use resting::RestingTable;
 pub use row::Row;
 pub use table::{ROWS, Table};

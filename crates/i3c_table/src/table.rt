@@ -1,12 +1,13 @@
-ghost use Rattle.std.specs.Prelude.{◌≡◌, ◌≢◌, ◌↔◌, ◌<◌, ℕ, ◌||◌, ◌&&◌, false, length, not, slice_index, IsTrue};
+ghost use Rattle.std.specs.Prelude.{◌≡◌, ◌≢◌, ◌≤◌, ◌++◌, ℕ, ◌||◌, false, drop, length};
 ghost use Rattle.i3c_base.specs.Sets.{is_in};
 ghost use Rattle.i3c_table.specs.Rows.{static_in};
-ghost use Rattle.i3c_table.specs.Stored.{kept_at, IsStoredAlike};
 
 use crate::keeping::{keep_for, keep_homes};
 use crate::order::Order;
 use crate::registers::Registers;
+use crate::resting::RestingTable;
 use crate::row::Row;
+use crate::rows::Rows;
 use i3c_base::{ADDRESSES, Addr7, Addresses, Bcr, Dcr, Identity};
 use i3c_legacy::{Legacies, is_static};
 use std::marker::Model;
@@ -21,16 +22,16 @@ pub const ROWS: usize = 108;
 #[derive(Drop)]
 pub struct Table {
     // the addresses that were given, and those of them that are kept for an identity
-    held: Addresses,
-    kept: Addresses,
+    pub(crate) held: Addresses,
+    pub(crate) kept: Addresses,
     // at each address that was given, the registers and the static address of who has it
-    registers: [Registers; ADDRESSES],
+    pub(crate) registers: [Registers; ADDRESSES],
     // at each address that is kept, the number of its identity
-    numbers: [u64; ADDRESSES],
-    legacies: Legacies,
+    pub(crate) numbers: [u64; ADDRESSES],
+    pub(crate) legacies: Legacies,
     // the addresses that are kept, by their numbers
-    order: Order,
-    listed: bool,
+    pub(crate) order: Order,
+    pub(crate) listed: bool,
 }
 
 impl Model for Table {
@@ -46,7 +47,7 @@ impl Model for Table {
 }
 
 impl Table {
-    ghost use Rattle.std.specs.Prelude.{◌≡◌, ◌↔◌, ℕ, ◌≤◌, None, Some, true, false, count_by, is_some, length, map, option_map, slice_index_or, IfSome, IsSome, IsTrue, MatchOption};
+    ghost use Rattle.std.specs.Prelude.{◌≡◌, ◌↔◌, ℕ, ◌≤◌, None, Some, true, false, count_by, is_some, length, map, option_map, slice_index_or, IfSome, IsSome, MatchOption};
     ghost use Rattle.i3c_base.specs.declared.range.TheConstants.{ADDRESSES};
     ghost use Rattle.i3c_table.specs.declared.table.TheConstants.{ROWS};
     ghost use Rattle.i3c_base.specs.State.{entry_in, kept_of, known_in, no_entries, taken_over, IsFree, IsKeptIn, IsPickableIn, IsUnknownIn, IsUsable};
@@ -76,100 +77,39 @@ impl Table {
         }
     }
 
-    /// The same table once more.
-    pub fn copied(&self) -> Table
-        ensures { result ≡ self.now }
+    /// The table that was at rest.
+    pub fn woken(resting: &RestingTable) -> Table
+        ensures { result ≡ resting.now }
     {
-        Table {
+        let mut table = Table::new(Legacies::new());
+        table.wake(resting);
+        table
+    }
+
+    /// It becomes the table that was at rest.
+    pub fn wake(&mut self, resting: &RestingTable)
+        ensures { self.new ≡ resting.now }
+    {
+        self.held = resting.held;
+        self.kept = resting.kept;
+        begin_registers(&mut self.registers, &resting.registers);
+        begin_numbers(&mut self.numbers, &resting.numbers);
+        self.legacies.wake(&resting.legacies);
+        self.order.copy_from(&resting.order);
+        self.listed = resting.listed;
+    }
+
+    /// The rows.
+    pub(crate) fn rows(&self) -> Rows<'_>
+        ensures { result ≡ self.now.given }
+    {
+        Rows {
             held: self.held,
             kept: self.kept,
-            registers: registers_again(&self.registers),
-            numbers: self.numbers,
-            legacies: self.legacies.copied(),
-            order: self.order.copied(),
-            listed: self.listed,
+            order: self.order.as_slice(),
+            registers: &self.registers,
+            numbers: &self.numbers,
         }
-    }
-
-    /// It becomes the same table as another one, in place.
-    pub fn copy_from(&mut self, other: &Table)
-        ensures { self.new ≡ other.now }
-    {
-        self.held = other.held;
-        self.kept = other.kept;
-        self.registers.copy_from_slice(&other.registers);
-        self.numbers.copy_from_slice(&other.numbers);
-        if !self.legacies.is_same(&other.legacies) {
-            self.legacies = other.legacies.copied();
-        }
-        self.order.copy_from(&other.order);
-        self.listed = other.listed;
-    }
-
-    /// Whether both tables have the same rows and static addresses, and agree on whether the list is current.
-    pub fn is_same(&self, other: &Table) -> bool
-        ensures { IsTrue result ↔ (self.now ≡ other.now) }
-    {
-        self.listed == other.listed
-            && self.has_same_rows(other)
-            && self.legacies.is_same(&other.legacies)
-    }
-
-    // Whether both tables have the same rows. Only the addresses that were given are looked at, first those that are kept
-    // for an identity, in their order.
-    fn has_same_rows(&self, other: &Table) -> bool
-        ensures { IsTrue result ↔ (self.now.given ≡ other.now.given) }
-    {
-        if !are_same(self.held, other.held) {
-            return false;
-        }
-        let mut left = without_if(self.held, self.kept, self.keeps_same(other));
-        while let Some(address) = left.lowest() {
-            if !self.has_same_row(other, address) {
-                return false;
-            }
-            left = left.without(address);
-        }
-        true
-    }
-
-    // Whether each address that is kept for an identity has the same row in another table.
-    fn keeps_same(&self, other: &Table) -> bool
-        ensures { IsTrue result → (a : ℕ) → is_some (kept_of (entry_in self.now.given a)) ≡ true → entry_in self.now.given a ≡ entry_in other.now.given a }
-    {
-        are_same(self.kept, other.kept)
-            && are_stored_alike(
-                self.order.as_slice(),
-                &self.registers,
-                &self.numbers,
-                &other.registers,
-                &other.numbers,
-            )
-    }
-
-    // Whether both tables have the same row at an address, or none.
-    fn has_same_row(&self, other: &Table, address: Addr7) -> bool
-        ensures { IsTrue result ↔ (entry_in self.now.given address ≡ entry_in other.now.given address) }
-    {
-        if !self.held.has(address) || !other.held.has(address) {
-            return self.has_equal_row(other, address);
-        }
-        let index = address.get() as usize;
-        are_same_registers(&self.registers[index], &other.registers[index])
-            && are_kept_alike(
-                self.kept,
-                &self.numbers,
-                other.kept,
-                &other.numbers,
-                address,
-            )
-    }
-
-    // The same, by the rows as they are read.
-    fn has_equal_row(&self, other: &Table, address: Addr7) -> bool
-        ensures { IsTrue result ↔ (entry_in self.now.given address ≡ entry_in other.now.given address) }
-    {
-        self.row_of(address) == other.row_of(address)
     }
 
     /// The row at an address, if it was given.
@@ -369,76 +309,20 @@ impl Table {
     }
 }
 
-// The same registers once more.
-fn registers_again(registers: &[Registers; ADDRESSES]) -> [Registers; ADDRESSES]
-    ensures { result ≡ registers.now }
+// The first of these registers become others.
+fn begin_registers(registers: &mut [Registers], firsts: &[Registers])
+    requires { length firsts.now ≤ length registers.old }
+    ensures { registers.new ≡ firsts.now ++ drop (length firsts.now) registers.old }
 {
-    let mut copy = [registers[0]; ADDRESSES];
-    copy.copy_from_slice(registers);
-    copy
+    registers[..firsts.len()].copy_from_slice(firsts);
 }
 
-// Whether both are the same registers, with the same static address.
-fn are_same_registers(registers: &Registers, others: &Registers) -> bool
-    ensures { IsTrue result ↔ (registers.now ≡ others.now) }
+// The first of these numbers become others.
+fn begin_numbers(numbers: &mut [u64], firsts: &[u64])
+    requires { length firsts.now ≤ length numbers.old }
+    ensures { numbers.new ≡ firsts.now ++ drop (length firsts.now) numbers.old }
 {
-    registers.bcr == others.bcr && registers.dcr == others.dcr && registers.fixed == others.fixed
-}
-
-// Whether the same registers and the same numbers stand at each of these addresses.
-fn are_stored_alike(
-    addresses: &[Addr7],
-    registers: &[Registers; ADDRESSES],
-    numbers: &[u64; ADDRESSES],
-    others: &[Registers; ADDRESSES],
-    more: &[u64; ADDRESSES],
-) -> bool
-    ensures { IsTrue result → (k : ℕ) → k < length addresses.now → IsStoredAlike registers.now numbers.now others.now more.now (slice_index addresses.now k) }
-{
-    for index in 0..addresses.len() {
-        if !is_stored_alike(addresses[index], registers, numbers, others, more) {
-            return false;
-        }
-    }
-    true
-}
-
-// Whether the same registers and the same number stand at an address.
-fn is_stored_alike(
-    address: Addr7,
-    registers: &[Registers; ADDRESSES],
-    numbers: &[u64; ADDRESSES],
-    others: &[Registers; ADDRESSES],
-    more: &[u64; ADDRESSES],
-) -> bool
-    ensures { IsTrue result → IsStoredAlike registers.now numbers.now others.now more.now address }
-{
-    let index = address.get() as usize;
-    numbers[index] == more[index] && are_same_registers(&registers[index], &others[index])
-}
-
-// A set without the addresses of another, or as it is.
-fn without_if(set: Addresses, others: Addresses, is_so: bool) -> Addresses
-    ensures { (a : ℕ) → is_in result.0 a ≡ (is_in set.0 a && not (is_so && is_in others.0 a)) }
-{
-    if is_so { set.without_all(others) } else { set }
-}
-
-// Whether an address is kept for one identity by both of two sets with the numbers at their addresses, or for nobody.
-fn are_kept_alike(
-    kept: Addresses,
-    numbers: &[u64; ADDRESSES],
-    others: Addresses,
-    more: &[u64; ADDRESSES],
-    address: Addr7,
-) -> bool
-    ensures { IsTrue result ↔ (kept_at kept.0 numbers.now address ≡ kept_at others.0 more.now address) }
-{
-    if !kept.has(address) {
-        return !others.has(address);
-    }
-    let index = address.get() as usize;
-    others.has(address) && numbers[index] == more[index]
+    numbers[..firsts.len()].copy_from_slice(firsts);
 }
 
 // A static address, where it may be one.
@@ -449,13 +333,6 @@ fn static_only(fixed: Option<Addr7>) -> Option<Addr7>
         Some(address) if is_static(address) => Some(address),
         _ => None,
     }
-}
-
-// Whether two sets have the same addresses.
-fn are_same(set: Addresses, other: Addresses) -> bool
-    ensures { IsTrue result ↔ ((a : ℕ) → is_in set.0 a ≡ is_in other.0 a) }
-{
-    set == other
 }
 
 // The set with a new address in place of an old one, if it has that.
