@@ -14,15 +14,15 @@ use Rattle.i3c_explore.proofs.Lists.{contains_get, get_contains}
 use Rattle.i3c_explore.proofs.Turns.{leads_prefix, no_longer, prefix_before, turns_here, turns_other}
 use Rattle.i3c_explore.proofs.Covering.{held_more, none_longer, order_more, reached_more}
 
--- the nodes of a layer are reached from the starts, by orders of a part of so many turns
+-- the nodes of a layer are reached from the starts, by orders of a part with `count` turns
 abbrev pub AreReached : {S L : Type 0} → (S → L → ℕ → S → Type 0) → Part → List (Vec L) → List (Node S) → ℕ → List (Node S) → Type 0
 AreReached {S} steps part tracks starts count layer = (n : Node S) → Contains layer n → (s : Node S) × Contains starts s × ((r : IsReached steps tracks s n) × (length r.turns ≡ count) × InPart part r.turns)
 
--- each order of a part of so many turns leads from each start to a node of the layer
+-- each order of a part with `count` turns leads from each start to a node of the layer
 abbrev pub AreHeld : {S L : Type 0} → (S → L → ℕ → S → Type 0) → Part → List (Vec L) → List (Node S) → ℕ → List (Node S) → Type 0
 AreHeld {S} steps part tracks starts count layer = (s : Node S) → Contains starts s → (order : List Turn) → length order ≡ count → IsPrefix tracks order → InPart part order → Holds steps tracks s.state layer order
 
--- each order of a part of at most so many turns leads on
+-- each order of a part with at most `count` turns leads on
 abbrev pub LeadOn : {S L : Type 0} → (S → L → ℕ → S → Type 0) → Part → List (Vec L) → List (Node S) → ℕ → Type 0
 LeadOn {S} steps part tracks starts count = (s : Node S) → Contains starts s → (order : List Turn) → length order ≤ count → IsPrefix tracks order → InPart part order → (end : S) × Leads steps tracks s.state order end
 

@@ -15,15 +15,15 @@ use Rattle.i3c_explore.proofs.Turns.{breaks_prefix}
 use Rattle.i3c_explore.proofs.Blocks.{order_prefix, whole_longest}
 use Rattle.i3c_explore.proofs.Covering.{leads_once}
 
--- each course of a part of so many blocks leads to a node of the layer
+-- each course of a part over `count` blocks leads to a node of the layer
 abbrev pub HoldCourses : {S L : Type 0} → (S → L → ℕ → S → Type 0) → Part → ℕ → List (Vec (Vec L)) → S → ℕ → List (Node S) → Type 0
 HoldCourses {S} steps part split blocks start count layer = (course : List (List Turn)) → IsCourse blocks course → BeginsIn part split course → length course ≡ count → (n : Node S) × Contains layer n × LeadsOn steps blocks start course n.state
 
--- each beginning of a course of the part of at most so many blocks leads on
+-- each beginning of a course of the part over at most `count` blocks leads on
 abbrev pub CoursesLead : {S L : Type 0} → (S → L → ℕ → S → Type 0) → Part → ℕ → List (Vec (Vec L)) → S → ℕ → Type 0
 CoursesLead {S} steps part split blocks start count = (course : List (List Turn)) → IsBegun blocks course → BeginsIn part split course → length course ≤ count → (end : S) × LeadsOn steps blocks start course end
 
--- each node of the layer is reached by a course of the part of so many blocks
+-- each node of the layer is reached by a course of the part over `count` blocks
 abbrev pub ReachCourses : {S L : Type 0} → (S → L → ℕ → S → Type 0) → Part → ℕ → List (Vec (Vec L)) → S → ℕ → List (Node S) → Type 0
 ReachCourses {S} steps part split blocks start count layer = (n : Node S) → Contains layer n → (course : List (List Turn)) × IsCourse blocks course × BeginsIn part split course × (length course ≡ count) × (n.order.items ≡ reverse (turns course)) × LeadsOn steps blocks start course n.state
 

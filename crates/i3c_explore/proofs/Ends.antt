@@ -23,7 +23,7 @@ length_plain : (xs : List ℕ) → length (plain xs) ≡ length xs
 length_plain [] = refl
 length_plain (t ∷ xs) = ap suc (length_plain xs)
 
--- the orders of a part of so many turns are shared out among the nodes of a layer
+-- the orders of a part with `count` turns are shared out among the nodes of a layer
 pub record IsCounted {S L : Type 0} (steps : S → L → ℕ → S → Type 0) (part : Part) (tracks : List (Vec L)) (starts : List (Node S)) (past : ℕ → List (List (List ℕ))) (count : ℕ) (layer : List (Node S)) : Type 0 where
   pub share : ℕ → List (List ℕ × List (List ℕ))
   pub shared : IsShared layer share

@@ -13,7 +13,7 @@ use Rattle.i3c_explore.specs.Orders.{lines_in, track}
 pub next_at : {L : Type 0} (lines : ℕ → List L) (places : List ℕ) (t p : ℕ) (found : Option L) → t < length places → p ≡ get_or places t p → slice_get (lines t) p ≡ found → slice_get (lines t) (get_or places t 0) ≡ found
 next_at lines places t p found here at is = ap (λ (k : ℕ). slice_get (lines t) k) (sym (at ∙ get_or_default_zero places t p here)) ∙ is
 
--- and nothing else does
+-- and no other line does
 pub next_once : {L : Type 0} (lines : ℕ → List L) (places : List ℕ) (t : ℕ) (x y : L) → IsNextAt lines places t x → IsNextAt lines places t y → x ≡ y
 next_once lines places t x y one other = cc
 

@@ -45,7 +45,7 @@ plain_successor steps part tracks old new made = record {
   order = made.order;
 }
 
--- the part by which the lines after so many turns are chosen: behind the first turn each line goes
+-- the part by which the lines after `count` turns are chosen: behind the first turn each line goes
 abbrev pub part_at : Part → ℕ → Part
 part_at part count = if count == 0 then part else whole
 
@@ -95,7 +95,7 @@ opens part turn (last ∷ before) count len fits =
     let some : 0 < count = omega arith in
     subst (λ (p : Part). begins p turn.track ≡ true) (sym (part_later part count some)) (whole_begins turn.track)
 
--- and such a line makes an order of the part
+-- and a line that begins the part makes an order of it
 pub opened_in_part : (part : Part) (turn : Turn) (before : List Turn) (count : ℕ) → length before ≡ count → InPart part before → begins (part_at part count) turn.track ≡ true → InPart part (turn ∷ before)
 opened_in_part part turn [] count len fits is =
     let here : begins part turn.track ≡ true = subst (λ (k : ℕ). begins (part_at part k) turn.track ≡ true) (sym len) is in

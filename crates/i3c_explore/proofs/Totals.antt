@@ -46,7 +46,7 @@ below_distinct nodes share shared (suc count) =
     distinct_append (all_below share count) (share count) (below_distinct nodes share shared count) (shared.distinct count)
     (λ o c d. let (k, lt, e) = below_from share count o c in let same = shared.apart k count o e d in omega arith)
 
--- the histories of so many blocks are shared out among the nodes of a layer
+-- the histories over `count` blocks are shared out among the nodes of a layer
 pub record SharesCourses {S L : Type 0} (steps : S → L → ℕ → S → Type 0) (part : Part) (split : ℕ) (blocks : List (Vec (Vec L))) (start : S) (count : ℕ) (layer : List (Node S)) : Type 0 where
   pub share : ℕ → List (List (List ℕ))
   pub shared : IsShared layer share

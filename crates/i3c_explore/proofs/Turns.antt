@@ -98,7 +98,7 @@ removed_other t u (turn ∷ order) apart = elim (eqb_tells turn.track t) [
       let h = turns_cons u turn order (remove t order) (removed_other t u order apart) in omega arith)
 ]
 
--- of two orders, the one of which fewer lines of each track went is no longer
+-- an order in which fewer lines of each track went is no longer than the other
 pub no_longer : (more fewer : List Turn) → ((t : ℕ) → turns_of t fewer ≤ turns_of t more) → length fewer ≤ length more
 no_longer more [] within = omega arith
 no_longer more (turn ∷ fewer) within =

@@ -20,7 +20,7 @@ use crate::stop::Stop;
 use std::alloc::{AllocError, Global};
 use std::mem;
 
-/// Puts a node back to the first line of each of so many tracks.
+/// Puts a node back to the first line of each of `count` tracks.
 fn restart<M>(alloc: Global, node: &mut Node<M>, count: usize) -> Result<(), AllocError>
     ensures { OnOk result (IsRestarted count node.old node.new) }
 {
@@ -28,7 +28,7 @@ fn restart<M>(alloc: Global, node: &mut Node<M>, count: usize) -> Result<(), All
     Ok(())
 }
 
-/// Puts each node of a layer back to the first line of each of so many tracks.
+/// Puts each node of a layer back to the first line of each of `count` tracks.
 fn restart_all<M>(alloc: Global, nodes: &mut Vec<Node<M>>, count: usize) -> Result<(), AllocError>
     ensures restarted { OnOk result ((n : NodeValue M) (k : ℕ) → slice_get nodes.new.items k ≡ Some n → (old : NodeValue M) × (slice_get nodes.old.items k ≡ Some old) × IsRestarted count old n) }
     ensures length { OnOk result (length nodes.new.items ≡ length nodes.old.items) }
@@ -50,8 +50,8 @@ fn together<M: Machine>(one: Vec<Node<M>>, other: Vec<Node<M>>) -> Vec<Node<M>> 
     more
 }
 
-/// Whether a layer ends a block, where so many lines have run: none follows it. A part that begins with no line has an
-/// empty layer behind the first line.
+/// Whether a layer ends a block after `ran` lines: none follows it. A part that begins with no line has an empty layer behind
+/// the first line.
 fn is_over<M>(next: &Vec<Node<M>>, part: Part, ran: u64) -> bool
     ensures { IsTrue result ↔ ((length next.now.items ≡ 0) × ((0 < ran) ⊎ (part ≡ whole))) }
 {

@@ -16,7 +16,7 @@ pub(crate) struct Gathered<M> {
     pub nodes: Vec<Node<M>>,
     /// Each job's span of them.
     pub spans: Vec<JobSpan>,
-    /// Where each node stands in the order in which one thread finds them.
+    /// The rank of each node: its place in the order in which one thread finds them.
     pub ranks: Vec<usize>,
     /// Nodes whose room is free to be taken.
     pub spares: Vec<Node<M>>,

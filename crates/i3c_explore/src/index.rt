@@ -38,7 +38,7 @@ impl Index {
         Some((other == key, index))
     }
 
-    /// The key of a node, or 0 if there is no such node.
+    /// The key of a node, or 0 if there is no node of this index.
     pub(crate) fn key(&self, index: usize) -> u64 {
         match self.keys.get(index) {
             Some(key) => *key,

@@ -33,7 +33,7 @@ struct Job<M> {
     spares: Vec<Node<M>>,
 }
 
-/// A job's share of the spare nodes, of so many jobs.
+/// A job's share of the spare nodes, among `jobs` jobs.
 fn share_of<M: Machine>(
     spares: &mut Vec<Node<M>>,
     jobs: usize,

@@ -12,7 +12,7 @@ use crate::turn::{Turn, extended_in};
 use std::alloc::{AllocError, Global};
 use std::mem;
 
-/// The states after so many lines, and what the exploration may still cost.
+/// The states after a number of lines, and what the exploration may still cost.
 #[derive(Drop)]
 pub(crate) struct Layer<M> {
     /// The states, each with the orders that lead there.
@@ -24,7 +24,7 @@ pub(crate) struct Layer<M> {
     // the room of the places of the node that is put
     room: Vec<usize>,
     index: Index,
-    /// Where each node stands among those of all jobs.
+    /// The rank of each node among those of all jobs.
     pub ranks: Vec<usize>,
     rank: usize,
 }
@@ -40,7 +40,7 @@ pub(crate) struct Found<M> {
     pub spares: Vec<Node<M>>,
     /// The table by which the nodes are found.
     pub index: Index,
-    /// Where each node stands among those of all jobs.
+    /// The rank of each node among those of all jobs.
     pub ranks: Vec<usize>,
 }
 
@@ -125,7 +125,7 @@ impl<M: Machine> Layer<M> {
         }
     }
 
-    /// New nodes stand here among those of all jobs, from now on.
+    /// New nodes have this rank among those of all jobs, from now on.
     pub(crate) fn turn_to(&mut self, rank: usize)
         ensures { self.new.nodes ≡ self.old.nodes }
     {

@@ -204,7 +204,7 @@ where
     }
 }
 
-/// The node with which a job begins to look for twins, of so many jobs. They look from the second span on, since nothing
+/// The node at which a job begins to look for twins, among `jobs` jobs. They look from the second span on, since nothing
 /// was found before the first one.
 fn search_from(spans: &[JobSpan], nodes: usize, job: usize) -> usize {
     let jobs = spans.len();

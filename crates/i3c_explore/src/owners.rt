@@ -6,7 +6,7 @@ use crate::node::Node;
 use crate::part::Part;
 use std::alloc::{AllocError, Global};
 
-/// Which job runs the next line of a track from a node of a layer.
+/// The job that runs the next line of a track from a node of a layer.
 ///
 /// Whoever runs it, the same states are found. So it is proved that each line is of one job, and nothing of which job that is.
 #[derive(Drop)]
@@ -28,7 +28,7 @@ impl Owners {
         }
     }
 
-    /// Whether a job runs the next line of a track from a node, of so many tracks.
+    /// Whether a job runs the next line of a track from a node with `tracks` tracks.
     pub(crate) fn takes(&self, job: usize, node: usize, track: usize, tracks: usize) -> bool
         ensures { result ≡ takes self.now.jobs.items tracks job node track }
     {
@@ -79,7 +79,7 @@ fn code_of(places: &Vec<usize>) -> u64 {
     code
 }
 
-/// What one more line of a track adds to the number, where so many tracks follow.
+/// The weight of one more line of a track in the number, with `later` tracks behind it.
 fn weight_of(later: usize) -> u64 {
     let mut weight = 1u64;
     for _ in 0..later {

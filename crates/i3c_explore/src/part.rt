@@ -28,7 +28,7 @@ impl Part {
     ghost use Rattle.std.specs.Prelude.{◌≡◌, ◌≤◌, ◌<◌, ◌↔◌, ◌+◌, IfSome, IsSome, IsTrue, if◌then◌else◌};
     ghost use Rattle.i3c_explore.specs.Parts.{begins, whole};
 
-    /// The part of this number, from 1 on, of so many.
+    /// Part `number`, counted from 1, of `of` parts.
     pub fn new(number: usize, of: usize) -> Option<Part>
         ensures some { IsSome result ↔ ((1 ≤ number) × (number ≤ of)) }
         ensures part { IfSome result (λ part. (part.index + 1 ≡ number) × (part.of ≡ of)) }
@@ -55,7 +55,7 @@ impl Part {
         self.of == 1
     }
 
-    /// Whether it has an order, where block `split` of so many is parted. Where none is, only the first part has one.
+    /// Whether it has an order, where block `split` of `blocks` is parted. Where none is, only the first part has one.
     pub(crate) fn has_orders(self, split: usize, blocks: usize) -> bool
         ensures { IsTrue result ↔ (split ≡ blocks → self.index ≡ 0) }
     {

@@ -14,7 +14,7 @@ pub struct Progress {
     pub steps: u64,
 }
 
-/// Somebody who watches an exploration. What it does changes nothing of the exploration.
+/// A watcher of an exploration. It has no effect on the exploration.
 pub trait Watch {
     /// Is told how far the exploration is, often.
     fn told(&self, progress: Progress);
@@ -36,7 +36,7 @@ impl Watch for Unwatched {
 /// A watcher of one exploration, with what its numbers are counted by.
 #[derive(Drop)]
 pub(crate) struct View<'a, W> {
-    /// Who watches.
+    /// The watcher.
     pub watch: &'a W,
     /// The number of lines of an order.
     pub lines: usize,

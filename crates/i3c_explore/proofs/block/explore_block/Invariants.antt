@@ -4,7 +4,7 @@ use Rattle.i3c_explore.proofs.Blocks.{AreHeld, AreReached, AreSome, LeadOn}
 use Rattle.i3c_explore.proofs.Ends.{IsCounted}
 use Rattle.i3c_explore.proofs.block.explore_block.Given as goal
 
--- every order of the part of so many lines leads to a node of the layer, and each node is reached by such an order
+-- every order of the part with `ran` lines leads to a node of the layer, and each node is reached by one
 abbrev pub invariant-loop-ran : goal.invariant-loop-ran
 invariant-loop-ran g l = record {
   lead_on : LeadOn g.M.Machine.steps l.fn.part l.fn.tracks l.fn.starts.nodes.items l.ran;
