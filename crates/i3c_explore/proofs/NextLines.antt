@@ -1,13 +1,10 @@
 -- The line that runs next at a node's places.
-use Rattle.std.proofs.Common.{◌≡◌, ◌∙◌, ◌<◌, ◌≤◌, ℕ, List, [], ◌∷◌, ◌++◌, None, Option, ap, get_or, length, refl, subst, sym}
-use Rattle.std.specs.Global.{Vec}
+use Rattle.std.proofs.Common.{◌≡◌, ◌∙◌, ◌<◌, ℕ, List, [], ◌∷◌, ◌++◌, Option, ap, get_or, length, subst, sym}
 use Rattle.std.specs.List.{slice_get}
 use Rattle.std.proofs.lemmas.Grind.{get_or_default_zero}
-use Rattle.std.proofs.lemmas.Option.{slice_get_past, slice_get_read}
 use Rattle.i3c_explore.specs.declared.node.Node.{Node}
 use Rattle.i3c_explore.specs.declared.turn.Turn.{Turn}
 use Rattle.i3c_explore.specs.Layers.{IsNextAt, IsSuccessor, advanced}
-use Rattle.i3c_explore.specs.Orders.{lines_in, track}
 
 -- what a track has at a node's place runs next
 pub next_at : {L : Type 0} (lines : ℕ → List L) (places : List ℕ) (t p : ℕ) (found : Option L) → t < length places → p ≡ get_or places t p → slice_get (lines t) p ≡ found → slice_get (lines t) (get_or places t 0) ≡ found

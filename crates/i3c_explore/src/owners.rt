@@ -169,6 +169,16 @@ struct Boundary {
     node: usize,
 }
 
+impl Boundary {
+    /// Whether a line isn't in front of it.
+    fn is_reached(&self, target: u64, node: usize) -> bool {
+        if self.target != target {
+            return self.target < target;
+        }
+        self.node <= node
+    }
+}
+
 /// How often all of some lines run.
 fn ways_of(samples: &[Sample]) -> usize {
     let mut ways = 0usize;
@@ -210,7 +220,7 @@ fn boundaries_of(
 fn owner_by(boundaries: &[Boundary], target: u64, node: usize) -> usize {
     let mut owner = 0usize;
     for boundary in boundaries {
-        if (boundary.target, boundary.node) <= (target, node) {
+        if boundary.is_reached(target, node) {
             owner = owner.saturating_add(1);
         }
     }
