@@ -1,6 +1,6 @@
 -- Places that are kept in short: each slot holds what is kept for it.
-use Rattle.std.proofs.Common.{◌≡◌, ℕ, zero, suc, ◌+◌, ◌<◌, ◌≤◌, ◌==◌, true, false, List, [], ◌∷◌, ◌++◌, get_or, set, length, length-set, take, Option, Some, None, is_some, option_map, Bool, Decides, inl, inr, refl, sym, ap, ◌∙◌, arith}
-use Rattle.std.proofs.lemmas.Bool.{both_ways, cases_eq, cases_lt, cond-true, eq-eqb}
+use Rattle.std.proofs.Common.{◌≡◌, ℕ, zero, suc, ◌+◌, ◌<◌, ◌≤◌, ◌==◌, false, true, ◌&&◌, ◌||◌, List, [], ◌∷◌, ◌++◌, get_or, set, length, length-set, take, Option, Some, None, is_some, option_map, Bool, Decides, inl, inr, refl, sym, ap, ◌∙◌, arith}
+use Rattle.std.proofs.lemmas.Bool.{both_ways, cases_eq, cases_lt, cond-true, eq-eqb, false≢true}
 use Rattle.std.proofs.lemmas.List.{ext_get_or, get_or_default, get_or-set_other, get_or-set_same, get_or-take, length-take-le}
 use Rattle.i3c_base.specs.declared.range.TheConstants.{SLOTS}
 use Rattle.i3c_base.specs.Numbers.{KindSet}
@@ -13,7 +13,7 @@ use Rattle.i3c_device.specs.Keeping.{unpacked}
 use Rattle.i3c_device.specs.Marks.{IsSetOf}
 use Rattle.i3c_device.specs.Sets.{has}
 use Rattle.i3c_device.proofs.EachLaws.{changed_in}
-use Rattle.i3c_device.proofs.FindLaws.{TakesOut, still_in}
+use Rattle.i3c_device.proofs.FindLaws.{TakesOut, not_taken, still_in}
 use Rattle.i3c_device.proofs.SameLaws.{AreSameBut, both_seen}
 use Rattle.i3c_device.proofs.SeenLaws.{length_seen}
 use Rattle.i3c_device.proofs.SeenWalks.{now_at}
@@ -129,3 +129,89 @@ decided e more xs ys now others s i kinds twins o p b is are at own its here the
 
     two : option_map (under twins) p ≡ seen_in more s (get_or ys s None)
     two j = option_map (under ((its ∙ ap (kinds_in more) (sym at)) j)) (there j)
+
+-- ---- devices that are compared where they are held
+
+-- a slot that holds somebody is one of those that are kept
+pub held_inside : (kept now : List (Option Device)) (i : ℕ) → unpacked kept ≡ now → i < SLOTS → is_some (get_or now i None) ≡ true → i < length kept
+held_inside kept now i is low held = elim (cases_lt i (length kept)) [
+  | inl inside ↦ inside
+  | inr over ↦
+      absurd (false≢true (ap is_some (sym (beyond kept i over) ∙ (sym (unpacked_at kept i low) ∙ ap (λ places. get_or places i None) is)) ∙ held))
+]
+
+-- of the slots among these, those that aren't left hold the same in both
+pub record AreWalked (among left : SlotSet) (now others : List (Option Device)) : Type 0 where
+  pub within : (s : ℕ) → s < SLOTS → has left s ≡ true → has among s ≡ true
+  pub same : (s : ℕ) → s < SLOTS → has among s ≡ true → has left s ≡ false → get_or now s None ≡ get_or others s None
+
+pub walked_none : (among : SlotSet) (now others : List (Option Device)) → AreWalked among among now others
+walked_none among now others = record { within = λ s l t. t; same = λ s l t gone. absurd (both_ways (has among s) gone t) }
+
+pub walked_more : (among left next : SlotSet) (i : ℕ) (now others : List (Option Device)) → AreWalked among left now others → TakesOut i left next → get_or now i None ≡ get_or others i None → AreWalked among next now others
+walked_more among left next i now others h out same = record {
+  within = λ s l t. h.within s l (sym (still_in i left next out s l (not_taken i left next out s l t)) ∙ t);
+  same = λ s l t gone. elim (cases_eq s i) [
+    | inl e ↦ ap (λ k. get_or now k None) e ∙ (same ∙ sym (ap (λ k. get_or others k None) e))
+    | inr ne ↦ h.same s l t (sym (still_in i left next out s l ne) ∙ gone)
+  ];
+}
+
+-- whoever is there is that one
+pub some_own : (d e : Device) → Some d ≡ Some e → d ≡ e
+some_own d e h = cc
+
+-- a device is the same as another one with its kinds, if it is with others
+pub same_under : (d e : Device) (kinds : KindSet) → d.kinds ≡ e.kinds → under kinds d ≡ under kinds e → d ≡ e
+same_under d e kinds own h j = record (h j) { kinds = own j }
+
+-- all is seen alike where the same slots are held, with the same kinds, by the same devices
+pub all_seen : (e more : Enabled) (xs ys now others : List (Option Device)) → seen e xs ≡ now → seen more ys ≡ others → length now ≡ SLOTS → length others ≡ SLOTS
+    → ((s : ℕ) → s < SLOTS → is_some (get_or xs s None) ≡ is_some (get_or ys s None)) → ((s : ℕ) → s < SLOTS → is_some (get_or xs s None) ≡ true → kinds_in e s ≡ kinds_in more s)
+    → ((kinds : KindSet) (s : ℕ) → s < SLOTS → is_some (get_or xs s None) ≡ true → option_map (under kinds) (get_or xs s None) ≡ option_map (under kinds) (get_or ys s None)) → now ≡ others
+all_seen e more xs ys now others is are long wide there kinds same = ext_get_or None now others (long ∙ sym wide)
+    (λ s l. let low : s < SLOTS = omega (arith, l, long) in
+    now_at e xs now s is ∙ (go s (get_or xs s None) (get_or ys s None) (there s low) (kinds s low) (λ own. same own s low) ∙ sym (now_at more ys others s are)))
+  where
+    go : (s : ℕ) (o p : Option Device) → is_some o ≡ is_some p → (is_some o ≡ true → kinds_in e s ≡ kinds_in more s) → ((own : KindSet) → is_some o ≡ true → option_map (under own) o ≡ option_map (under own) p) → seen_in e s o ≡ seen_in more s p
+    go s None None t k h = refl
+    go s None (Some d) t k h = absurd (false≢true t)
+    go s (Some c) None t k h = absurd (false≢true (sym t))
+    go s (Some c) (Some d) t k h = h (kinds_in e s) refl ∙ ap (λ own. option_map (under own) (Some d)) (k refl)
+
+-- what is seen alike in a slot
+seen_at : (e more : Enabled) (xs ys now others : List (Option Device)) (s : ℕ) → seen e xs ≡ now → seen more ys ≡ others → now ≡ others → seen_in e s (get_or xs s None) ≡ seen_in more s (get_or ys s None)
+seen_at e more xs ys now others s is are same = sym (now_at e xs now s is) ∙ (ap (λ places. get_or places s None) same ∙ now_at more ys others s are)
+
+-- has the same kinds
+pub seen_kinds : (e more : Enabled) (xs ys now others : List (Option Device)) (s : ℕ) → seen e xs ≡ now → seen more ys ≡ others → now ≡ others → is_some (get_or xs s None) ≡ true → kinds_in e s ≡ kinds_in more s
+seen_kinds e more xs ys now others s is are same = go (get_or xs s None) (get_or ys s None) (seen_at e more xs ys now others s is are same)
+  where
+    go : (o p : Option Device) → seen_in e s o ≡ seen_in more s p → is_some o ≡ true → kinds_in e s ≡ kinds_in more s
+    go None p h t = absurd (false≢true t)
+    go (Some c) None h t = absurd (false≢true (sym (ap is_some h)))
+    go (Some c) (Some d) h t = let both : under (kinds_in e s) c ≡ under (kinds_in more s) d = cc in ap (λ (one : Device). one.kinds) both
+
+-- and is the same with any kinds
+pub seen_same : (e more : Enabled) (xs ys now others : List (Option Device)) (kinds : KindSet) (s : ℕ) → seen e xs ≡ now → seen more ys ≡ others → now ≡ others
+    → option_map (under kinds) (get_or xs s None) ≡ option_map (under kinds) (get_or ys s None)
+seen_same e more xs ys now others kinds s is are same =
+    sym (over e (get_or xs s None)) ∙ (ap (option_map (under kinds)) (seen_at e more xs ys now others s is are same) ∙ over more (get_or ys s None))
+  where
+    over : (enabled : Enabled) (o : Option Device) → option_map (under kinds) (seen_in enabled s o) ≡ option_map (under kinds) o
+    over enabled None = refl
+    over enabled (Some d) = refl
+
+-- one of two sets has a slot, or neither
+pub neither : (a b : Bool) → (a || b) ≡ false → (a ≡ false) × (b ≡ false)
+neither false b h = (refl, h)
+neither true b h = absurd (false≢true (sym h))
+
+pub not_both : (a b : Bool) → (a && b) ≡ false → b ≡ true → a ≡ false
+not_both false b h t = refl
+not_both true b h t = absurd (both_ways b h t)
+
+pub but_one : (a b : Bool) → (b ≡ true → a ≡ false) → (a && b) ≡ false
+but_one false b h = refl
+but_one true false h = refl
+but_one true true h = h refl

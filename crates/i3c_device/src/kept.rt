@@ -32,7 +32,7 @@ impl Model for Kept {
 }
 
 impl Kept {
-    ghost use Rattle.std.specs.Prelude.{◌≡◌, ◌<◌, ℕ, OnErr, OnOk, None, is_some, length, option_copied, slice_index_or};
+    ghost use Rattle.std.specs.Prelude.{◌≡◌, ◌<◌, ℕ, OnErr, OnOk, Some, None, true, is_some, length, option_copied, slice_index_or};
     ghost use Rattle.i3c_base.specs.declared.range.TheConstants.{SLOTS as SLOT_COUNT};
     ghost use Rattle.i3c_base.specs.State.{no_devices};
     ghost use Rattle.i3c_device.specs.Sets.{has};
@@ -76,6 +76,18 @@ impl Kept {
         match self.places.get(slot.index()) {
             Some(place) => place.as_ref(),
             None => None,
+        }
+    }
+
+    /// The device in a slot that holds one.
+    #[inline(always)]
+    pub fn device(&self, index: usize) -> &Attached
+        requires { (index < SLOT_COUNT) × (is_some (slice_index_or self.now index None) ≡ true) }
+        ensures { slice_index_or self.now index None ≡ Some result.now }
+    {
+        match &self.places[index] {
+            Some(device) => device,
+            None => unreachable!(),
         }
     }
 }

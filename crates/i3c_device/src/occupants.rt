@@ -132,6 +132,18 @@ impl Occupants {
         &self.places[slot.index()]
     }
 
+    /// The device in a slot that holds one.
+    #[inline(always)]
+    pub fn device(&self, index: usize) -> &Attached
+        requires { (index < SLOT_COUNT) × (is_some (slice_index_or self.now index None) ≡ true) }
+        ensures { slice_index_or self.now index None ≡ Some result.now }
+    {
+        match &self.places[index] {
+            Some(device) => device,
+            None => unreachable!(),
+        }
+    }
+
     /// In which slots a walk may find something.
     pub fn marks(&self) -> &Marks
         ensures marks { AreMarks result.now self.now }

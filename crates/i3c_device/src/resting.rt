@@ -1,11 +1,16 @@
-ghost use Rattle.std.specs.Prelude.{◌≡◌, ◌↔◌, IsTrue, false, option_map, option_copied};
+ghost use Rattle.std.specs.Prelude.{◌≡◌, ◌<◌, ◌↔◌, ℕ, IsTrue, None, false, true, option_map, option_copied, slice_index_or};
+ghost use Rattle.i3c_base.specs.declared.range.TheConstants.{SLOTS as SLOT_COUNT};
 ghost use Rattle.i3c_base.specs.Numbers.{KindSet};
 ghost use Rattle.i3c_device.specs.Enabling.{under};
+ghost use Rattle.i3c_device.specs.Keeping.{IsHeld};
+ghost use Rattle.i3c_device.specs.Sets.{has};
 
 use crate::attached::Attached;
 use crate::devices::Devices;
 use crate::enabled::Enabled;
 use crate::kept::Kept;
+use crate::occupants::Occupants;
+use crate::slot_set::SlotSet;
 use i3c_base::{Addr7, Slot};
 use std::alloc::{AllocError, Global};
 use std::marker::Model;
@@ -81,20 +86,10 @@ impl Resting {
     pub fn is_of(&self, devices: &Devices) -> bool
         ensures { IsTrue result ↔ (self.now ≡ devices.now) }
     {
-        let differing = self.enabled.differing(devices.enabled);
-        let mut left = self.kept.present().or(devices.present());
-        while let Some(index) = left.take_lowest() {
-            let slot = Slot::from_index(index);
-            let differ = differing.has(index);
-            if !are_same(
-                self.kept.at(slot),
-                devices.occupants.at(slot).as_ref(),
-                differ,
-            ) {
-                return false;
-            }
-        }
-        true
+        let present = self.kept.present();
+        let alone = present.apart(devices.present());
+        let differing = self.enabled.differing(devices.enabled).and(present);
+        alone.or(differing).is_none() && are_same_among(present, &self.kept, &devices.occupants)
     }
 
     /// The dynamic address of a slot's device, if there is a device and it has one.
@@ -118,4 +113,18 @@ fn are_same(one: Option<&Attached>, other: Option<&Attached>, differ: bool) -> b
         (None, Some(_)) => false,
         (Some(_), None) => false,
     }
+}
+
+/// Whether both hold the same devices in these slots. Each of these slots holds one in both.
+fn are_same_among(among: SlotSet, kept: &Kept, occupants: &Occupants) -> bool
+    requires { (s : ℕ) → s < SLOT_COUNT → has among s ≡ true → IsHeld kept.now occupants.now s }
+    ensures { (kinds : KindSet) → IsTrue result ↔ ((s : ℕ) → s < SLOT_COUNT → has among s ≡ true → option_map (under kinds) (slice_index_or kept.now s None) ≡ option_map (under kinds) (slice_index_or occupants.now s None)) }
+{
+    let mut left = among;
+    while let Some(index) = left.take_lowest() {
+        if !kept.device(index).is_same(occupants.device(index)) {
+            return false;
+        }
+    }
+    true
 }

@@ -86,6 +86,13 @@ impl SlotSet {
         set
     }
 
+    /// Whether no slot is in it.
+    pub(crate) fn is_none(self) -> bool
+        ensures { IsTrue result ↔ IsNone self }
+    {
+        self.lowest().is_none()
+    }
+
     /// Its lowest slot, if there is one.
     pub fn lowest(self) -> Option<Slot>
         ensures { MatchOption result (IsNone self) (IsLowestOf self) }

@@ -107,6 +107,26 @@ impl Name {
     {
         &self.bytes[..usize::from(self.length)]
     }
+
+    /// Whether both are the same name.
+    #[inline(always)]
+    pub fn is_same(&self, other: &Name) -> bool
+        ensures { IsTrue result ↔ (self.now ≡ other.now) }
+    {
+        (self.length == other.length) & have_same_bytes(&self.bytes, &other.bytes)
+    }
+}
+
+/// Whether both are the same bytes. All are looked at, which is faster than to stop at the first that differs.
+#[inline(always)]
+fn have_same_bytes(bytes: &[u8; NAME_LENGTH], others: &[u8; NAME_LENGTH]) -> bool
+    ensures { IsTrue result ↔ (bytes.now ≡ others.now) }
+{
+    let mut same = true;
+    for index in 0..NAME_LENGTH {
+        same = same & (bytes[index] == others[index]);
+    }
+    same
 }
 
 impl Default for Name {
@@ -134,7 +154,7 @@ impl PartialEq for Name {
     ghost laws = { on_per letters (partial_equiv_from_equiv nat_list_eq_equiv) };
 
     fn eq(&self, other: &Self) -> bool {
-        self.as_bytes() == other.as_bytes()
+        self.is_same(other)
     }
 }
 
