@@ -233,16 +233,9 @@ impl Still {
         let Ok(()) = self.devices.copy_from(&bus.devices) else {
             return Err(OutOfMemory);
         };
-        if let Some(records) = records {
-            self.records = records;
-        }
-        match table {
-            Some(table) => self.table = table,
-            None => self.table.copy_from(&bus.table),
-        }
-        if let Some(legacy) = legacy {
-            self.legacy = legacy;
-        }
+        settle_records(&mut self.records, records, &bus.records);
+        settle_table(&mut self.table, table, &bus.table);
+        settle_targets(&mut self.legacy, legacy, &bus.legacy);
         self.active = bus.active.slot();
         self.raised = bus.raised;
         self.in_session = bus.in_session;
@@ -378,6 +371,16 @@ fn other_records(
     Ok(Some(records_again(alloc, others)?))
 }
 
+/// These become the same records as others, of which there is a copy where they aren't.
+fn settle_records(records: &mut Vec<Record>, copy: Option<Vec<Record>>, others: &Vec<Record>)
+    requires { MatchOption copy (records.old.items ≡ others.now.items) (λ copy. copy.items ≡ others.now.items) }
+    ensures { records.new.items ≡ others.now.items }
+{
+    if let Some(copy) = copy {
+        *records = copy;
+    }
+}
+
 /// A table at rest once more, unless there is room for it in this one.
 fn other_table(
     alloc: Global,
@@ -392,6 +395,17 @@ fn other_table(
     Ok(Some(RestingTable::of(alloc, table)?))
 }
 
+/// A table at rest becomes a table as it is now, of which there is a copy where it has no room for it.
+fn settle_table(resting: &mut RestingTable, copy: Option<RestingTable>, table: &Table)
+    requires { MatchOption copy (HasRoom resting.old table.now) (λ copy. copy ≡ table.now) }
+    ensures { resting.new ≡ table.now }
+{
+    match copy {
+        Some(copy) => *resting = copy,
+        None => resting.copy_from(table),
+    }
+}
+
 /// Targets at rest once more, unless these are the same.
 fn other_targets(
     alloc: Global,
@@ -404,6 +418,20 @@ fn other_targets(
         return Ok(None);
     }
     Ok(Some(RestingTargets::of(alloc, targets)?))
+}
+
+/// Targets at rest become targets as they are now, of which there is a copy where they aren't the same.
+fn settle_targets(
+    resting: &mut RestingTargets,
+    copy: Option<RestingTargets>,
+    targets: &LegacyTargets,
+)
+    requires { MatchOption copy (resting.old ≡ targets.now) (λ copy. copy ≡ targets.now) }
+    ensures { resting.new ≡ targets.now }
+{
+    if let Some(copy) = copy {
+        *resting = copy;
+    }
 }
 
 /// The same records once more.
