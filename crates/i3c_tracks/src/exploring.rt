@@ -89,7 +89,7 @@ fn read_lines<R: Read>(alloc: Global, reader: &mut R) -> Result<Vec<Vec<u8>>, Sc
     Err(ScriptFault::Memory)
 }
 
-/// Appends a line.
+/// Appends a copy of a line to the lines of a file.
 fn add_line(alloc: Global, line: &[u8], lines: &mut Vec<Vec<u8>>) -> Result<(), AllocError>
     ensures { OnOk result ((added : VecValue ℕ) × (added.items ≡ line.now) × (lines.new.items ≡ lines.old.items ++ added ∷ [])) }
 {

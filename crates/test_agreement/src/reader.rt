@@ -57,7 +57,7 @@ impl Reading {
 
     fn read(&mut self, line: &[u8]) -> Result<(), Fault> {
         let Ok(Some(command)) = read_line(line) else {
-            Running::note(&mut self.running, line);
+            Running::note_choice(&mut self.running, line);
             return Ok(());
         };
         self.obey(&command)
@@ -160,8 +160,8 @@ impl Running {
         })
     }
 
-    // A line that asks for nothing: a comment may say the choice of the next event.
-    fn note(running: &mut Option<Running>, line: &[u8]) {
+    // Notes the choice that a comment says for the next event, if it says one.
+    fn note_choice(running: &mut Option<Running>, line: &[u8]) {
         if let (Some(bus), Some(choice)) = (running, choice_named(line)) {
             bus.choice = Some(choice);
         }
@@ -172,7 +172,7 @@ impl Running {
         match command {
             Command::Frame(frame) => {
                 let event = self.sent(frame);
-                let _ = self.happen(event)?;
+                let _ = self.add_event(event)?;
                 Ok(())
             }
             Command::Policy(policy) => {
@@ -197,13 +197,13 @@ impl Running {
             if let (Command::Attach { name, .. }, Event::Attach(slot, _)) = (command, &event) {
                 names.give_slot(name, *slot)?;
             }
-            let _ = self.happen(event)?;
+            let _ = self.add_event(event)?;
         }
         Ok(())
     }
 
-    // An event, with the choice that was said for it, if one was.
-    fn happen(&mut self, event: Event) -> Result<Session, Fault> {
+    // Adds an event to the script, with the choice that a comment says for it, if one does.
+    fn add_event(&mut self, event: Event) -> Result<Session, Fault> {
         let _ = KNOWN;
         let (is_said, choice) = self.said();
         let reply = self.plain.step(&event, choice)?;
@@ -226,15 +226,15 @@ impl Running {
     fn assign(&mut self) -> Result<(), Fault> {
         let _ = KNOWN;
         let cuts = self.take();
-        if self.happen(Event::OpenDaa(cuts))? != Session::Opened {
+        if self.add_event(Event::OpenDaa(cuts))? != Session::Opened {
             return Ok(());
         }
         for _ in 0..SLOTS {
-            if self.happen(Event::Round(Cuts::new()))? != Session::GoesOn {
+            if self.add_event(Event::Round(Cuts::new()))? != Session::GoesOn {
                 break;
             }
         }
-        let _ = self.happen(Event::EndDaa)?;
+        let _ = self.add_event(Event::EndDaa)?;
         Ok(())
     }
 
@@ -255,7 +255,7 @@ impl Running {
     fn come_again(&mut self, came: &[(Slot, Setup)]) -> Result<(), Fault> {
         self.serve_twice()?;
         self.attach_each(came)?;
-        let _ = self.happen(Event::EndDaa)?;
+        let _ = self.add_event(Event::EndDaa)?;
         self.policy = ACCEPT_ALL;
         self.assign()?;
         self.raise_each(came)?;
@@ -266,7 +266,7 @@ impl Running {
     fn attach_each(&mut self, devices: &[(Slot, Setup)]) -> Result<(), Fault> {
         let _ = KNOWN;
         for (slot, setup) in devices {
-            let _ = self.happen(Event::Attach(*slot, *setup))?;
+            let _ = self.add_event(Event::Attach(*slot, *setup))?;
         }
         Ok(())
     }
@@ -279,7 +279,7 @@ impl Running {
             } else {
                 None
             };
-            let _ = self.happen(Event::Raise(*slot, byte))?;
+            let _ = self.add_event(Event::Raise(*slot, byte))?;
         }
         Ok(())
     }
@@ -289,7 +289,7 @@ impl Running {
         if !self.script.legacies.has_declared() {
             return Ok(());
         }
-        let _ = self.happen(Event::Reset(ACCEPT_ALL, Cuts::new()))?;
+        let _ = self.add_event(Event::Reset(ACCEPT_ALL, Cuts::new()))?;
         for number in 0..ADDRESSES as u8 {
             if let Ok(address) = Addr7::new(number) {
                 self.set_at(address)?;
@@ -304,7 +304,7 @@ impl Running {
         let is_declared = self.script.legacies.declared_at(address).is_some();
         match Addr7::new((address.get() + 3) % 128) {
             Ok(new) if is_declared => {
-                let _ = self.happen(Event::SetStatic(address, new, ACCEPT_ALL, Cuts::new()))?;
+                let _ = self.add_event(Event::SetStatic(address, new, ACCEPT_ALL, Cuts::new()))?;
                 Ok(())
             }
             _ => Ok(()),
@@ -314,7 +314,7 @@ impl Running {
     fn serve_twice(&mut self) -> Result<(), Fault> {
         let _ = KNOWN;
         for _ in 0..2 {
-            let _ = self.happen(Event::Serve(ACCEPT_ALL, Cuts::new()))?;
+            let _ = self.add_event(Event::Serve(ACCEPT_ALL, Cuts::new()))?;
         }
         Ok(())
     }
