@@ -65,10 +65,7 @@ impl Bus {
     /// A number that equal states have in common. Others can have it too: it is no more than a hint where to look first.
     #[inline(never)]
     pub fn key(&self) -> u64 {
-        let mut key = key_with(
-            self.records.len() as u64,
-            self.active.slot().index() as u64,
-        );
+        let mut key = key_with(self.records.len() as u64, self.active.slot().index() as u64);
         let session = u64::from(self.in_session);
         key = key_with(key, session << 1 | u64::from(self.listed()));
         key = key_with(key, self.devices.key());

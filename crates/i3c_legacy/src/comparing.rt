@@ -5,6 +5,8 @@ ghost use Rattle.i3c_legacy.specs.Rows.{places, HasOwnAddresses};
 use crate::legacies::{Declared, DeclaredIdentity};
 
 /// Whether these legacy targets and identities declare the same at each static address as others, in any order.
+// in line, since mostly nothing is declared
+#[inline(always)]
 pub(crate) fn are_same_boards(
     targets: &[Declared],
     identities: &[DeclaredIdentity],
@@ -21,6 +23,7 @@ pub(crate) fn are_same_boards(
 }
 
 /// Whether these legacy targets have the LVRs of others, each at its static address.
+#[inline(always)]
 fn are_same_targets(targets: &[Declared], others: &[Declared]) -> bool
     requires targets { HasOwnAddresses (λ d. d.address) targets.now }
     requires others { HasOwnAddresses (λ d. d.address) others.now }
@@ -33,6 +36,7 @@ fn are_same_targets(targets: &[Declared], others: &[Declared]) -> bool
 }
 
 /// Whether these identities are declared at the same static addresses as others.
+#[inline(always)]
 fn are_same_identities(identities: &[DeclaredIdentity], others: &[DeclaredIdentity]) -> bool
     requires identities { HasOwnAddresses (λ d. d.address) identities.now }
     requires others { HasOwnAddresses (λ d. d.address) others.now }
@@ -45,6 +49,7 @@ fn are_same_identities(identities: &[DeclaredIdentity], others: &[DeclaredIdenti
 }
 
 /// Whether these are the same legacy targets as others, in the same order.
+#[inline(always)]
 fn are_equal_targets(targets: &[Declared], others: &[Declared]) -> bool
     ensures { IsTrue result ↔ (targets.now ≡ others.now) }
 {
@@ -52,6 +57,7 @@ fn are_equal_targets(targets: &[Declared], others: &[Declared]) -> bool
 }
 
 /// Whether these are the same identities as others, in the same order.
+#[inline(always)]
 fn are_equal_identities(identities: &[DeclaredIdentity], others: &[DeclaredIdentity]) -> bool
     ensures { IsTrue result ↔ (identities.now ≡ others.now) }
 {
@@ -59,6 +65,7 @@ fn are_equal_identities(identities: &[DeclaredIdentity], others: &[DeclaredIdent
 }
 
 /// Whether each of these legacy targets is one of the others.
+#[inline(never)]
 fn targets_among(targets: &[Declared], others: &[Declared]) -> bool
     ensures { IsTrue result ↔ All (Contains others.now) targets.now }
 {
@@ -71,6 +78,7 @@ fn targets_among(targets: &[Declared], others: &[Declared]) -> bool
 }
 
 /// Whether each of these declared identities is one of the others.
+#[inline(never)]
 fn identities_among(identities: &[DeclaredIdentity], others: &[DeclaredIdentity]) -> bool
     ensures { IsTrue result ↔ All (Contains others.now) identities.now }
 {

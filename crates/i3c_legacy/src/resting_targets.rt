@@ -66,7 +66,8 @@ fn placed_at_rest(alloc: Global, placed: &[Placed]) -> Result<Vec<Placed>, Alloc
     Ok(copy)
 }
 
-// Whether these are the same targets as others, each at its address.
+// Whether these are the same targets as others, each at its address. In line, since mostly there are none.
+#[inline(always)]
 fn are_same(placed: &[Placed], others: &[Placed]) -> bool
     requires placed { HasOwnAddresses (λ p. p.address) placed.now }
     requires others { HasOwnAddresses (λ p. p.address) others.now }
@@ -79,6 +80,7 @@ fn are_same(placed: &[Placed], others: &[Placed]) -> bool
 }
 
 // Whether these are the same targets as others, in the same order.
+#[inline(always)]
 fn are_equal(placed: &[Placed], others: &[Placed]) -> bool
     ensures { IsTrue result ↔ (placed.now ≡ others.now) }
 {
@@ -86,6 +88,7 @@ fn are_equal(placed: &[Placed], others: &[Placed]) -> bool
 }
 
 // Whether each of these targets is one of the others.
+#[inline(never)]
 fn are_among(placed: &[Placed], others: &[Placed]) -> bool
     ensures { IsTrue result ↔ All (Contains others.now) placed.now }
 {

@@ -1,5 +1,5 @@
 -- Rows that are stored in lists which reach just as far as the addresses that were given.
-use Rattle.std.proofs.Common.{◌≡◌, ◌≢◌, ℕ, ◌+◌, ◌-◌, ◌<◌, ◌≤◌, Bool, true, false, List, [], ◌∷◌, ◌++◌, cond, count_by, drop, length, get_or, take, map, Option, Some, None, is_some, if◌then◌else◌, ◌⊎◌, sym, refl, ap, ◌∙◌, inl, inr, arith, subst}
+use Rattle.std.proofs.Common.{◌≡◌, ◌≢◌, ℕ, ◌+◌, ◌-◌, ◌<◌, ◌≤◌, Bool, true, false, List, [], ◌∷◌, ◌++◌, cond, count_by, drop, length, get_or, take, map, Option, Some, None, is_some, if◌then◌else◌, sym, refl, ap, ◌∙◌, inl, inr, arith, subst}
 use Rattle.std.specs.List.{range_with_len}
 use Rattle.std.proofs.lemmas.Bool.{cases_lt}
 use Rattle.std.proofs.lemmas.List.{get_or_append_left, get_or-append_right, get_or-drop, get_or_past, get_or-take, length-take}
@@ -7,7 +7,7 @@ use Rattle.std.proofs.lemmas.List.Elements.{Contains-get_or}
 use Rattle.std.proofs.lemmas.List.FromFn.{length-range_with_len}
 use Rattle.std.proofs.lemmas.List.Sums.{count_by-le-length, sum_by-cons}
 use Rattle.i3c_base.specs.declared.range.TheConstants.{ADDRESSES}
-use Rattle.i3c_base.specs.State.{Board, Entry, IsFree, entry_in}
+use Rattle.i3c_base.specs.State.{Board, Entry, entry_in}
 use Rattle.i3c_base.specs.Sets.{is_in}
 use Rattle.i3c_table.specs.declared.registers.Registers.{Registers}
 use Rattle.i3c_table.specs.Rows.{HasStatic}

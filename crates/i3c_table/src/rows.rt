@@ -82,7 +82,13 @@ impl Rows<'_> {
         }
         let index = address.get() as usize;
         are_same_registers(&self.registers[index], &others.registers[index])
-            && are_kept_alike(self.kept, self.numbers, others.kept, others.numbers, address)
+            && are_kept_alike(
+                self.kept,
+                self.numbers,
+                others.kept,
+                others.numbers,
+                address,
+            )
     }
 }
 

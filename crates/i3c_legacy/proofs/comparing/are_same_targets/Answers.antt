@@ -1,6 +1,5 @@
 -- Both have the same targets where the lists are one, or where each one's are among the other's.
-use Rattle.std.proofs.Common.{◌≡◌, ◌∙◌, ap, List, refl, sym}
-use Rattle.std.specs.List.{All, Contains}
+use Rattle.std.proofs.Common.{◌≡◌, ◌∙◌, ap, refl, sym}
 use Rattle.std.proofs.lemmas.Bool.{false≢true}
 use Rattle.i3c_legacy.specs.declared.legacies.Declared.{Declared}
 use Rattle.i3c_legacy.proofs.SameLaws.{among_same, same_places}

@@ -1,5 +1,5 @@
 -- Each address is counted as it leaves those that are left.
-use Rattle.std.proofs.Common.{◌+◌, ap, arith, count_by}
+use Rattle.std.proofs.Common.{arith, count_by}
 use Rattle.std.specs.List.{range_with_len}
 use Rattle.i3c_base.specs.Sets.{is_in}
 use Rattle.i3c_table.proofs.AtRest.{count_few, count_fits, count_less, count_none}

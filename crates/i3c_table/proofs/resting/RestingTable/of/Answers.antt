@@ -1,7 +1,6 @@
 -- The lists reach as far as the last address that was given.
 use Rattle.std.proofs.Common.{◌≡◌, ◌<◌, ◌∙◌, ℕ, true, ap, arith, length, subst, sym, take}
 use Rattle.i3c_base.specs.Sets.{is_in}
-use Rattle.i3c_base.specs.State.{Board}
 use Rattle.i3c_table.specs.Stored.{stored, AreStatic, IsInOrder, IsReaching, IsStoredAlike, IsWhole}
 use Rattle.i3c_table.proofs.AtRest.{alike_taken, order_again, static_taken, stored_again, taken_reaching}
 use Rattle.i3c_table.proofs.resting.RestingTable.of.Goals as goal

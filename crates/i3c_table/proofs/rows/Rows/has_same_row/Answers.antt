@@ -1,5 +1,5 @@
 -- An address that was given in both has the same registers, and is kept for the same identity.
-use Rattle.std.proofs.Common.{◌≡◌, ◌∙◌, Bool, ℕ, false, true, not, ap, arith, get_or, refl, sym}
+use Rattle.std.proofs.Common.{◌≡◌, ◌∙◌, Bool, false, true, not, ap, arith, get_or, refl, sym}
 use Rattle.std.proofs.lemmas.Bool.{both_ways, false≢true}
 use Rattle.std.proofs.lemmas.List.{get_or_default}
 use Rattle.i3c_base.specs.State.{entry_in}
