@@ -27,7 +27,7 @@ changed_from_at f n (x ∷ xs) (suc k) d e =
     let same : k + suc n ≡ suc k + n = omega arith in
     changed_from_at f (suc n) xs k d (ap (λ m. f m d) same ∙ e) ∙ ap (λ m. f m (get_or xs k d)) same
 
--- of `changed`, which leaves the default past the end as it is
+-- the places of `changed`, which leaves the default past the end as it is
 pub changed_at : {A : Type 0} (f : ℕ → A → A) (xs : List A) (k : ℕ) (d : A) → f k d ≡ d → get_or (changed f xs) k d ≡ f k (get_or xs k d)
 changed_at f xs k d e =
     let same : k + 0 ≡ k = omega arith in
@@ -40,7 +40,7 @@ length-changed_from f n (x ∷ xs) = ap suc (length-changed_from f (suc n) xs)
 pub length-changed : {A : Type 0} (f : ℕ → A → A) (xs : List A) → length (changed f xs) ≡ length xs
 length-changed f xs = length-changed_from f 0 xs
 
--- of a place that is set: what was put there, or what was there
+-- a place that is set: what was put there, or what was there
 pub set_at : {A : Type 0} (xs : List A) (i j : ℕ) (v d : A) → ((j ≡ i) × (get_or (set xs i v) j d ≡ v)) ⊎ (get_or (set xs i v) j d ≡ get_or xs j d)
 set_at xs i j v d = elim (cases_eq j i) [
   | inl e ↦ elim (cases_lt i (length xs)) [ inl l ↦ inl (e, rw e (get_or-set_same xs i v d l)) | inr l ↦ inr (ap (λ ys. get_or ys j d) (set_past xs i v l)) ]

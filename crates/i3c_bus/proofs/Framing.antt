@@ -97,7 +97,7 @@ kinds_step Enable old to kinds policy cuts served answer new free frame =
 kinds_step Disable old to kinds policy cuts served answer new free frame =
     acting old (Event.Disec to kinds policy cuts) _ new free (record { served = served; answer = answer }, refl, frame)
 
--- and what they tell
+-- the symbols of ENEC and DISEC
 pub kinds_told : {T : Type 0} (gives : T → Symbol → T → Type 0) (tap last : T) (change : Change) (old : State) (to : Option ℕ) (kinds : Kinds) (policy : Fixed) (cuts : CutList) (served : Served) (answer : Answer) (new : State)
     → Tells gives tap last (IsFrameWire old cuts served new (IsKindsPart old cuts change to kinds answer))
     → Tells gives tap last (IsWire old (kinds_event change to kinds policy cuts) (Reply.Framed (record { served = served; answer = answer })) new)

@@ -24,7 +24,7 @@ left_each f st lost = (
   λ l. (l.0, (f l.0 l.1.0, each_at f st l.0 ∙ ap (option_map (f l.0)) l.1.1), l.2, l.3),
 )
 
--- and so does serving
+-- serving leaves the devices that are there
 pub left_serves : (st : State) (policy : Fixed) (gone lost : Lost) (served : Served) (new : State) → Serves st policy gone served new → AnyLeft new lost ↔ AnyLeft st lost
 left_serves st policy gone lost Quiet new h = subst (λ (x : State). AnyLeft x lost ↔ AnyLeft st lost) (sym h.1) (λ l. l, λ l. l)
 left_serves st policy gone lost Refused new h = subst (λ (x : State). AnyLeft x lost ↔ AnyLeft st lost) (sym h.1) (λ l. l, λ l. l)
@@ -45,7 +45,7 @@ left_at_each f st a lost keeps = (
   λ l. (l.0, f l.0 l.1, (each_at f st l.0 ∙ ap (option_map (f l.0)) l.2.0, keeps l.0 l.1 ∙ l.2.1, l.2.2), l.3),
 )
 
--- and so does serving
+-- serving leaves the devices at an address
 pub left_at_serves : (st : State) (policy : Fixed) (gone lost : Lost) (a : ℕ) (served : Served) (new : State) → Serves st policy gone served new → SomeLeftAt new a lost ↔ SomeLeftAt st a lost
 left_at_serves st policy gone lost a Quiet new h = subst (λ (x : State). SomeLeftAt x a lost ↔ SomeLeftAt st a lost) (sym h.1) (λ l. l, λ l. l)
 left_at_serves st policy gone lost a Refused new h = subst (λ (x : State). SomeLeftAt x a lost ↔ SomeLeftAt st a lost) (sym h.1) (λ l. l, λ l. l)

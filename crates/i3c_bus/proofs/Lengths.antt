@@ -33,7 +33,7 @@ least_each f active way a s (Some d ∷ places) keeps =
     let rest = least_each f active way a (suc s) places keeps in
     λ t. if not (s == active) && is_the a ((keeps s d).0 t) then min ((keeps s d).1 t) (rest t) else rest t
 
--- and so what a transfer may have
+-- a change of each device that leaves addresses and lengths leaves what a transfer may have
 pub length_each : (f : ℕ → Device → Device) (st : State) (way : Direction) (a : ℕ) → ((s : ℕ) (d : Device) → ((f s d).address ≡ d.address) × (length_of way (f s d) ≡ length_of way d))
     → transfer_length (each f st) way a ≡ transfer_length st way a
 length_each f st way a keeps = ap (λ n. if is_some (legacy_target_at st a) then REGISTERS else n) (least_each f st.active way a 0 st.devices keeps)

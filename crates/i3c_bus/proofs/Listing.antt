@@ -91,7 +91,7 @@ serves_keep st policy lost (Recorded place) new h = subst (KeepsTable st) (sym h
     (let k = keeps_driver st (Interrupt h.at) without_front (λ d. refl) in record { given = refl; legacy = refl; listed = refl; own = k.own })
 serves_keep st policy lost Torn new h = subst (KeepsTable st) (sym h.left) (keeps_driver st (Interrupt h.at) without_front (λ d. refl))
 
--- and so the list is current as before
+-- serving leaves the list as current as it was
 pub serves_current : (st : State) (policy : Fixed) (lost : Lost) (served : Served) (new : State) → Serves st policy lost served new → KeepsList st new
 serves_current st policy lost served new h =
     let keeps = serves_keep st policy lost served new h in

@@ -30,20 +30,20 @@ sound_attached s setup st empty sound =
     let free : first_refusal ((is_some (device_at st s), Refusal.SlotTaken) ∷ []) ≡ None = ap (λ (o : Option Device). first_refusal ((is_some o, Refusal.SlotTaken) ∷ [])) empty in
     sound_step st (Event.Attach s setup) Reply.Attached (attach s setup st) (acting st (Event.Attach s setup) Reply.Attached (attach s setup st) free (refl, refl)) sound
 
--- one that drops off, and isn't the active controller
+-- a device that drops off, and isn't the active controller
 pub sound_dropped : (s : ℕ) (st : State) → is_none (device_at st s) ≡ false → (s == st.active) ≡ false → IsSound st → IsSound (drop_off s st)
 sound_dropped s st there other sound =
     let free : first_refusal ((is_none (device_at st s), Refusal.NoDevice) ∷ (s == st.active, Refusal.ActiveStays) ∷ []) ≡ None =
     ap (λ b. first_refusal ((b, Refusal.NoDevice) ∷ (s == st.active, Refusal.ActiveStays) ∷ [])) there ∙ ap (λ b. first_refusal ((b, Refusal.ActiveStays) ∷ [])) other in
     sound_step st (Event.DropOff s) Reply.Dropped (drop_off s st) (acting st (Event.DropOff s) Reply.Dropped (drop_off s st) free (refl, refl)) sound
 
--- one that wishes to join, or mayn't
+-- a device that wishes to join, or mayn't
 pub sound_asked : (result : Result (Unit {0}) JoinRefusal) (s : ℕ) (devices : List (Option Device)) (st : State)
     → OnOk result (devices ≡ slice_set st.devices s (option_map wishing_join (device_at st s))) → OnErr result (devices ≡ st.devices) → IsSound st → IsSound (record st { devices = devices })
 sound_asked (Ok done) s devices st wishes same sound = subst (λ (ds : List (Option Device)). IsSound (record st { devices = ds })) (sym wishes) (sound_wishes s st sound)
 sound_asked (Err why) s devices st wishes same sound = subst (λ (ds : List (Option Device)). IsSound (record st { devices = ds })) (sym same) sound
 
--- one that wishes for the role, or mayn't
+-- a device that wishes for the role, or mayn't
 pub sound_role_asked : (result : Result (Unit {0}) RoleRefusal) (s : ℕ) (devices : List (Option Device)) (st : State)
     → OnOk result (devices ≡ slice_set st.devices s (option_map wishing_role (device_at st s))) → OnErr result (devices ≡ st.devices) → IsSound st → IsSound (record st { devices = devices })
 sound_role_asked (Ok done) s devices st wishes same sound = subst (λ (ds : List (Option Device)). IsSound (record st { devices = ds })) (sym wishes) (sound_role_wishes s st sound)

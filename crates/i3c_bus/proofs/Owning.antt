@@ -96,7 +96,7 @@ keeps_emptied lost st left = record {
   own = λ a. ap (in_slot (has_address a)) (emptied_at lost st st.active ∙ cond-false (lost st.active) None (device_at st st.active) left);
 }
 
--- one that wishes, or mayn't
+-- a device that wishes, or mayn't
 pub keeps_asked : {E : Type 0} (result : Result (Unit {0}) E) (s : ℕ) (f : Device → Device) (devices : List (Option Device)) (st : State) → ((d : Device) → (f d).address ≡ d.address)
     → OnOk result (devices ≡ slice_set st.devices s (option_map f (device_at st s))) → OnErr result (devices ≡ st.devices) → KeepsList st (record st { devices = devices })
 keeps_asked (Ok done) s f devices st e changed same = subst (λ (ds : List (Option Device)). KeepsList st (record st { devices = ds })) (sym changed) (keeps_change s f st e)

@@ -36,7 +36,7 @@ unaddressed_each f st a lost keeps = (
   λ l. let k = keeps l.0 l.1 in (l.0, f l.0 l.1, (each_at f st l.0 ∙ ap (option_map (f l.0)) l.2.0, k.0 ∙ l.2.1, k.1 ∙ l.2.2, l.2.3), l.3),
 )
 
--- so does serving
+-- serving leaves the devices at a static address
 unaddressed_serves : (st : State) (policy : Fixed) (gone lost : Lost) (a : ℕ) (served : Served) (new : State) → Serves st policy gone served new → SomeUnaddressedLeftAt new a lost ↔ SomeUnaddressedLeftAt st a lost
 unaddressed_serves st policy gone lost a Quiet new h = subst (λ (x : State). SomeUnaddressedLeftAt x a lost ↔ SomeUnaddressedLeftAt st a lost) (sym h.1) (λ l. l, λ l. l)
 unaddressed_serves st policy gone lost a Refused new h = subst (λ (x : State). SomeUnaddressedLeftAt x a lost ↔ SomeUnaddressedLeftAt st a lost) (sym h.1) (λ l. l, λ l. l)

@@ -27,7 +27,7 @@ left_behind piece next end at ordered within inside feed =
     ∙ append_assoc (take at left) (10 ∷ []) (take (length left - (at + 1)) (drop (at + 1) left))
     ∙ ap (λ b. take at left ++ 10 ∷ b) (ap (λ n. take n (drop (at + 1) left)) many ∙ ap (take count) behind ∙ take_all count (take count (drop (next + (at + 1)) piece)) few)
 
--- so far this of the next line came
+-- part of the next line came
 pub record HasBegun (left now : Option (List ℕ)) (old new : Input) : Type 0 where
   pub begun : List ℕ
   pub one : HasNoFeed begun

@@ -70,7 +70,7 @@ address_tokens (Refusal.Bus (BusRefusal.NoAnswer address)) = byte_text address �
 address_tokens (Refusal.Bus (BusRefusal.BadAddress address)) = byte_text address ∷ []
 address_tokens _ = []
 
--- and those behind it
+-- the other tokens of a printed fact
 abbrev other_tokens : Fact → List (List ℕ)
 other_tokens (Fact.Active name) = letters name ∷ []
 other_tokens (Fact.At name address) = codes "at" ∷ byte_text address ∷ []

@@ -70,7 +70,7 @@ size_some : (symbol : Symbol) → 0 < size_of symbol
 size_some Start = omega arith
 size_some symbol = omega arith
 
--- nor is it empty
+-- no symbol's text is empty
 pub text_some : (symbol : Symbol) → 0 < length (text_of symbol)
 text_some symbol = omega (arith, length-text_of symbol, size_some symbol)
 

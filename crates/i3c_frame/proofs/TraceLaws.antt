@@ -60,7 +60,7 @@ no_fault_at (symbol ∷ symbols) Outside n (part ∷ rest) fault range same ends
 no_fault_at (symbol ∷ symbols) Opened n (part ∷ rest) fault range same ends faulty = stands Opened symbol symbols part (range 0 symbol (omega arith)) (cc) ends faulty
 no_fault_at (symbol ∷ symbols) Inside n (part ∷ rest) fault range same ends faulty = stands Inside symbol symbols part (range 0 symbol (omega arith)) (cc) ends faulty
 
--- nor after its first symbols
+-- a trace has no fault after its first symbols
 no_fault_after : (before symbols : List Symbol) (start place : Place) (n : ℕ) (rest : List (List ℕ)) (fault : TraceFault) → All IsInRange before → All IsInRange symbols
     → map text_of symbols ≡ map text_of before ++ rest → place_after start before ≡ Some place → place_after start symbols ≡ Some Outside → IsFaultAt place n rest fault → ⊥
 no_fault_after [] symbols start place n rest fault fit range same leads ends faulty =

@@ -10,7 +10,7 @@ use Rattle.i3c_step.specs.declared.replies.Refusal.{Refusal}
 use Rattle.i3c_step.specs.Step.{Checks, checks, frame_checks, is_kept_for, is_pickable, static_checks, target_checks}
 use Rattle.i3c_log_laws.specs.Behind.{behind}
 
--- of a command to one address
+-- the refusals of a command to one address
 target_behind : (gone : List Record) (st : State) (to : Option ℕ) → target_checks (behind gone st) to ≡ target_checks st to
 target_behind gone st None = refl
 target_behind gone st (Some a) = refl

@@ -25,7 +25,7 @@ one_more : (wide : List Entry) (packed : List Packed) (p : Packed) → entries_i
 one_more wide [] p = refl
 one_more wide (q ∷ packed) p = ap (λ es. entry_in wide q ∷ es) (one_more wide packed p)
 
--- and by a wide one
+-- a run that goes on by a wide entry
 pub widened : (wide : List Entry) (packed : List Packed) (e : Entry) (at : ℕ) → at ≡ length wide → All (IsWithin (length wide)) packed
     → entries_in (wide ++ e ∷ []) (packed ++ Wide at ∷ []) ≡ entries_in wide packed ++ e ∷ []
 widened wide packed e at same h =

@@ -39,7 +39,7 @@ tests_stay : (now : Standing) (stage : Stage) (facts : List Claim) (said : List 
 tests_stay now (Stage.Before board) facts said refused new (none, why, same) = ap (λ s. s.script) same
 tests_stay now (Stage.Running ran) facts said refused new (text, why, same) = ap (λ s. s.script) same
 
--- nor does one that lasts
+-- a lasting expectation leads nowhere
 from_stays : (now : Standing) (one : Lasting) (holds : Bool) → (lasting_from now one holds).script ≡ now.script
 from_stays now one true = refl
 from_stays now one false = refl
@@ -52,7 +52,7 @@ lasts_stay : (now : Standing) (stage : Stage) (told : List ℕ) (new : Standing)
 lasts_stay now (Stage.Before board) told new (none, same) = ap (λ s. s.script) same
 lasts_stay now (Stage.Running ran) told new (text, same) = ap (λ s. s.script) same
 
--- nor does another mark
+-- another mark leads nowhere
 mark_stays : (now : Standing) (mark : Mark) (said : List ℕ) (refused : Option Refusal) (new : Standing) → MarkDoes now mark said refused new → new.script ≡ now.script
 mark_stays now Mark.Any said refused new (none, why, same) = ap (λ s. s.script) same
 mark_stays now (Mark.Anywhere name) said refused new (none, why, same) = ap (λ s. s.script) same

@@ -69,7 +69,7 @@ pub asker_more : (st : State) (names : Names) (r : Request) (slot : ℕ) → dri
 unfolding askers_text
 asker_more st names r slot asks = ap (askers_text st names r) (after slot) ∙ ap (λ b. askers_text st names r slot ++ cond b (asker_text (slice_index_or (slot_names names) slot None)) []) asks
 
--- and one that doesn't
+-- one more slot, which doesn't ask
 pub silent_more : (st : State) (names : Names) (r : Request) (slot : ℕ) → drives st r slot ≡ false → askers_text st names r (slot + 1) ≡ askers_text st names r slot
 unfolding askers_text
 silent_more st names r slot silent = ap (askers_text st names r) (after slot) ∙ ap (λ b. askers_text st names r slot ++ cond b (asker_text (slice_index_or (slot_names names) slot None)) []) silent ∙ append-nil (askers_text st names r slot)

@@ -69,7 +69,7 @@ frame_records old policy cuts served rest Own new a keeps f h placed =
       number = refl;
     }
 
--- one that was torn
+-- a frame that tears an interrupt
 frame_tears : (old : State) (policy : Fixed) (cuts : CutList) (served : Served) (rest : ℕ) (Own : Lost → State → State → Type 0) (new : State) (a : ℕ)
     → (f : Frame old policy cuts served rest Own new) → IsAcceptedOf old policy a → served ≡ Torn → IsTornOff old a served new
 frame_tears old policy cuts served rest Own new a f h torn =

@@ -90,7 +90,7 @@ Safe-rekinds (Some a) f answer lost mid done gone h p = elim h [
   | inr e ↦ Safe-same gone mid done e.2 p
 ]
 
--- so does a write
+-- a write keeps the active controller present
 pub Present-written : (a : ℕ) (bytes : List ℕ) (st : State) (s : ℕ) → IsPresent st s → IsPresent (written a bytes st) s
 Present-written a bytes st s h = Present-each (λ t d. if reaches st (Some a) t d then record d { registers = overwritten bytes d.registers } else d) st s h
 
@@ -103,7 +103,7 @@ Present-with_length to way most st s h = Present-each (λ t d. if reaches st to 
 Safe-with_length : (to : Option ℕ) (way : Direction) (most : ℕ) (lost : Lost) (st : State) → IsSafe lost st → IsSafe lost (with_length to way most st)
 Safe-with_length to way most lost st h = record { present = Present-with_length to way most st _ h.present; left = h.left }
 
--- and an address that is given
+-- a new address by a static one keeps the active controller present
 pub Present-with_static : (f : ℕ) (i : Identity) (a : ℕ) (st : State) (s : ℕ) → IsPresent st s → IsPresent (with_static f i a st) s
 Present-with_static f i a st s h = Present-each (λ t d. if takes_static st.active f t d then winner a d else d) st s h
 

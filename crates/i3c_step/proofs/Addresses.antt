@@ -217,7 +217,7 @@ NoneNew-raise s byte st =
     let n = NoneNew-change s more st (λ d. record { identity = refl; fixed = refl; address = λ a p. p }) in
     NoneNew-from st (raise s byte st) n.devices n.placed refl (λ a l. l) refl
 
--- nor do enabled kinds
+-- a change of enabled kinds brings no address
 NoneNew-rekinded : (to : Option ℕ) (f : KindSet → KindSet) (st : State) → NoneNew st (rekinded to f st)
 NoneNew-rekinded to f st =
     NoneNew-each (λ s d. if reaches st to s d then record d { kinds = f d.kinds } else d) st

@@ -21,7 +21,7 @@ use Rattle.i3c_step.proofs.Unserved.{waiting_in}
 abbrev pub Rises : State → ℕ → Type 0
 Rises st s = Between 0 (numbers_of s st.records ++ numbers (waiting_in (device_at st s))) (raised_at st s)
 
--- so of each slot
+-- the numbers of each slot rise so
 pub record IsNumbered (st : State) : Type 0 where
   pub rise : (s : ℕ) → Rises st s
   pub even : IsEven st

@@ -227,7 +227,7 @@ sound_serves st policy lost served new h sound = record {
   fitting = AllFit-serves st policy lost served new h sound.fitting;
 }
 
--- so does enabling and disabling
+-- enabling and disabling keeps a bus sound
 pub sound_rekinds : (to : Option ℕ) (f : KindSet → KindSet) (answer : Answer) (lost : Lost) (mid done : State) → Rekinds to f answer lost mid done → IsSound mid → IsSound done
 sound_rekinds to f answer lost mid done h sound = record {
   addresses = Addresses-none_new mid done (NoneNew-rekinds to f answer lost mid done h) sound.addresses;
@@ -235,7 +235,7 @@ sound_rekinds to f answer lost mid done h sound = record {
   fitting = AllFit-rekinds to f answer lost mid done h sound.fitting;
 }
 
--- and a private transfer
+-- a private transfer keeps a bus sound
 pub sound_written : (a : ℕ) (bytes : List ℕ) (st : State) → IsSound st → IsSound (written a bytes st)
 sound_written a bytes st sound = record {
   addresses = Addresses-none_new st (written a bytes st) (NoneNew-written a bytes st) sound.addresses;
@@ -243,7 +243,7 @@ sound_written a bytes st sound = record {
   fitting = AllFit-written a bytes st sound.fitting;
 }
 
--- and an address that is given at a declared static one, where it suits the identity
+-- an address given at a declared static one keeps a bus sound, if it suits the identity
 pub sound_with_static : (f : ℕ) (i : Identity) (a : ℕ) (old st : State) → IsSettled old st → declared_at st f ≡ Some i → (is_pickable old a || is_kept_for old (Some i) a) ≡ true
     → IsSound st → IsSound (with_static f i a st)
 sound_with_static f i a old st same declared given sound = record {
@@ -252,7 +252,7 @@ sound_with_static f i a old st same declared given sound = record {
   fitting = AllFit-with_static f i a st sound.fitting;
 }
 
--- and one that is given in another's place
+-- an address given in another's place keeps a bus sound
 pub sound_with_new : (was a : ℕ) (old st : State) → IsSettled old st → active_has old was ≡ false → is_pickable old a ≡ true → IsSound st → IsSound (with_new was a st)
 sound_with_new was a old st same other given sound = record {
   addresses = Addresses-with_new was a st (same.active was other) (pickable_settled old st a same given) sound.addresses;
@@ -260,7 +260,7 @@ sound_with_new was a old st same other given sound = record {
   fitting = AllFit-with_new was a st sound.fitting;
 }
 
--- so does a device that changes and keeps its identity and its address
+-- a change of a device that keeps its identity and its address keeps a bus sound
 sound_changed : (s : ℕ) (f : Device → Device) (st : State) → ((d : Device) → IsSteady (f d) d) → ((d : Device) → ((f d).address ≡ d.address) × ((f d).hearing ≡ d.hearing))
     → ((d : Device) → IsFitting d → IsFitting (f d)) → IsSound st → IsSound (change s f st)
 sound_changed s f st steady same keeps sound = record {
@@ -292,7 +292,7 @@ sound_opened st sound = record {
   fitting = AllFit-opened st sound.fitting;
 }
 
--- one that is ended
+-- the end of a session keeps a bus sound
 pub sound_ended : (st : State) → IsSound st → IsSound (ended st)
 sound_ended st sound = record {
   addresses = Addresses-none_new st (ended st) (NoneNew-ended st) sound.addresses;

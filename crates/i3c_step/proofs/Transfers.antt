@@ -160,7 +160,7 @@ statics_unique f a answer other mid done last h k = elim h [
     none_lost : AnyUnaddressedAt mid f → AllUnaddressedLostAt mid f nobody → ⊥
     none_lost any all = false≢true (all any.0 any.1 any.2)
 
--- nor has SETNEWDA more
+-- without losses SETNEWDA has one answer
 pub news_unique : (old a : ℕ) (answer other : Answer) (mid done last : State) → SetsNew old a answer nobody mid done → SetsNew old a other nobody mid last
     → (answer ≡ other) × (done ≡ last)
 news_unique old a answer other mid done last h k = elim h [
@@ -168,7 +168,7 @@ news_unique old a answer other mid done last h k = elim h [
   | inr x ↦ elim k [ inl y ↦ absurd (nobody_lost mid old y.1 x.1) | inr y ↦ (x.0 ∙ sym y.0, x.2 ∙ sym y.2) ]
 ]
 
--- nor have SETMWL and SETMRL
+-- without losses SETMWL and SETMRL have one answer
 pub lengths_unique : (to : Option ℕ) (way : Direction) (most : ℕ) (answer other : Answer) (mid done last : State) → SetsLength to way most answer nobody mid done → SetsLength to way most other nobody mid last
     → (answer ≡ other) × (done ≡ last)
 lengths_unique None way most answer other mid done last h k = (h.0 ∙ sym k.0, h.1 ∙ sym k.1)

@@ -59,7 +59,7 @@ rekinds_by_unique old to f policy cuts reply other new next u h k =
     let framed : h.0 ≡ k.0 = λ t. record { served = r.0 t; answer = r.1 t } in
     (h.1 ∙ (ap Reply.Framed framed ∙ sym k.1), r.2)
 
--- nor do private transfers have more
+-- without losses private transfers have one answer
 transfers_unique : (old : State) (bits : Answer → ℕ) (Own : Answer → Lost → State → State → Type 0) (policy : Fixed) (cuts : CutList) (reply other : Reply) (new next : State) → IsUncut cuts
     → ((answer also : Answer) (mid done last : State) → Own answer nobody mid done → Own also nobody mid last → (answer ≡ also) × (done ≡ last))
     → Transfers old bits Own policy cuts reply new → Transfers old bits Own policy cuts other next → (reply ≡ other) × (new ≡ next)

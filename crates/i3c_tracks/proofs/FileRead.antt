@@ -30,7 +30,7 @@ pub record LinesSoFar (script : ScriptLines) (lines : List (Vec ℕ)) : Type 0 w
   pub feeds : All (λ (line : Vec ℕ). HasNoFeed line.items) lines
   pub given : given script ≡ lines_bytes lines
 
--- before the first line
+-- the lines before the first one
 pub no_lines : (script : ScriptLines) (lines : List (Vec ℕ)) → given script ≡ [] → lines ≡ [] → LinesSoFar script lines
 no_lines script lines none empty = record {
   feeds = subst (All (λ (l : Vec ℕ). HasNoFeed l.items)) (sym empty) (λ k d lt. absurd (omega (arith, lt)));

@@ -67,7 +67,7 @@ pub ended_with : (legacies : Addresses) (scl sda text : List ℕ) (input : Input
     → HasSymbols legacies scl sda text symbols
 ended_with legacies scl sda text input symbols is (last, end, same) = (last, ap (λ step. goes_on step (text_ended scl sda)) is ∙ end, same)
 
--- its fault at the end
+-- the fault of a text at its end
 pub ended_by : (legacies : Addresses) (scl sda text : List ℕ) (input : Input) (fault : CaptureFault) → bytes_read scl sda (new_input legacies) text ≡ Ok input → text_ended scl sda input ≡ Err fault
     → text_read legacies scl sda text ≡ Err fault
 ended_by legacies scl sda text input fault is end = ap (λ step. goes_on step (text_ended scl sda)) is ∙ end

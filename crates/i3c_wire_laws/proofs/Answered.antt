@@ -37,14 +37,14 @@ ninth address read ack rest =
     ap (λ bs. slice_get bs 8) (append_assoc (bits 7 address) (read ∷ not ack ∷ []) (flat_map bits_of rest))
     ∙ behind_at 7 address (read ∷ not ack ∷ flat_map bits_of rest) 8 1 refl
 
--- of a transfer, whose own part begins with its header
+-- the answer to a transfer, whose own part begins with its header
 transfer_at : (sda : Bool) (wire : List Symbol) (begun : ℕ) (own : List Symbol) (address : ℕ) (read ack : Bool) (rest : List Symbol)
     → IsSentFrom sda wire (1 + begun) own → own ≡ Repeated ∷ Header address read ack ∷ rest → at_bit (high sda) (wire_levels wire) (begun + 9) ≡ Some (not ack)
 transfer_at sda wire begun own address read ack rest sent e =
     let same : begun + 9 ≡ 1 + begun + 8 = omega arith in
     ap (at_bit (high sda) (wire_levels wire)) same ∙ sent 8 ∙ ap (λ symbols. slice_get (flat_map bits_of symbols) 8) e ∙ ninth address read ack rest
 
--- of a command, whose own part begins with its code
+-- the answer to a command, whose own part begins with its code
 pub command_at : (sda : Bool) (wire : List Symbol) (begun : ℕ) (own : List Symbol) (code : Word) (address : ℕ) (read ack : Bool) (rest : List Symbol)
     → IsSentFrom sda wire (1 + begun) own → own ≡ Symbol.Word code ∷ Repeated ∷ Header address read ack ∷ rest → at_bit (high sda) (wire_levels wire) (begun + 18) ≡ Some (not ack)
 command_at sda wire begun own code address read ack rest sent e =
@@ -61,7 +61,7 @@ acked answer Somebody iff done = (λ e. iff.0 done, λ some. refl)
 nacked : (answer : Answer) (b : ℕ) (Somebody : Type 0) → (answer ≡ Answer.Done) ↔ Somebody → answer ≡ Answer.NoAnswer b → (false ≡ true) ↔ Somebody
 nacked answer b Somebody iff none = (λ e. absurd (false≢true e), λ some. let done : answer ≡ Answer.Done = iff.1 some in cc)
 
--- of ENEC and DISEC
+-- the answer to ENEC and DISEC
 pub kinds_answered : (sda : Bool) (wire : List Symbol) (begun : ℕ) (change : Change) (a : ℕ) (kinds : Kinds) (answer : Answer) (own : List Symbol) (Somebody : Type 0)
     → IsSentFrom sda wire (1 + begun) own → IsKindsWire change (Some a) kinds answer own → (answer ≡ Answer.Done) ↔ Somebody → (answer ≡ Answer.Done) ⊎ (answer ≡ Answer.NoAnswer a)
     → IsAnsweredAt sda wire (begun + 18) Somebody
@@ -74,7 +74,7 @@ kinds_answered sda wire begun change a kinds answer own Somebody sent k iff is =
       (false, command_at sda wire begun own h.0 a false false _ sent h.2, nacked answer a Somebody iff none)
 ]
 
--- of SETMWL and SETMRL
+-- the answer to SETMWL and SETMRL
 pub length_answered : (sda : Bool) (wire : List Symbol) (begun : ℕ) (way : Direction) (a most : ℕ) (answer : Answer) (own : List Symbol) (Somebody : Type 0)
     → IsSentFrom sda wire (1 + begun) own → IsLengthWire way (Some a) most answer own → (answer ≡ Answer.Done) ↔ Somebody → (answer ≡ Answer.Done) ⊎ (answer ≡ Answer.NoAnswer a)
     → IsAnsweredAt sda wire (begun + 18) Somebody
@@ -87,7 +87,7 @@ length_answered sda wire begun way a most answer own Somebody sent k iff is = el
       (false, command_at sda wire begun own h.0 a false false _ sent h.2, nacked answer a Somebody iff none)
 ]
 
--- of SETDASA and SETNEWDA
+-- the answer to SETDASA and SETNEWDA
 pub setting_answered : (sda : Bool) (wire : List Symbol) (begun : ℕ) (code a to : ℕ) (answer : Answer) (own : List Symbol) (Somebody : Type 0)
     → IsSentFrom sda wire (1 + begun) own → IsSettingWire code a to answer own → (answer ≡ Answer.Done) ↔ Somebody → (answer ≡ Answer.Done) ⊎ (answer ≡ Answer.NoAnswer a)
     → IsAnsweredAt sda wire (begun + 18) Somebody
@@ -100,7 +100,7 @@ setting_answered sda wire begun code a to answer own Somebody sent k iff is = el
       (false, command_at sda wire begun own h.0 a false false _ sent h.2, nacked answer a Somebody iff none)
 ]
 
--- of a datum that is asked for
+-- the answer to a read of a datum
 get_at : (sda : Bool) (wire : List Symbol) (begun : ℕ) (what : Datum) (a : ℕ) (get : Told) (own : List Symbol) → IsSentFrom sda wire (1 + begun) own → IsGetWire what a get own
     → at_bit (high sda) (wire_levels wire) (begun + 18) ≡ Some (not (is_get_acknowledged get))
 get_at sda wire begun what a Told.Nobody own sent h = command_at sda wire begun own h.0 a true false _ sent (h.4 ∙ ap (λ told. Symbol.Word h.0 ∷ told) h.3)
@@ -111,7 +111,7 @@ pub get_answered : (sda : Bool) (old : State) (cuts : CutList) (wire : List Symb
     → IsSentFrom sda wire (1 + begun) own → IsGetPart old cuts what a answer new begun own → IsAnsweredAt sda wire (begun + 18) (SomeLeftAt old a (lost_by cuts (begun + 18)))
 get_answered sda old cuts wire begun what a answer new own sent h = (is_get_acknowledged h.1, get_at sda wire begun what a h.1 own sent h.6, h.4)
 
--- of an offer that nobody took
+-- the answer to an offer that nobody took
 offer_at : (sda : Bool) (wire : List Symbol) (begun to : ℕ) (offer : Offer) (own : List Symbol) → IsSentFrom sda wire (1 + begun) own → IsUntaken offer → IsOfferWire to offer own
     → at_bit (high sda) (wire_levels wire) (begun + 18) ≡ Some (not (is_acknowledged offer))
 offer_at sda wire begun to Offer.Nobody own sent un h = command_at sda wire begun own h.0 to true false _ sent h.2

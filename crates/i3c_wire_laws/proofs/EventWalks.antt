@@ -33,7 +33,7 @@ target_apart legacies st a are known h = go (entry_at st a) refl (or_parts (is_n
     go None e h = absurd (true≢false h)
     go (Some entry) e h = entry_apart legacies st a entry are known e
 
--- nor is that of a handover
+-- the address of a handover that isn't refused is no legacy target's
 controller_apart : (legacies : ℕ) (st : State) (a : ℕ) → AreLegacies st.legacy legacies → Addresses st → is_no_controller (entry_at st a) ≡ false → is_in legacies a ≡ false
 controller_apart legacies st a are known h = go (entry_at st a) refl h
   where
@@ -41,7 +41,7 @@ controller_apart legacies st a are known h = go (entry_at st a) refl h
     go None e h = absurd (true≢false h)
     go (Some entry) e h = entry_apart legacies st a entry are known e
 
--- nor is a static address at which an identity is declared
+-- a static address at which an identity is declared is no legacy target's
 static_apart : (legacies : ℕ) (st : State) (f : ℕ) → AreLegacies st.legacy legacies → Addresses st → is_none (declared_at st f) ≡ false → is_in legacies f ≡ false
 static_apart legacies st f are known h = go (declared_at st f) refl h
   where

@@ -24,7 +24,7 @@ use Rattle.i3c_wire_laws.proofs.OwnRanges.{AreInRange, ranges_on}
 first_fits : (st : State) (r : Request) (ack : Bool) (begun : List Symbol) → Addresses st → IsFirst st r → begun ≡ Start ∷ request_header r ack ∷ [] → AreInRange begun
 first_fits st r ack begun known first e = subst AreInRange (sym e) (tt, (driver_low st r first.driven.0 known first.driven.1, tt))
 
--- of a read byte
+-- the numbers of a read byte fit
 byte_fits : (st : State) (cuts : CutList) (a : ℕ) (byte : Option ℕ) → IfSome byte (IsByteRead st cuts a) → AreInRange (byte_word byte)
 byte_fits st cuts a None h = tt
 byte_fits st cuts a (Some byte) h = (h.small, tt)

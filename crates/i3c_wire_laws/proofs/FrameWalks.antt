@@ -25,7 +25,7 @@ use Rattle.i3c_wire_laws.proofs.Walks.{IsBehindHeader, behind_header, code_behin
 pub entry_apart : (legacies : ℕ) (st : State) (a : ℕ) (e : Entry) → AreLegacies st.legacy legacies → Addresses st → entry_at st a ≡ Some e → is_in legacies a ≡ false
 entry_apart legacies st a e are known h = are.same a ∙ ap is_some (known.free a e h)
 
--- nor is one whose interrupts have a mandatory byte
+-- an address whose interrupts have a mandatory byte is no legacy target's
 due_apart : (legacies : ℕ) (st : State) (a : ℕ) → AreLegacies st.legacy legacies → Addresses st → byte_due (entry_at st a) ≡ true → is_in legacies a ≡ false
 due_apart legacies st a are known h = go (entry_at st a) refl h
   where
@@ -33,7 +33,7 @@ due_apart legacies st a are known h = go (entry_at st a) refl h
     go None e h = absurd (false≢true h)
     go (Some entry) e h = entry_apart legacies st a entry are known e
 
--- nor is one whose device drives an interrupt
+-- an address whose device drives an interrupt is no legacy target's
 driven_apart : (legacies : ℕ) (st : State) (a : ℕ) → AreLegacies st.legacy legacies → Addresses st → IsFirst st (Interrupt a) → is_in legacies a ≡ false
 driven_apart legacies st a are known first =
     let s = first.driven.0 in

@@ -70,7 +70,7 @@ given_bytes a given low fits =
     let twice : IsByte (2 * a) = omega (arith, low) in
     (twice, (fits.dcr, (fits.bcr, (fixed_byte given.fixed fits.fixed, tt))))
 
--- and of a legacy target
+-- the bytes of a legacy target's entry fit
 target_bytes : (a : ℕ) (lvr : Lvr) → a < 128 → IsByte lvr.0 → AreBytes (bytes_of (legacy_at a lvr))
 target_bytes a lvr low small =
     let twice : IsByte (2 * a) = omega (arith, low) in

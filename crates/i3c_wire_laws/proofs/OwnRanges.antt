@@ -30,7 +30,7 @@ abbrev pub AreInRange : List Symbol → Type 0
 AreInRange [] = ⊤
 AreInRange (symbol ∷ rest) = IsInRange symbol × AreInRange rest
 
--- and those of symbols behind others
+-- the numbers of symbols behind others fit
 pub ranges_on : (first rest : List Symbol) → AreInRange first → AreInRange rest → AreInRange (first ++ rest)
 ranges_on [] rest h k = k
 ranges_on (symbol ∷ first) rest h k = (h.0, ranges_on first rest h.1 k)

@@ -114,7 +114,7 @@ unanswered : (legacies a : ℕ) (read : Bool) (wire : List Symbol) → IsUnanswe
 unanswered legacies a read wire h =
     ap (place_behind legacies (Some Awaited.Code)) h ∙ stop_behind legacies (awaited_behind legacies false a read false) (behind_header legacies a read false)
 
--- one that is acknowledged, by its words
+-- a transfer that is acknowledged, by its words
 answered : (legacies a : ℕ) (read : Bool) (place : Awaited) (words wire : List Symbol) → awaited_behind legacies false a read true ≡ place
     → Leads legacies (Some place) (words ++ Stop ∷ []) None → wire ≡ answered_wire a read words → Leads legacies (Some Awaited.Code) wire None
 answered legacies a read place words wire e lead h =

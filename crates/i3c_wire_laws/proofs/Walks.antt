@@ -36,7 +36,7 @@ TakesWords (Awaited.LegacyWord assigning) = ⊥
 TakesWords Awaited.Identity = ⊥
 TakesWords Awaited.AddressByte = ⊥
 
--- behind a word they still may
+-- words are allowed behind a word
 pub word_next : (legacies : ℕ) (place : Awaited) (word : Word) → TakesWords place → (next : Awaited) × (next_place legacies (Some place) (Symbol.Word word) ≡ Some (Some next)) × TakesWords next
 word_next legacies Awaited.Code word h = (Awaited.Word (word.byte == 7), refl, tt)
 word_next legacies (Awaited.Word assigning) word h = (Awaited.Word assigning, refl, tt)
@@ -45,7 +45,7 @@ word_next legacies (Awaited.LegacyWord assigning) word h = absurd h
 word_next legacies Awaited.Identity word h = absurd h
 word_next legacies Awaited.AddressByte word h = absurd h
 
--- and a STOP may
+-- a STOP is allowed where words are
 pub stop_there : (legacies : ℕ) (place : Awaited) → TakesWords place → Leads legacies (Some place) (Symbol.Stop ∷ []) None
 stop_there legacies Awaited.Code h = refl
 stop_there legacies (Awaited.Word assigning) h = refl

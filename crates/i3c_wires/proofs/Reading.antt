@@ -56,7 +56,7 @@ module _ {X : Type 0} where
         | false ↦ λ e. (λ no. cc, all_kept p q xs e)
       ] e
 
-  -- one that is kept and fails
+  -- an element that is kept and fails
   some_fails : (p q : X → Bool) (xs : List X) → list_all p (filter q xs) ≡ false → (x : X) × Contains xs x × (q x ≡ true) × (p x ≡ false)
   some_fails p q [] e = cc
   some_fails p q (x ∷ xs) e =
