@@ -73,11 +73,12 @@ impl Bus {
         for record in &self.records[first..] {
             key = key_with(key, record.slot.index() as u64);
         }
-        let mut left = self.devices.present();
-        while let Some(index) = left.take_lowest() {
-            key = (key ^ self.raised[index]).wrapping_mul(0x9E37_79B9_7F4A_7C15);
+        // one pass without a branch; which device raised is in the devices' key
+        let mut raises = 0u64;
+        for raised in &self.raised {
+            raises = raises.wrapping_add(*raised);
         }
-        key
+        key_with(key, raises)
     }
 }
 
