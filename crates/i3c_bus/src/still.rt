@@ -181,7 +181,7 @@ impl Still {
         }
     }
 
-    // The same, wherever it is to stand.
+    // The same, for a place of any type.
     #[inline(always)]
     fn seen(alloc: Global, bus: &Bus) -> Result<Still, OutOfMemory>
         ensures { IfOk result (λ still. still ≡ bus.now.state) }

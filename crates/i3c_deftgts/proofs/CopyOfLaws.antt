@@ -1,4 +1,4 @@
--- The list of a table gives the table back, but for what is kept for identities.
+-- The list of a table gives the table back, except for what is kept for identities.
 use Rattle.std.proofs.Common.{◌≡◌, ℕ, zero, suc, ◌+◌, ◌≤◌, true, false, not, ◌==◌, List, [], ◌∷◌, ◌++◌, length, map, take, get_or, set, Option, Some, None, IfSome, IsTrue, is_some, count_by, option_map, ◌⊎◌, inl, inr, sym, refl, ap, ◌∙◌, arith, subst}
 use Rattle.std.specs.List.{cons_option, filter_map}
 use Rattle.std.proofs.lemmas.Bool.{and_from, cases_eq, cond-true, cond-false, eq-eqb, le-leb, ne_eqb}
@@ -62,7 +62,7 @@ module _ {A R : Type 0} (entry : ℕ → A → Entry) (of : (n : ℕ) (x : A) �
       ∙ (picked_from xs 0 a (λ k. let e : k ≡ 0 + k = omega arith in let P : ℕ → Type 0 = λ n. IfSome (get_or xs k None) (λ x. pick (entry n x) ≡ Some (row n x)) in subst P e (h k))
       ∙ ap (λ n. option_map (row n) (get_or xs a None)) from)
 
--- what is picked of entries none of which is picked
+-- the pick of entries none of which is picked
 none_picked : {A R : Type 0} (entry : ℕ → A → Entry) (pick : Entry → Option R) → ((n : ℕ) (x : A) → pick (entry n x) ≡ None) → (xs : List (Option A)) (b : ℕ) → filter_map pick (upwards entry b xs) ≡ []
 none_picked entry pick none [] b = refl
 none_picked entry pick none (None ∷ xs) b = none_picked entry pick none xs (suc b)
@@ -95,7 +95,7 @@ static_same : (o : Option ℕ) → HasStatic o → static_in o ≡ o
 static_same None h = refl
 static_same (Some f) h = cond-true (is_static f) (Some f) None h
 
--- what holds of all that stands holds where one place was emptied
+-- a fact of all elements holds where one place was emptied
 pub still : {A : Type 0} (P : A → Type 0) (xs : List (Option A)) (own a : ℕ) → IfSome (get_or xs a None) P → IfSome (get_or (set xs own None) a None) P
 still P xs own a h = elim (cases_eq a own) [
   | inl same ↦ emptied (set_at xs own a None None)

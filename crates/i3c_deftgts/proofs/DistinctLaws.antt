@@ -20,7 +20,7 @@ module _ {A : Type 0} (entry : ℕ → A → Entry) (of : (n : ℕ) (x : A) → 
   among_below (None ∷ xs) b a l = among_below xs (suc b) a (omega arith)
   among_below (Some x ∷ xs) b a l = or_from (address_of (entry b x) == a) (is_among a (upwards entry (suc b) xs)) (ne_eqb (address_of (entry b x)) a (λ e. let at = of b x in omega (arith, at, e, l))) (among_below xs (suc b) a (omega arith))
 
-  -- an address is there where something stands at it
+  -- an address is among the entries if its place holds something
   among_from : (xs : List (Option A)) (b k : ℕ) → is_among (b + k) (upwards entry b xs) ≡ is_some (get_or xs k None)
   among_from [] b zero = refl
   among_from [] b (suc k) = refl
@@ -44,7 +44,7 @@ module _ {A : Type 0} (entry : ℕ → A → Entry) (of : (n : ℕ) (x : A) → 
   once (None ∷ xs) b = once xs (suc b)
   once (Some x ∷ xs) b = or_from (is_among (address_of (entry b x)) (upwards entry (suc b) xs)) (has_twice (upwards entry (suc b) xs)) (among_below xs (suc b) (address_of (entry b x)) (let at = of b x in omega (arith, at))) (once xs (suc b))
 
--- entries of which none has another's address
+-- lists without an address twice, appended
 pub twice_append : (xs ys : List Entry) → has_twice xs ≡ false → has_twice ys ≡ false → ((a : ℕ) → is_among a xs ≡ true → is_among a ys ≡ false) → has_twice (xs ++ ys) ≡ false
 twice_append [] ys h k apart = k
 twice_append (x ∷ xs) ys h k apart =

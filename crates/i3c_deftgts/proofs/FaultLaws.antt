@@ -73,7 +73,7 @@ pub read_result : (result : Result (List Entry) ListFault) (words : List Word) (
 read_result (Ok list) words entries same fault h = record { flawless = fault ∙ h.0; same = same ∙ h.1 }
 read_result (Err wrong) words entries same fault h = fault ∙ h
 
--- the same for words of which five or more are there: `rest` is what follows the first five
+-- the same for five words or more: `rest` has those behind the first five
 pub rest_of : (words : List Word) → take (length words - 5) (drop 5 words) ≡ drop 5 words
 rest_of words = take_all (length words - 5) (drop 5 words) (omega (arith, length-drop 5 words))
 

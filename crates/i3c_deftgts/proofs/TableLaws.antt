@@ -13,7 +13,7 @@ use Rattle.i3c_deftgts.specs.declared.entries.Entry.{Entry}
 use Rattle.i3c_deftgts.specs.Entries.{device_at, entries_of, given_in, legacy_at, own_entry, upwards}
 use Rattle.i3c_deftgts.proofs.UpwardLaws.{length-upwards}
 
--- the entry of a place, if something stands there
+-- the entry of a place, if it isn't empty
 abbrev pub entry_here : List (Option Given) → ℕ → List Entry
 entry_here given a = option_to_list (option_map (device_at a) (entry_in given a))
 
@@ -116,13 +116,13 @@ length-entries_of table own =
     let rest = length-append (upwards device_at 0 (set table.given own None)) (upwards legacy_at 0 table.legacy) in
     omega (arith, many, targets, whole, rest)
 
--- what is pushed where something stands at the lowest address, and where nothing does
+-- the list after the place of the lowest address, by whether it is empty
 pub pushed_here : (given : List (Option Given)) (left left' a : ℕ) (before now whole : List Entry) → IsLowest left a → is_in left' a ≡ false → ((b : ℕ) → b ≢ a → is_in left' b ≡ is_in left b)
     → now ≡ before ++ entry_here given a → before ++ upwards device_at 0 (given_in left given) ≡ whole → now ++ upwards device_at 0 (given_in left' given) ≡ whole
 pushed_here given left left' a before now whole low gone same is so_far =
     ap (λ e. e ++ upwards device_at 0 (given_in left' given)) is ∙ (append_assoc before (entry_here given a) (upwards device_at 0 (given_in left' given)) ∙ (ap (λ e. before ++ e) (sym (lowest_first given left left' a low gone same)) ∙ so_far))
 
--- there is room for one that stands at the lowest address
+-- there is room for the entry of the lowest address
 pub room_for : (given : List (Option Given)) (left left' a most : ℕ) (e : Given) (before whole : List Entry) → IsLowest left a → is_in left' a ≡ false → ((b : ℕ) → b ≢ a → is_in left' b ≡ is_in left b)
     → entry_in given a ≡ Some e → before ++ upwards device_at 0 (given_in left given) ≡ whole → length whole ≤ most → length before < most
 room_for given left left' a most e before whole low gone same stands so_far few =

@@ -1,4 +1,4 @@
--- The entries of what stands at places, upwards.
+-- The entries of places, upwards.
 use Rattle.std.proofs.Common.{◌≡◌, zero-add, cond, ℕ, suc, ◌+◌, ◌≤◌, ◌<◌, List, [], ◌∷◌, ◌++◌, length, drop, get_or, Option, Some, None, is_some, count_by, sym, refl, ap, ◌∙◌, arith, add-one, append_assoc, append-nil, length-append}
 use Rattle.std.proofs.lemmas.List.{at_drop_more, at_drop_all}
 use Rattle.std.proofs.lemmas.List.Sums.{sum_by-cons}
@@ -6,7 +6,7 @@ use Rattle.i3c_deftgts.specs.declared.entries.Entry.{Entry}
 use Rattle.i3c_deftgts.specs.Entries.{upwards}
 
 module _ {A : Type 0} (entry : ℕ → A → Entry) where
-  -- the place i, where x stands
+  -- the place i, which holds x
   pub upwards_some : (xs : List (Option A)) (i : ℕ) (o : Option A) (x : A) → i < length xs → o ≡ get_or xs i o → o ≡ Some x → upwards entry i (drop i xs) ≡ entry i x ∷ upwards entry (i + 1) (drop (i + 1) xs)
   upwards_some xs i o x l is here =
       at_drop_more (upwards entry i) xs i o l ∙ (ap (λ p. upwards entry i (p ∷ drop (i + 1) xs)) (sym is ∙ here) ∙ ap (λ n. entry i x ∷ upwards entry n (drop (i + 1) xs)) (sym (add-one i)))
@@ -15,7 +15,7 @@ module _ {A : Type 0} (entry : ℕ → A → Entry) where
   upwards_none xs i o l is here =
       at_drop_more (upwards entry i) xs i o l ∙ (ap (λ p. upwards entry i (p ∷ drop (i + 1) xs)) (sym is ∙ here) ∙ ap (λ n. upwards entry n (drop (i + 1) xs)) (sym (add-one i)))
 
-  -- an entry is appended, or nothing stands there
+  -- an entry is appended, or the place is empty
   pub pushed : (xs : List (Option A)) (i : ℕ) (o : Option A) (x : A) (items new whole : List Entry) → i < length xs → o ≡ get_or xs i o → o ≡ Some x → new ≡ items ++ entry i x ∷ []
       → items ++ upwards entry i (drop i xs) ≡ whole → new ++ upwards entry (i + 1) (drop (i + 1) xs) ≡ whole
   pushed xs i o x items new whole l is here more so_far =
@@ -38,7 +38,7 @@ module _ {A : Type 0} (entry : ℕ → A → Entry) where
       let more : count_by (is_some {T = A}) (Some x ∷ rest) ≡ 1 + count_by (is_some {T = A}) rest = sum_by-cons (λ o. cond (is_some o) 1 0) (Some x) rest in
       omega (arith, length-upwards rest (suc a), more)
 
-  -- nothing stands anywhere
+  -- all places are empty
   pub upwards_nothing : (xs : List (Option A)) (a : ℕ) → count_by is_some xs ≡ 0 → upwards entry a xs ≡ []
   upwards_nothing xs a none = empty (upwards entry a xs) (length-upwards xs a ∙ none)
     where

@@ -121,7 +121,7 @@ module _ {A : Type 0} (entry : ℕ → A → Entry) where
       later : (xs : List (Option A)) (b k : ℕ) → IfSome (get_or xs k None) (λ x. HasAddress (entry (b + suc k) x)) → IfSome (get_or xs k None) (λ x. HasAddress (entry (suc b + k) x))
       later xs b k = let e : b + suc k ≡ suc b + k = omega arith in let P : ℕ → Type 0 = λ n. IfSome (get_or xs k None) (λ x. HasAddress (entry n x)) in subst P e
 
--- where something stands an address follows
+-- an address follows if the place isn't empty
 if_stands : {A : Type 0} (P : Type 0) (o : Option A) (Q : A → Type 0) → (is_some o ≡ true → P) → ((x : A) → P → Q x) → IfSome o Q
 if_stands P None Q h k = tt
 if_stands P (Some x) Q h k = k x (h refl)

@@ -29,7 +29,7 @@ impl List {
     }
 }
 
-// The legacy targets among entries, but for those that may not be declared.
+// The legacy targets among entries, except for those that may not be declared.
 fn legacies_in(entries: &[Entry]) -> Legacies
     requires { HaveOwnAddresses entries.now }
     ensures { result ≡ record { legacy = legacies_in entries.now; declared = no_identities } }

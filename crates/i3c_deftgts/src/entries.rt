@@ -169,7 +169,7 @@ impl Gathered {
         None
     }
 
-    /// The list of what was gathered.
+    /// The list of the gathered entries.
     pub(crate) fn into_list(self) -> List
         ensures { result ≡ self }
     {

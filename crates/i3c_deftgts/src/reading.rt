@@ -80,7 +80,7 @@ fn has_wrong_t(word: &Word) -> bool
     read_word(*word).is_err()
 }
 
-// Whether a count is that of so many entries, the first one counted or not.
+// Whether a count fits this number of entries, with the first one counted or not.
 fn is_count(count: u8, entries: usize) -> bool
     ensures { result ≡ is_count count entries }
 {

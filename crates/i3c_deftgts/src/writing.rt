@@ -24,7 +24,7 @@ pub fn write_list(table: &Table, own: Addr7) -> ArrayVec<Word, WORDS>
     ensures words { Carry (list_bytes (entries_of table.now own)) result.items }
     ensures long { length result.items ≡ 1 + 4 * (count_by is_some table.now.given + count_by is_some table.now.legacy) }
 
-    // the words are read as these entries, which give the table, but for the identities that addresses are kept for
+    // the words are read as these entries, which give the table, except for the identities that addresses are kept for
     ensures read { ReadAs result.items (entries_of table.now own) }
     ensures copied { table_of (entries_of table.now own) ≡ copy_of table.now }
 {

@@ -32,7 +32,7 @@ pub all_changed : (f : ℕ → Option Device → Option Device) (xs ys : List (O
 all_changed f xs ys long each =
     ext_get_or None ys (changed f xs) (long ∙ sym (length-changed f xs)) (λ k l. let low : k < length xs = omega arith in each k low ∙ sym (changed_in f xs k low))
 
--- a change of some slots that does what is due in each
+-- a change of some slots that has the wanted effect on each
 pub narrowed : (f g : ℕ → Option Device → Option Device) (among : SlotSet) (xs ys : List (Option Device)) → length xs ≡ SLOTS → ys ≡ changed (within among f) xs
     → ((s : ℕ) → s < SLOTS → within among f s (get_or xs s None) ≡ g s (get_or xs s None)) → ys ≡ changed g xs
 narrowed f g among xs ys long e same =

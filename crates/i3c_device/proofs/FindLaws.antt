@@ -51,7 +51,7 @@ pub chosen_all : (test : ℕ → Bool) (among left chosen : SlotSet) → ChosenS
     → (s : ℕ) → s < SLOTS → has chosen s ≡ (has among s && test s)
 chosen_all test among left chosen h none s l = h.are s l ∙ ap (λ b. not b && (has among s && test s)) (none s l)
 
--- whatever stands in the slots of a set that aren't left fails the test
+-- the devices in the slots of a set that aren't left fail the test
 pub record Searches (test : ℕ → Option Device → Bool) (among left : SlotSet) (places : List (Option Device)) : Type 0 where
   pub among_them : (s : ℕ) → s < SLOTS → has left s ≡ true → has among s ≡ true
   pub searched : (s : ℕ) → s < SLOTS → has among s ≡ true → has left s ≡ false → test s (get_or places s None) ≡ false

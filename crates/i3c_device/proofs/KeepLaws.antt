@@ -24,7 +24,7 @@ length-unpacked kept = length-changed (λ slot empty. get_or kept slot None) no_
 pub unpacked_at : (kept : List (Option Device)) (s : ℕ) → s < SLOTS → get_or (unpacked kept) s None ≡ get_or kept s None
 unpacked_at kept s l = changed_in (λ slot empty. get_or kept slot None) no_devices s (omega (arith, l, length-no_devices))
 
--- places of which each holds what is kept for it
+-- each place holds what is kept for it
 pub unpacks : (kept places : List (Option Device)) → length places ≡ SLOTS → ((s : ℕ) → s < SLOTS → get_or kept s None ≡ get_or places s None) → unpacked kept ≡ places
 unpacks kept places long each =
     ext_get_or None (unpacked kept) places (length-unpacked kept ∙ sym long)
@@ -118,7 +118,7 @@ some_seen e xs now s is = go (get_or xs s None) ∙ ap is_some (sym (now_at e xs
 pub length-seen_kept : (e : Enabled) (xs now : List (Option Device)) → seen e xs ≡ now → length xs ≡ SLOTS → length now ≡ SLOTS
 length-seen_kept e xs now is long = ap length (sym is) ∙ (length_seen e xs ∙ long)
 
--- a test of what stands in a slot of both, with the kinds of the slot
+-- a test of the device in a slot of both, with the kinds of the slot
 pub decided : (e more : Enabled) (xs ys now others : List (Option Device)) (s i : ℕ) (kinds twins : KindSet) (o p : Option Device) (b : Bool) → seen e xs ≡ now → seen more ys ≡ others → s ≡ i
     → kinds ≡ kinds_in e i → twins ≡ kinds_in more i → o ≡ get_or xs s None → p ≡ get_or ys s None → Decides b (option_map (under kinds) o ≡ option_map (under twins) p) → Decides b (get_or now s None ≡ get_or others s None)
 decided e more xs ys now others s i kinds twins o p b is are at own its here there h =

@@ -1,4 +1,4 @@
--- The contest of the identities of those who hear.
+-- The contest of the hearers' identities.
 use Rattle.std.proofs.Common.{◌≡◌, ℕ, ◌<◌, ◌≤◌, ◌&&◌, ◌==◌, List, length, get_or, Option, Some, None, MatchOption, option_map, slice_index, inl, inr, refl, sym, ap, subst, ◌∙◌, arith}
 use Rattle.std.proofs.lemmas.Bool.{cases_lt}
 use Rattle.std.proofs.lemmas.List.{get_or_past}
@@ -19,14 +19,14 @@ use Rattle.i3c_device.specs.Sets.{has}
 use Rattle.i3c_device.specs.Walks.{hears_as}
 use Rattle.i3c_device.proofs.SeenWalks.{asked_seen, now_at, unseen}
 
--- whoever hears stands in one of the slots
+-- a device that hears is in one of the slots
 heard_in : (places : List (Option Device)) (hearing : SlotSet) (s : ℕ) (d : Device) → length places ≡ SLOTS → IsSetOf (λ d. d.hearing) hearing places → get_or places s None ≡ Some d → (s < SLOTS) × (has hearing s ≡ d.hearing)
 heard_in places hearing s d long of there = elim (cases_lt s SLOTS) [
   | inl l ↦ (l, of s l ∙ ap (in_slot (λ d. d.hearing)) there)
   | inr past ↦ absurd (none-some d (sym (get_or_past places s None (omega (arith, long, past))) ∙ there))
 ]
 
--- whoever wins the contest has the least identity
+-- the winner of the contest has the least identity
 pub least_won : (places : List (Option Device)) (kept : Planes) (hearing slots : SlotSet) (won : Won) → length places ≡ SLOTS → IsSetOf (λ d. d.hearing) hearing places → HavePlanes kept places → IsWon kept.numbers hearing.bits won
     → slots.bits ≡ won.winners → IsLeastHeard places (won.bits, slots)
 least_won places kept hearing slots won long of are h is = record {

@@ -19,7 +19,7 @@ use Rattle.i3c_device.specs.Sets.{has}
 use Rattle.i3c_device.specs.Walks.{AreReached}
 use Rattle.i3c_device.proofs.SeenWalks.{now_at, unseen}
 
--- n is the least maximum length of the devices at an address, in places of which the first is slot s
+-- n is the least maximum length of the devices at an address, in places that begin with slot s
 record IsLeastAt (active : ℕ) (way : Direction) (a s : ℕ) (places : List (Option Device)) (n : ℕ) : Type 0 where
   few : n ≤ REGISTERS
   least : (k : ℕ) (d : Device) → get_or places k None ≡ Some d → reaches_at active (Some a) (s + k) d ≡ true → n ≤ length_of way d

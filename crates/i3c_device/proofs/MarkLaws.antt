@@ -58,7 +58,7 @@ set_of_put test old new places i place b low h is put s l = put s l ∙ elim (ca
 pub undriven_past : (all : Population) (s : ℕ) (q : Request) → device_in all s ≡ None → drives_in all q s ≡ true → ⊥
 undriven_past all s q e h = both_ways _ refl (and_parts (not (s == all.active)) false (ap (λ p. not (s == all.active) && in_slot (λ d. asks d q) p) (sym e) ∙ h)).1
 
--- an entry for each slot: what f gives of whatever stands there, of which P holds
+-- an entry for each slot: the value of f at the device there, for which P holds
 abbrev pub AreEntries : (Option Device → ℕ) → (Option Device → Type 0) → List ℕ → List (Option Device) → Type 0
 AreEntries f P entries places = (length entries ≡ SLOTS) × ((s : ℕ) → s < SLOTS → (slice_index entries s ≡ f (get_or places s None)) × P (get_or places s None))
 
@@ -215,7 +215,7 @@ planes_of_same kept places i place low are same = (
     go s d None there is = absurd (none-some d.identity is)
     go s d (Some e) there is = subst (λ (j : Identity). (slice_index kept.numbers s ≡ number_of j) × IsInRange j) (same_Some e.identity d.identity is) (are.1 s e there)
 
--- whatever stands in a slot is as it was, but for what a change leaves out
+-- the device in a slot is unchanged, except for what a change leaves out
 pub record Alike (place before : Option Device) : Type 0 where
   pub present : in_slot (λ d. true) place ≡ in_slot (λ d. true) before
   pub joining : in_slot wishes_join place ≡ in_slot wishes_join before
@@ -263,7 +263,7 @@ pub hearing_queued : (queue : Device → List Waiting) (o : Option Device) → i
 hearing_queued queue None = refl
 hearing_queued queue (Some d) = refl
 
--- the marks where whoever stands there hears or hears no more, and interrupts as before
+-- the marks after the device in a slot begins or ends to hear, with the same interrupts
 pub marks_heard : (marks more : Marks) (places : List (Option Device)) (i : ℕ) (place : Option Device) (b : Bool) → length places ≡ SLOTS → i < SLOTS → AreMarks marks places → Alike place (get_or places i None)
     → in_slot wishes_interrupt place ≡ in_slot wishes_interrupt (get_or places i None) → b ≡ in_slot (λ d. d.hearing) place → more ≡ record marks { hearing = more.hearing }
     → ((s : ℕ) → s < SLOTS → has more.hearing s ≡ (if s == i then b else has marks.hearing s)) → AreMarks more (set places i place)

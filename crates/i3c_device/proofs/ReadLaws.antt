@@ -125,7 +125,7 @@ byte_more own among left next k cuts start devices byte i driven h low there out
       | inr ne ↦ out s l ∙ (cond-false (s == i) false (has left s) (ne_eqb s i ne) ∙ n)
     ]
 
--- one slot more, in which nothing stands
+-- one empty slot more
 pub byte_same : (own : Driving) (among left next : SlotSet) (k : ℕ) (cuts : CutList) (start : ℕ) (devices : List (Option Device)) (byte i : ℕ) → ByteSoFar own among left k cuts start devices byte
     → TakesOut i left next → get_or devices i None ≡ None → ByteSoFar own among next k cuts start devices byte
 byte_same own among left next k cuts start devices byte i h out none = record {
@@ -165,7 +165,7 @@ byte_all own among left k cuts start devices byte h none j l = (
   λ some. (h.bits j l).1 (some.0, some.1, some.2, none some.0 some.1, some.3, some.4),
 )
 
--- whoever has a 0 there at the address pulls low
+-- a device at the address with a 0 there pulls low
 zero_in : (own : Driving) (k bit : ℕ) (o : Option Device) → has_zero own k bit o ≡ true → (d : Device) × (o ≡ Some d) × (bit_at (get_or (own d) k 0) bit ≡ 0)
 zero_in own k bit None e = absurd (both_ways _ refl e)
 zero_in own k bit (Some d) e = (d, refl, eqb-true (bit_at (get_or (own d) k 0) bit) 0 e)
@@ -190,7 +190,7 @@ byte_read own all a slots cuts start k byte long are is j l = (
   λ low. (is j l).1 (low_pulled own all a slots (lost_by cuts (start + j)) k (7 - j) long are low),
 )
 
--- the bytes so far, of so many
+-- the bytes so far, of `most` at most
 pub record ReadSoFar (own : Driving) (most : ℕ) (slots : SlotSet) (cuts : CutList) (first : ℕ) (devices : List (Option Device)) (n : ℕ) (bytes : List ℕ) : Type 0 where
   pub long : length bytes ≡ most
   pub read : (k : ℕ) → k < n → IsByteOf own slots k cuts (first + 9 * k) devices (get_or bytes k 0)
@@ -219,7 +219,7 @@ pub read_small : (own : Driving) (most : ℕ) (slots : SlotSet) (cuts : CutList)
     → ReadSoFar own most slots cuts first devices n bytes → All (λ byte. byte < 256) bytes
 read_small own most slots cuts first devices n bytes past h k d l = subst (λ v. v < 256) (get_or_default bytes k 0 d l) (h.small k (omega (arith, h.long)))
 
--- so many of them, where there is room for more
+-- `count` of them, if there is room for more
 pub read_counted : (own : Driving) (most count : ℕ) (all : Population) (a : ℕ) (slots : SlotSet) (cuts : CutList) (first n : ℕ) (bytes : List ℕ) → length all.devices ≡ SLOTS → AreReached all.active (Some a) slots all.devices
     → count ≤ n → count ≤ most → ReadSoFar own most slots cuts first all.devices n bytes → AreBytesOf own (length (take count bytes)) all a cuts first (take count bytes)
 read_counted own most count all a slots cuts first n bytes long are past few h k j l m =

@@ -11,7 +11,7 @@ use Rattle.i3c_device.specs.Sets.{has}
 use Rattle.i3c_device.proofs.FindLaws.{TakesOut, still_in}
 use Rattle.i3c_device.proofs.SeenWalks.{now_at}
 
--- a test of what is seen in a slot of both
+-- a test of the device in a slot of both
 pub both_seen : (e more : Enabled) (xs ys now others : List (Option Device)) (s : ℕ) (b : Bool) → seen e xs ≡ now → seen more ys ≡ others
     → Decides b (seen_in e s (get_or xs s None) ≡ seen_in more s (get_or ys s None)) → Decides b (get_or now s None ≡ get_or others s None)
 both_seen e more xs ys now others s b is are h = (

@@ -108,7 +108,7 @@ set_seen e test slots xs blind is s l = is s l ∙ sym (ap (in_slot test) (seen_
 pub set_now : (e : Enabled) (test : Device → Bool) (slots : SlotSet) (xs now : List (Option Device)) → ((kinds : KindSet) (d : Device) → test (under kinds d) ≡ test d) → seen e xs ≡ now → IsSetOf test slots xs → IsSetOf test slots now
 set_now e test slots xs now blind is of = subst (IsSetOf test slots) is (set_seen e test slots xs blind of)
 
--- a change of some slots that does what is due in each
+-- a change of some slots that has the wanted effect on each
 pub narrowed_seen : (e : Enabled) (f g : ℕ → Option Device → Option Device) (among : SlotSet) (xs ys now : List (Option Device)) → length xs ≡ SLOTS → IsBlind f → seen e xs ≡ now → ys ≡ changed (within among f) xs
     → ((s : ℕ) → s < SLOTS → within among f s (get_or now s None) ≡ g s (get_or now s None)) → seen e ys ≡ changed g now
 narrowed_seen e f g among xs ys now long blind is each same =

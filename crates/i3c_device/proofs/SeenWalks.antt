@@ -84,7 +84,7 @@ pub byte_alike : (kinds : KindSet) (o : Option Device) → byte_in (option_map (
 byte_alike kinds None = refl
 byte_alike kinds (Some d) = refl
 
--- a device that is seen stands there
+-- a device that is seen is there
 pub unseen : (e : Enabled) (s : ℕ) (o : Option Device) (d : Device) → seen_in e s o ≡ Some d → (x : Device) × (o ≡ Some x) × (d ≡ under (kinds_in e s) x)
 unseen e s None d h = absurd (none-some d h)
 unseen e s (Some x) d h = (x, refl, sym (same_Some (under (kinds_in e s) x) d h))
@@ -104,7 +104,7 @@ test_seen : (e : Enabled) (test : Device → Bool) (s : ℕ) (o : Option Device)
 test_seen e test s None blind = refl
 test_seen e test s (Some d) blind = blind (kinds_in e s) d
 
--- whom a command reaches
+-- the devices that a command reaches
 pub reached_all : (e : Enabled) (xs now : List (Option Device)) (active : ℕ) (present slots : SlotSet) → seen e xs ≡ now → IsSetOf (λ d. true) present xs
     → ((s : ℕ) → s < SLOTS → has slots s ≡ (if s == active then false else has present s)) → AreReached active None slots now
 reached_all e xs now active present slots is of but s l =
@@ -119,7 +119,7 @@ reached_all e xs now active present slots is of but s l =
 pub reached_one : (e : Enabled) (xs now : List (Option Device)) (active a : ℕ) (slots : SlotSet) → seen e xs ≡ now → AreReached active (Some a) slots xs → AreReached active (Some a) slots now
 reached_one e xs now active a slots is of s l = of s l ∙ sym (ap (in_slot (reaches_at active (Some a) s)) (now_at e xs now s is) ∙ test_seen e (reaches_at active (Some a) s) s (get_or xs s None) (λ kinds d. refl))
 
--- who takes SETDASA
+-- the devices that take SETDASA
 pub takers_seen : (e : Enabled) (xs now : List (Option Device)) (active f : ℕ) (slots : SlotSet) → seen e xs ≡ now → AreTakers active f slots xs → AreTakers active f slots now
 takers_seen e xs now active f slots is of s l = of s l ∙ sym (ap (in_slot (takes_static active f s)) (now_at e xs now s is) ∙ test_seen e (takes_static active f s) s (get_or xs s None) (λ kinds d. refl))
 
@@ -153,7 +153,7 @@ takes_some all f slots lost b long are is =
     let passes = passes_some (takes_static all.active f) slots lost all b long are is in
     (λ t. passes_takes all f lost (passes.0 t), λ some. passes.1 (takes_passes all f lost some))
 
--- who would take the role
+-- the devices that would take the role
 willing_now : (e : Enabled) (xs now : List (Option Device)) (active a s : ℕ) → seen e xs ≡ now → willing_at active a s (get_or now s None) ≡ willing_at active a s (get_or xs s None)
 willing_now e xs now active a s is =
     ap (willing_at active a s) (now_at e xs now s is) ∙ test_seen e (λ d. reaches_at active (Some a) s d && d.willing) s (get_or xs s None) (λ kinds d. refl)
@@ -211,7 +211,7 @@ kinds_heard e more f active to slots xs now long is reached anew =
     (λ s l. kinds_of_heard e more f active to slots s (get_or xs s None) (anew s l) (reached s l ∙ ap (in_slot (reaches_at active to s)) (now_at e xs now s is)))
     ∙ ap (changed (λ s place. option_map (λ d. if reaches_at active to s d then under (f d.kinds) d else d) place)) is
 
--- those who pass the test of their slot are changed
+-- the devices that pass the test of their slot are changed
 passing_alike : (h : Device → Device) (test : ℕ → Device → Bool) (slots : SlotSet) (s : ℕ) (o : Option Device) → has slots s ≡ in_slot (test s) o
     → within slots (λ k place. option_map h place) s o ≡ option_map (λ d. if test s d then h d else d) o
 passing_alike h test slots s None e = elim (has slots s) as (λ b. ◌≡◌ {A = Option Device} (if b then None else None) None) [ true ↦ refl | false ↦ refl ]
@@ -221,7 +221,7 @@ passing_alike h test slots s (Some d) e = ap (λ b. if b then Some (h d) else So
     go true = refl
     go false = refl
 
--- a command that changes those whom it reaches
+-- a command that changes the devices that it reaches
 pub reached_alike : (h : Device → Device) (active : ℕ) (to : Option ℕ) (slots : SlotSet) (s : ℕ) (o : Option Device) → has slots s ≡ in_slot (reaches_at active to s) o
     → within slots (λ k place. option_map h place) s o ≡ option_map (λ d. if reaches_at active to s d then h d else d) o
 reached_alike h active to = passing_alike h (reaches_at active to)
@@ -244,7 +244,7 @@ unheard active to now = all_changed (λ s place. option_map (λ d. if reaches_at
     go s None = refl
     go s (Some d) = ap Some (same (reaches_at active to s d) d)
 
--- whoever drives a request asks for something
+-- a driver of a request asks for something
 there : (a : ℕ) (o : Option ℕ) → is_the a o ≡ true → is_some o ≡ true
 there a None e = absurd (both_ways _ refl e)
 there a (Some b) e = refl

@@ -31,7 +31,7 @@ put_out_less n k l h = elim (cases_eq (less n k) n) [
   | inr ne ↦ omega (arith, ne, and_le_l n (bit_not w64 (1 * 2 ^ k % 2 ^ 64)))
 ]
 
--- the first c bits of a number, of which none is set, and of which one is
+-- the first c bits of a number: one of them is set, or none is
 first_bit : (n c s : ℕ) → s < c → bit_at (bit_and n (2 ^ c - 1)) s ≡ bit_at n s
 first_bit n c s l = bit_at_and n (2 ^ c - 1) s ∙ omega (arith, bit_at_ones c s l, bit_at-lt n s)
 

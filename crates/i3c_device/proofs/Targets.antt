@@ -1,4 +1,5 @@
--- Whom a command reaches, and who takes SETDASA or would take the role at an address: the tests of slots against what they stand for.
+-- The devices that a command reaches, that take SETDASA or that would take the role at an address: the tests of slots against
+-- their meaning.
 use Rattle.std.proofs.Common.{◌≡◌, ◌≢◌, ℕ, Bool, true, false, ◌==◌, not, ◌&&◌, is_none, Option, Some, None, refl, ap, ◌∙◌}
 use Rattle.std.proofs.lemmas.Bool.{and_parts, both_ways, eq-eqb, eqb-true, ne_eqb}
 use Rattle.i3c_base.specs.Cutting.{Lost}
@@ -24,7 +25,7 @@ other_slot s active h e = both_ways _ (ap not (eq-eqb s active e)) h
 slot_other : (s active : ℕ) → s ≢ active → not (s == active) ≡ true
 slot_other s active n = ap not (ne_eqb s active n)
 
--- whoever is reached at an address is a target there, and the other way round
+-- a device is reached at an address exactly if it is a target there
 pub reached_target : (all : Population) (a s : ℕ) (d : Device) → device_in all s ≡ Some d → reaches_at all.active (Some a) s d ≡ true → IsTargetIn all a s d
 reached_target all a s d there h =
     let p = and_parts (not (s == all.active)) (has_address a d) h in
@@ -37,7 +38,7 @@ target_reached all a s d h = and_join (not (s == all.active)) (has_address a d) 
 abbrev pub SomePasses : (ℕ → Device → Bool) → Lost → Population → Type 0
 SomePasses test lost all = (s : ℕ) × (d : Device) × (device_in all s ≡ Some d) × (test s d ≡ true) × (lost s ≡ false)
 
--- whom a command reaches acknowledges it, where it isn't lost
+-- the devices that a command reaches acknowledge it, if they aren't lost
 pub passes_heard : (all : Population) (to : Option ℕ) (lost : Lost) → SomePasses (reaches_at all.active to) lost all → IsHeardIn all to lost
 passes_heard all None lost h = (h.0, (h.1, h.2), other_slot h.0 all.active h.3, h.4)
 passes_heard all (Some a) lost h = (h.0, h.1, reached_target all a h.0 h.1 h.2 h.3, h.4)
@@ -46,7 +47,7 @@ pub heard_passes : (all : Population) (to : Option ℕ) (lost : Lost) → IsHear
 heard_passes all None lost h = (h.0, h.1.0, h.1.1, slot_other h.0 all.active h.2, h.3)
 heard_passes all (Some a) lost h = (h.0, h.1, h.2.0, target_reached all a h.0 h.1 h.2, h.3)
 
--- whoever takes SETDASA at a static address has it and no dynamic one, and the other way round
+-- a device takes SETDASA at a static address exactly if it has that address and no dynamic one
 no_address : (o : Option ℕ) → is_none o ≡ true → o ≡ None
 no_address None e = refl
 no_address (Some a) e = absurd (both_ways _ refl e)
@@ -63,7 +64,7 @@ takes_passes all f lost h =
     (and_join (is_none h.1.address) (is_the f h.1.fixed) (ap is_none h.2.1) (is_address f h.1.fixed h.2.2)) in
     (h.0, h.1, h.2.0, takes, h.3)
 
--- whoever would take the role is a willing device there, and the other way round
+-- a device would take the role exactly if it is a willing device there
 pub found_willing : (all : Population) (a s : ℕ) → willing_at all.active a s (device_in all s) ≡ true → IsWillingIn all a s
 found_willing all a s h = go (device_in all s) refl h
   where

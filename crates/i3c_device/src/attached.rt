@@ -19,7 +19,7 @@ use std::marker::Model;
 /// How many bytes the longest datum has that a device is asked for.
 pub(crate) const LONGEST: usize = 6;
 
-/// A device while it is attached, but for which kinds of its events are enabled: clauses see it with all of them.
+/// An attached device, without its enabled kinds of events: clauses see it with all of them.
 #[derive(Drop)]
 pub(crate) struct Attached {
     identity: Identity,
@@ -165,7 +165,7 @@ impl Attached {
             && are_same_registers(&self.registers, &other.registers)
     }
 
-    /// Whether the other device has the same of what has a byte each.
+    /// Whether the other device has the same in each field of one byte.
     #[inline(always)]
     fn has_same_byte_fields(&self, other: &Attached) -> bool
         ensures { IsTrue result ↔ HaveSameByteFields self.now other.now }
@@ -362,7 +362,7 @@ impl Attached {
         }
     }
 
-    /// The address at which it answers: its dynamic one, else its static one; `NOWHERE` if it has neither.
+    /// The address at which it answers: its dynamic one, otherwise its static one; `NOWHERE` if it has neither.
     pub(crate) fn answer(&self) -> u8
         ensures { result ≡ answer_of self.now.address self.now.fixed }
     {
@@ -443,7 +443,7 @@ impl Attached {
         self.waiting.first().copied()
     }
 
-    /// The mandatory byte that it answers with when its interrupt is accepted, if one is due.
+    /// The mandatory byte that it answers with when its interrupt is accepted, if it has one.
     pub fn answer_byte(&self) -> Option<u8>
         ensures { result ≡ front_byte self.now.waiting }
     {

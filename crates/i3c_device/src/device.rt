@@ -136,7 +136,7 @@ impl Device {
         self.attached.front()
     }
 
-    /// The mandatory byte that it answers with when its interrupt is accepted, if one is due.
+    /// The mandatory byte that it answers with when its interrupt is accepted, if it has one.
     pub fn answer_byte(&self) -> Option<u8>
         ensures { result ≡ front_byte self.now.waiting }
     {

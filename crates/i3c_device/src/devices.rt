@@ -154,7 +154,7 @@ impl Devices {
         front_in(self.occupants.at(slot))
     }
 
-    /// The mandatory byte that a slot's device answers with when its interrupt is accepted, if one is due.
+    /// The mandatory byte that a slot's device answers with when its interrupt is accepted, if it has one.
     pub fn answer_byte(&self, slot: Slot) -> Option<u8>
         ensures { result ≡ byte_in (slice_index_or self.now slot None) }
     {
@@ -185,7 +185,7 @@ impl Devices {
         present.and(self.enabled.roles).has(slot.index())
     }
 
-    /// A number that equal devices have in common: of the kinds of events that are enabled, and of what they wish for.
+    /// A number that equal devices have in common: of their enabled kinds of events, and of their wishes.
     pub fn key(&self) -> u64 {
         let marks = self.occupants.marks();
         let interrupts = marks.present.and(self.enabled.interrupts).bits();
@@ -260,7 +260,7 @@ impl Devices {
         }
     }
 
-    /// The contest of the requests that the devices drive at once: who wins it, and the slots that drive that.
+    /// The contest of the requests that the devices drive at once: the winner, and the slots that drive it.
     #[inline(never)]
     fn contest(&self, active: Slot) -> Option<(Request, SlotSet)>
         ensures first { MatchOption result (NobodyDrives (with_active self.now active)) (IsFirstDriven (with_active self.now active)) }
@@ -287,7 +287,7 @@ impl Devices {
         joins.or(roles.or(interrupts)).but(active)
     }
 
-    /// The request was accepted: these slots, its drivers, lose the wish or the front of what waits.
+    /// The request was accepted: these slots, its drivers, lose the wish or the front of their waiting interrupts.
     #[inline(always)]
     pub fn accept(&mut self, drivers: SlotSet, request: &Request)
         ensures { (all : Population) → all.devices ≡ self.old → AreDrivers all request.now drivers → self.new ≡ each_driver_in all request.now (without request.now) }

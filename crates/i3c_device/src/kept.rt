@@ -68,7 +68,7 @@ impl Kept {
         self.present
     }
 
-    /// Whoever stands in a slot.
+    /// The device in a slot.
     pub fn at(&self, slot: Slot) -> Option<&Attached>
         ensures place { option_copied result ≡ slice_index_or self.now slot None }
         ensures slots { length self.now ≡ SLOT_COUNT }
@@ -92,7 +92,7 @@ impl Kept {
     }
 }
 
-/// There are at least so many places, of which those that are new are empty.
+/// There are at least `count` places; the new ones are empty.
 fn lengthen(places: &mut Vec<Option<Attached>>, count: usize) -> Result<(), AllocError>
     requires { (length places.old.items ≤ SLOT_COUNT) × (count ≤ SLOT_COUNT) }
     ensures same { (s : ℕ) → slice_index_or places.new.items s None ≡ slice_index_or places.old.items s None }

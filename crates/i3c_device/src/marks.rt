@@ -31,7 +31,7 @@ pub(crate) struct Marks {
     pub unaddressed: SlotSet,
     /// By slot, the key of the request that its device drives when it drives one.
     pub keys: [u8; SLOTS],
-    /// By slot and by address, where its device answers: at its dynamic address, else at its static one.
+    /// By slot and by address, where its device answers: at its dynamic address, otherwise at its static one.
     pub answering: Answering,
     /// By slot and by bit, the numbers of the identities.
     pub planes: Planes,
@@ -56,7 +56,7 @@ impl Marks {
         }
     }
 
-    /// This stands in a slot from now on.
+    /// This is in a slot from now on.
     pub(crate) fn noted(&mut self, index: usize, place: &Option<Attached>)
         requires { index < SLOT_COUNT }
         ensures { (places : List (Option DeviceState)) → length places ≡ SLOT_COUNT → AreMarks self.old places → AreMarks self.new (slice_set places index place.now) }
@@ -67,7 +67,7 @@ impl Marks {
         }
     }
 
-    /// A session was opened for whatever stands in a slot now.
+    /// A session was opened for the device in a slot.
     pub(crate) fn opened(&mut self, index: usize, place: &Option<Attached>)
         requires { index < SLOT_COUNT }
         ensures { (places : List (Option DeviceState)) → length places ≡ SLOT_COUNT → AreMarks self.old places → place.now ≡ option_map hears (slice_index_or places index None) → AreMarks self.new (slice_set places index place.now) }
@@ -75,7 +75,7 @@ impl Marks {
         self.hearing = self.hearing.with(index, hears(place));
     }
 
-    /// A session ended for whatever stands in a slot now.
+    /// A session ended for the device in a slot.
     pub(crate) fn ended(&mut self, index: usize, place: &Option<Attached>)
         requires { index < SLOT_COUNT }
         ensures { (places : List (Option DeviceState)) → length places ≡ SLOT_COUNT → AreMarks self.old places → place.now ≡ option_map unhearing (slice_index_or places index None) → AreMarks self.new (slice_set places index place.now) }
@@ -83,7 +83,7 @@ impl Marks {
         self.hearing = self.hearing.with(index, hears(place));
     }
 
-    /// Whatever stands in a slot now took an address.
+    /// The device in a slot took an address.
     pub(crate) fn won(&mut self, index: usize, place: &Option<Attached>)
         requires { index < SLOT_COUNT }
         ensures { (places : List (Option DeviceState)) (address : ℕ) → length places ≡ SLOT_COUNT → AreMarks self.old places → place.now ≡ option_map (winner address) (slice_index_or places index None) → AreMarks self.new (slice_set places index place.now) }
@@ -98,7 +98,7 @@ impl Marks {
         self.answering.set(index, answer_in(place));
     }
 
-    /// Whatever stands in a slot now lost its address.
+    /// The device in a slot lost its address.
     pub(crate) fn reset(&mut self, index: usize, place: &Option<Attached>)
         requires { index < SLOT_COUNT }
         ensures { (places : List (Option DeviceState)) → length places ≡ SLOT_COUNT → AreMarks self.old places → place.now ≡ option_map unaddressed_device (slice_index_or places index None) → AreMarks self.new (slice_set places index place.now) }
@@ -112,7 +112,7 @@ impl Marks {
         self.answering.set(index, answer_in(place));
     }
 
-    /// Other interrupts wait at whatever stands in a slot now, which wishes to interrupt or doesn't.
+    /// The device in a slot has other interrupts waiting, and wishes to interrupt or doesn't.
     pub(crate) fn queued(&mut self, index: usize, interrupts: bool)
         requires { index < SLOT_COUNT }
         ensures { (places : List (Option DeviceState)) (place : Option DeviceState) (queue : DeviceState → List WaitingValue) → length places ≡ SLOT_COUNT → AreMarks self.old places → place ≡ option_map (requeued queue) (slice_index_or places index None)
@@ -121,7 +121,7 @@ impl Marks {
         self.interrupting = self.interrupting.with(index, interrupts);
     }
 
-    /// This device stands in a slot from now on.
+    /// This device is in a slot from now on.
     fn taken(&mut self, index: usize, device: &Attached)
         requires { index < SLOT_COUNT }
         ensures { (places : List (Option DeviceState)) → length places ≡ SLOT_COUNT → AreMarks self.old places → AreMarks self.new (slice_set places index (Some device.now)) }
@@ -138,7 +138,7 @@ impl Marks {
         self.unaddressed = self.unaddressed.with(index, device.is_unaddressed());
     }
 
-    /// Nothing stands in a slot from now on.
+    /// A slot is empty from now on.
     fn vacated(&mut self, index: usize)
         requires { index < SLOT_COUNT }
         ensures { (places : List (Option DeviceState)) → length places ≡ SLOT_COUNT → AreMarks self.old places → AreMarks self.new (slice_set places index None) }

@@ -67,7 +67,7 @@ impl Occupants {
         }
     }
 
-    /// This device stands in a slot from now on, or nobody.
+    /// This device, or none, is in a slot from now on.
     pub fn wake_at(&mut self, slot: Slot, device: Option<&Attached>)
         ensures put { self.new ≡ slice_set self.old slot (option_copied device.entry) }
         ensures slots { length self.old ≡ SLOT_COUNT }
@@ -116,7 +116,7 @@ impl Occupants {
         places.len()
     }
 
-    /// What stands in each slot.
+    /// The place of each slot.
     pub fn places(&self) -> &[Option<Attached>]
         ensures places { result.now ≡ self.now }
         ensures slots { length self.now ≡ SLOT_COUNT }
@@ -124,7 +124,7 @@ impl Occupants {
         &self.places
     }
 
-    /// Whatever stands in a slot.
+    /// The place of a slot.
     pub fn at(&self, slot: Slot) -> &Option<Attached>
         ensures place { result.now ≡ slice_index_or self.now slot None }
         ensures slots { length self.now ≡ SLOT_COUNT }
@@ -152,7 +152,7 @@ impl Occupants {
         &self.marks
     }
 
-    /// This stands in a slot from now on.
+    /// This is in a slot from now on.
     pub fn put(&mut self, slot: Slot, place: Option<Attached>)
         ensures put { self.new ≡ slice_set self.old slot place }
         ensures slots { length self.old ≡ SLOT_COUNT }
@@ -229,7 +229,7 @@ impl Occupants {
         }
     }
 
-    /// A byte of what these slots' devices drive, as the lines give it from this bit of a frame on.
+    /// A byte that these slots' devices drive, as the lines give it from this bit of a frame on.
     pub fn byte_of<D: Driven>(
         &self,
         driven: &D,

@@ -21,7 +21,7 @@ use i3c_base::{
     Addr7, Direction, Identity, Length, REGISTERS, RaiseRefusal, Request, Slot, Waiting,
 };
 
-/// Whether this device stands here.
+/// Whether the place holds this device.
 pub(crate) fn stands(device: &Attached, place: &Option<Attached>) -> bool
     ensures { IsTrue result ↔ (place.now ≡ Some device.now) }
 {
@@ -46,7 +46,7 @@ pub(crate) fn requeue(place: &mut Option<Attached>, device: &Attached) -> bool
     }
 }
 
-/// What stands here becomes the same as what stands there.
+/// One place becomes the same as another.
 pub(crate) fn copy_from(place: &mut Option<Attached>, other: &Option<Attached>)
     ensures { place.new ≡ other.now }
 {
@@ -62,7 +62,7 @@ pub(crate) fn copy_from(place: &mut Option<Attached>, other: &Option<Attached>)
     }
 }
 
-/// Nothing stands here any more. It stands apart, since a whole place is cleared for it.
+/// The place is empty from now on. A function of its own, since a whole place is cleared for it.
 #[inline(never)]
 fn vacate(place: &mut Option<Attached>)
     ensures { place.new ≡ None }
@@ -70,7 +70,7 @@ fn vacate(place: &mut Option<Attached>)
     *place = None;
 }
 
-/// The same device stands here as there. It stands apart, since a whole device is cleared for it.
+/// The place holds the same device as the other. A function of its own, since a whole device is cleared for it.
 #[inline(never)]
 fn fill(place: &mut Option<Attached>, twin: &Attached)
     ensures { place.new ≡ Some twin.now }
@@ -78,7 +78,7 @@ fn fill(place: &mut Option<Attached>, twin: &Attached)
     *place = Some(twin.copied());
 }
 
-/// What stands here becomes the same as what stands there, in each of as many places.
+/// Each of some places becomes the same as the other one.
 pub(crate) fn copy_all(places: &mut [Option<Attached>], others: &[Option<Attached>])
     requires { length places.old ≡ length others.now }
     ensures { places.new ≡ others.now }
@@ -170,7 +170,7 @@ pub(crate) fn lose_role_wish(place: &mut Option<Attached>)
     }
 }
 
-/// The device here, if there is one, loses the front of what waits.
+/// The device here, if there is one, loses the front of its waiting interrupts.
 pub(crate) fn lose_front(place: &mut Option<Attached>)
     ensures { place.new ≡ option_map without_front place.old }
 {
@@ -210,7 +210,7 @@ pub(crate) fn accept(place: &mut Option<Attached>, request: &Request)
     }
 }
 
-/// Whether a command reaches whatever stands in this slot.
+/// Whether a command reaches the device in this slot.
 pub(crate) fn reaches(
     place: &Option<Attached>,
     index: usize,
@@ -231,7 +231,7 @@ pub(crate) fn reaches(
     }
 }
 
-/// Whatever stands in this slot takes a private write of these bytes, if it is at this address.
+/// The device in this slot takes a private write of these bytes, if it is at this address.
 pub(crate) fn write(
     place: &mut Option<Attached>,
     index: usize,
@@ -267,7 +267,7 @@ fn driven_from(own: u8, cut: Option<u16>, at: u16) -> u8
     }
 }
 
-/// A byte of what whatever stands in this slot drives, from this bit of a frame on: all ones by nobody.
+/// A byte that the device in this slot drives, from this bit of a frame on: all ones without a device.
 pub(crate) fn byte_from<D: Driven>(
     driven: &D,
     place: &Option<Attached>,
@@ -295,7 +295,7 @@ pub(crate) fn pull_low(bytes: &mut [u8; REGISTERS], device: &Attached)
     }
 }
 
-/// Whether whatever stands in this slot would take the role that is offered to this address.
+/// Whether the device in this slot would take the role that is offered to this address.
 pub(crate) fn is_willing(
     place: &Option<Attached>,
     index: usize,
@@ -337,7 +337,7 @@ pub(crate) fn silence(place: &mut Option<Attached>)
     }
 }
 
-/// Whether a device that hears the open session stands in this slot.
+/// Whether a device in this slot hears the open session.
 pub(crate) fn hears(place: &Option<Attached>) -> bool
     ensures { result ≡ in_slot (λ d. d.hearing) place.now }
 {
@@ -347,7 +347,7 @@ pub(crate) fn hears(place: &Option<Attached>) -> bool
     }
 }
 
-/// Whether a device that wishes to interrupt, and not for the role, and has an address, stands in this slot.
+/// Whether a device in this slot wishes to interrupt, and not for the role, and has an address.
 pub(crate) fn wishes_interrupt(place: &Option<Attached>) -> bool
     ensures { result ≡ in_slot wishes_interrupt place.now }
 {
@@ -357,7 +357,7 @@ pub(crate) fn wishes_interrupt(place: &Option<Attached>) -> bool
     }
 }
 
-/// Whether a device that wishes for the role, and has an address, stands in this slot.
+/// Whether a device in this slot wishes for the role, and has an address.
 pub(crate) fn wishes_role(place: &Option<Attached>) -> bool
     ensures { result ≡ in_slot wishes_role place.now }
 {
@@ -367,7 +367,7 @@ pub(crate) fn wishes_role(place: &Option<Attached>) -> bool
     }
 }
 
-/// Whether a device that wishes for the role, with an address or without one, stands in this slot.
+/// Whether a device in this slot wishes for the role, with an address or without one.
 pub(crate) fn has_role_wish(place: &Option<Attached>) -> bool
     ensures { result ≡ in_slot (λ d. d.role_wish) place.now }
 {
@@ -377,7 +377,7 @@ pub(crate) fn has_role_wish(place: &Option<Attached>) -> bool
     }
 }
 
-/// Whether a device that wishes to join, and has no address, stands in this slot.
+/// Whether a device in this slot wishes to join, and has no address.
 pub(crate) fn wishes_join(place: &Option<Attached>) -> bool
     ensures { result ≡ in_slot wishes_join place.now }
 {

@@ -23,7 +23,7 @@ impl SlotSet {
         SlotSet { bits: 0 }
     }
 
-    /// The slots of these bits, of which bit `s` stands for slot `s`.
+    /// The set of these bits: bit `s` is slot `s`.
     pub(crate) fn of_bits(bits: u64) -> SlotSet
         ensures { result.bits ≡ bits }
     {

@@ -19,12 +19,12 @@ use crate::places::{
 };
 use i3c_base::{Addr7, Datum, Direction, Length, Request, Slot};
 
-/// A change of what is in some slots.
+/// A change of the devices in some slots.
 pub(crate) trait SlotUpdate {
-    /// What stands in a slot after it.
+    /// The device in a slot after it.
     ghost after: { Self → ℕ → Option DeviceState → Option DeviceState };
 
-    /// Whether it may change what stands in this slot.
+    /// Whether it may change the device in this slot.
     fn concerns(&self, place: &Option<Attached>, index: usize) -> bool
         ensures { result ≡ false → after self.now index place.now ≡ place.now };
 
@@ -137,7 +137,7 @@ pub(crate) struct RoleLost;
 impl SlotUpdate for RoleLost {
     ghost after = { λ h s place. option_map without_role place };
 
-    // as a rule there is no such wish, and nothing to mark
+    // as a rule no device wishes so, and there is nothing to mark
     fn concerns(&self, place: &Option<Attached>, _index: usize) -> bool {
         has_role_wish(place)
     }
@@ -307,10 +307,10 @@ impl SlotUpdate for Lost {
 
 /// What is looked for in some slots.
 pub(crate) trait Sought {
-    /// Whether it stands in a slot.
+    /// Whether it is in a slot.
     ghost finds: { Self → ℕ → Option DeviceState → Bool };
 
-    /// Whether it stands in this slot.
+    /// Whether it is in this slot.
     fn is_found(&self, place: &Option<Attached>, index: usize) -> bool
         ensures { result ≡ finds self.now index place.now };
 }

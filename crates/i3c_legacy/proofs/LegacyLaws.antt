@@ -1,4 +1,4 @@
--- Rows, seen as what stands at their addresses, and what is wrong with one row more.
+-- Rows, seen by their addresses, and the faults of one row more.
 use Rattle.std.proofs.Common.{◌≡◌, ◌≢◌, ℕ, ◌<◌, Bool, true, false, not, List, [], ◌∷◌, ◌++◌, length, get_or, set, take, Option, Some, None, option_map, is_some, count_by, nat_le, IsTrue, IfSome, ◌+◌, ◌≤◌, sym, refl, ap, ◌∙◌, arith, if◌then◌else◌}
 use Rattle.std.specs.List.{All, HoldsAt}
 use Rattle.std.proofs.lemmas.Bool.{le-leb, lt-leb}
@@ -76,7 +76,7 @@ module _ {R A : Type 0} (address : R → ℕ) (value : R → A) where
   pub first_all : (rows : List R) (there so_far : List (Option A)) (i : ℕ) → places address value rows ≡ there → length rows ≤ i → so_far ≡ places address value (take i rows) → so_far ≡ there
   first_all rows there so_far i view past is = is ∙ (ap (places address value) (take_all i rows past) ∙ view)
 
-  -- a row stands at static addresses alone
+  -- rows have static addresses only
   pub static_alone : (rows : List R) (there : List (Option A)) (a : ℕ) → HasOwnAddresses address rows → All (λ r. IsTrue (is_static (address r))) rows → places address value rows ≡ there → IfSome (get_or there a None) (λ _. IsTrue (is_static a))
   static_alone rows there a own all view = from (row_at address rows a) refl (sym (places_at address value rows a own.in_range) ∙ ap (λ g. get_or g a None) view)
     where

@@ -1,4 +1,4 @@
--- What stands at an address, of rows with addresses of their own.
+-- The row at an address, of rows with addresses of their own.
 use Rattle.std.proofs.Common.{◌≡◌, ◌≢◌, ℕ, zero, suc, ◌+◌, ◌<◌, Bool, true, false, cond, List, [], ◌∷◌, ◌++◌, map, length, get_or, set, take, replicate, Option, Some, None, option_map, is_some, count_by, nat_eq, ◌==◌, sym, refl, ap, ◌∙◌, arith, inl, inr, zero-add}
 use Rattle.std.specs.List.{All, AllByRecursion, Contains, IsDistinct, range_with_len}
 use Rattle.std.specs.Option.{option_or}
@@ -124,7 +124,7 @@ module _ {R A : Type 0} (address : R → ℕ) (value : R → A) where
   unfolding places
   places_below rows a l = get_or-map-range_with_len (λ b. option_map value (row_at address rows b)) 0 ADDRESSES a a None l (zero-add a)
 
-  -- at each address stands what its row says
+  -- each address has the value of its row
   pub places_at : (rows : List R) (a : ℕ) → All (λ row. address row < ADDRESSES) rows → get_or (places address value rows) a None ≡ option_map value (row_at address rows a)
   places_at rows a h = elim (cases_lt a ADDRESSES) [
     | inl l ↦ places_below rows a l
@@ -183,7 +183,7 @@ module _ {R A : Type 0} (address : R → ℕ) (value : R → A) where
   some_false None h = refl
   some_false (Some row) h = cc
 
-  -- nothing stands at an address that no row has
+  -- an address without a row has no value
   pub row_missing : (rows : List R) (a : ℕ) → All (λ row. address row < ADDRESSES) rows → is_some (get_or (places address value rows) a None) ≡ false → row_at address rows a ≡ None
   row_missing rows a below h = some_false (row_at address rows a) (ap is_some (sym (places_at rows a below)) ∙ h)
 

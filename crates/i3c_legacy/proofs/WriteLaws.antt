@@ -1,4 +1,4 @@
--- Legacy targets with their registers, at their addresses: who is found, and what a write leaves.
+-- Legacy targets with their registers, by address: the target that is found, and the effect of a write.
 use Rattle.std.proofs.Common.{◌≡◌, ◌≢◌, ℕ, ◌<◌, List, [], ◌∷◌, length, map, get_or, set, Option, Some, None, option_map, nat_eq, sym, refl, ap, ◌∙◌, subst, arith}
 use Rattle.std.specs.List.{All, HoldsAt, IsDistinct, refill}
 use Rattle.std.proofs.lemmas.Grind.{common_steps}
@@ -31,7 +31,7 @@ own_placed ds own = record {
   in_range = All-map (λ (p : Placed). p.address < ADDRESSES) placed_of ds own.in_range;
 }
 
--- what stands at an address
+-- the target at an address
 pub target_found : (rows : List Placed) (legacy : List (Option LegacyTarget)) (i a : ℕ) (d : Placed) → HasOwnAddresses place_of rows → targets_of rows ≡ legacy → i < length rows → HoldsAt (λ r. r.address ≡ a) rows i
     → ◌≡◌ {A = Option LegacyTarget} (Some (get_or rows i d).target) (get_or legacy a None)
 target_found rows legacy i a d own view l same =
@@ -63,6 +63,6 @@ view_set rows legacy i a row d bytes own view l here same written =
     places_set place_of (λ r. r.target) rows i row d small own.distinct l (sym same)
     ∙ (λ t. set (view t) (at t) (after t))
 
--- nobody's registers change where no target stands
+-- no registers change at an address without a target
 pub view_same : (legacy : List (Option LegacyTarget)) (a : ℕ) (bytes : List ℕ) → ◌≡◌ {A = Option LegacyTarget} None (get_or legacy a None) → legacy ≡ set legacy a (legacy_written bytes (get_or legacy a None))
 view_same legacy a bytes none = sym (set-get_or legacy a None) ∙ ap (set legacy a) (sym none ∙ ap (legacy_written bytes) none)

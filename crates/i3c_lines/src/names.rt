@@ -300,7 +300,7 @@ impl Names {
         }
     }
 
-    /// Whoever stands in the slot of this number is gone, unless the name stands elsewhere now.
+    /// The name of the slot of this number is gone, unless it has another place now.
     fn empty(&mut self, number: usize, place: &Place) -> Result<(), AllocError>
         requires { number < SLOTS }
         ensures emptied { OnOk result (Empties self.old self.new number place.now) }

@@ -13,11 +13,11 @@ use Rattle.i3c_table.specs.Stored.{AreStatic, IsWhole, stored}
 use Rattle.i3c_base.proofs.SetLaws.{is_usable, is_usable-true}
 use Rattle.i3c_table.proofs.StoredLaws.{IsSmall, entry_stored, length-stored, out_of, small_whole, some_or_none}
 
--- what stands at a place is the row of its address
+-- a place holds the row of its address
 abbrev pub IsPlaced : List (Option Entry) → ℕ → Option Row → Type 0
 IsPlaced given a place = (option_map entry_of_row place ≡ entry_in given a) × IfSome place (λ row. row.address ≡ a)
 
--- the rows of the addresses that aren't left stand at their places
+-- the rows of the addresses that aren't left are in their places
 abbrev pub ArePlaced : List (Option Entry) → ℕ → List (Option Row) → Type 0
 ArePlaced given left rows = (a : ℕ) → is_in left a ≡ false → IsPlaced given a (get_or rows a None)
 

@@ -1,4 +1,4 @@
--- No rows stand nowhere.
+-- A table without rows has empty places.
 use Rattle.std.proofs.Common.{◌≡◌, []}
 use Rattle.i3c_base.specs.State.{no_entries}
 use Rattle.i3c_legacy.proofs.RowLaws.{places-nil}

@@ -1,4 +1,4 @@
--- What stands at an address of what a table stores.
+-- The entry at an address of a stored table.
 use Rattle.std.proofs.Common.{◌≡◌, ◌≢◌, ℕ, ◌^◌, ◌<◌, ◌≤◌, ◌==◌, Bool, true, false, List, length, get_or, set, Option, Some, None, MatchOption, option_map, ◌⊎◌, if◌then◌else◌, sym, refl, ap, ◌∙◌, inl, inr, arith, subst, zero-add}
 use Rattle.std.proofs.lemmas.Bool.{both_ways, cases_eq, cases_lt, cond-true, cond-false, eq-eqb, ne_eqb}
 use Rattle.std.proofs.lemmas.List.{ext_get_or, get_or_past, get_or-set_other, get_or-set_same, length-set}
@@ -31,7 +31,7 @@ identity_again i h = same_number (identity_of (number_of i)) i (identity_in_rang
 pub identity_is : (i : Identity) (n : ℕ) → IsInRange i → number_of i ≡ n → i ≡ identity_of n
 identity_is i n h e = sym (identity_again i h) ∙ ap identity_of e
 
--- ---- what stands at an address
+-- ---- the entry at an address
 
 pub some_or_none : (b : Bool) → (b ≡ true) ⊎ (b ≡ false)
 some_or_none true = inl refl

@@ -1,4 +1,4 @@
--- The table of a new controller, of what is stored.
+-- The table of a new controller, as it is stored.
 use Rattle.std.proofs.Common.{◌≡◌, ◌≢◌, ℕ, ◌&&◌, ◌==◌, Bool, true, false, not, List, get_or, Option, Some, None, option_map, option_and_then, if◌then◌else◌, ◌⊎◌, sym, refl, ap, ◌∙◌, inl, inr}
 use Rattle.std.specs.List.{find, range_with_len}
 use Rattle.std.proofs.lemmas.Bool.{and_parts, both_ways, cases_eq, cond-true, cond-false, eq-eqb, ne_eqb}
@@ -19,7 +19,7 @@ module _ (declared : List (Option Identity)) (held kept own : ℕ) (registers : 
   abbrev given : List (Option Entry)
   given = stored held kept registers numbers
 
-  -- what stands at an address that was given
+  -- the entry at an address that was given
   abbrev pub entry_here : ℕ → Entry
   entry_here a = record { bcr = (get_or registers a no_registers).bcr; dcr = (get_or registers a no_registers).dcr; kept = kept_at kept numbers a; fixed = (get_or registers a no_registers).fixed }
 

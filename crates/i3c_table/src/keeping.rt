@@ -10,7 +10,7 @@ use i3c_base::{ADDRESSES, Addr7, Addresses, Identity};
 use i3c_legacy::Legacies;
 
 /// Keeps an address for an identity, or for nobody, and answers which addresses are kept then.
-// in line, since who calls it knows whether there is an identity, and has the address in a set of its own
+// in line, since the caller knows whether there is an identity, and has the address in a set of its own
 #[inline(always)]
 pub(crate) fn keep_for(
     identity: Option<Identity>,
@@ -61,7 +61,7 @@ pub(crate) fn keep_homes(
     kept
 }
 
-// Whom an address of a set is kept for again.
+// The identity that an address of a set is kept for again.
 fn kept_again(
     legacies: &Legacies,
     among: Addresses,

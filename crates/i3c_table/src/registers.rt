@@ -1,6 +1,6 @@
 use i3c_base::{Addr7, Bcr, Dcr};
 
-/// What is stored of who got an address: the registers, and the static address.
+/// The stored values of an address: the registers and the static address of its device.
 #[derive(Clone, Copy)]
 pub(crate) struct Registers {
     pub bcr: Bcr,

@@ -1,7 +1,6 @@
 use i3c_base::{Addr7, Bcr, Dcr, Identity};
 
-/// A dynamic address, the BCR, DCR and static address of who has it, and the identity that it is kept for (I3C Basic
-/// 5.1.4).
+/// A dynamic address, the BCR, DCR and static address of its device, and the identity that it is kept for (I3C Basic 5.1.4).
 #[derive(Clone, Copy, Debug, PartialEq, Eq, Default, Drop)]
 pub struct Row {
     /// The dynamic address.

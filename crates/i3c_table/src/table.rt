@@ -24,7 +24,7 @@ pub struct Table {
     // the addresses that were given, and those of them that are kept for an identity
     pub(crate) held: Addresses,
     pub(crate) kept: Addresses,
-    // at each address that was given, the registers and the static address of who has it
+    // the registers and the static address of the device at each address that was given
     pub(crate) registers: [Registers; ADDRESSES],
     // at each address that is kept, the number of its identity
     pub(crate) numbers: [u64; ADDRESSES],

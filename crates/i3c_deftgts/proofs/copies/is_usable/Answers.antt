@@ -4,7 +4,7 @@ use Rattle.i3c_deftgts.proofs.CopyLaws.{usable}
 use Rattle.i3c_deftgts.proofs.CopyOfLaws.{is_usable-true}
 use Rattle.i3c_deftgts.proofs.copies.is_usable.Goals as goal
 
--- truth values of which each is true where the other is
+-- two truth values, each of which is true if the other is
 same : (a b : Bool) → (a ≡ true → b ≡ true) → (b ≡ true → a ≡ true) → a ≡ b
 same true b to from = sym (to refl)
 same false true to from = from refl

@@ -1,4 +1,4 @@
--- An identity's number is written at the address, and then the address comes to its place; or nothing is kept there.
+-- An identity's number is written at the address, and then the address gets its place; or nothing is kept there.
 use Rattle.std.proofs.Common.{◌≡◌, ℕ, ◌∙◌, List, MatchOption, None, Some, ap, arith, false, get_or, inl, inr, refl, set, subst, sym, true}
 use Rattle.std.proofs.lemmas.Bool.{cases_eq, cond-false, cond-true}
 use Rattle.std.proofs.lemmas.List.{get_or-set_other, get_or-set_same}

@@ -11,7 +11,7 @@ use Rattle.i3c_device.proofs.EachLaws.{accepted_alike}
 use Rattle.i3c_device.proofs.SeenLaws.{narrowed_seen}
 use Rattle.i3c_device.proofs.devices.Devices.accept.Goals as goal
 
--- what becomes of whatever is in a slot
+-- the effect on the device in a slot
 abbrev of_driver : Population → Request → ℕ → Option Device → Option Device
 of_driver all r s place = option_map (λ d. if drives_in all r s then without r d else d) place
 

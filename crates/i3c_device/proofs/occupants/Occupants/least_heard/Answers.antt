@@ -1,4 +1,4 @@
--- The contest is of those who hear.
+-- The contest is of the hearers.
 use Rattle.std.proofs.Common.{subst}
 use Rattle.i3c_wires.specs.Planes.{IsWon}
 use Rattle.i3c_device.specs.Least.{IsLeastHeard}

@@ -1,4 +1,4 @@
--- A raise changes what waits, and nothing else; one that is refused changes nothing.
+-- A raise changes only the interrupts that wait; a refused one changes nothing.
 use Rattle.std.proofs.Common.{◌≡◌, ℕ, ◌<◌, ◌++◌, ◌∷◌, ◌∙◌, [], ap, arith, get_or, is_some, length, length-set, Err, None, Ok, OnErr, OnOk, option_map, refl, Result, set, List, Option, Some, suc}
 use Rattle.std.proofs.lemmas.List.{get_or_default, get_or-set_same, set-get_or}
 use Rattle.i3c_base.specs.declared.device.Waiting.{Waiting}
@@ -10,7 +10,7 @@ use Rattle.i3c_device.specs.Wishing.{wishes_interrupt}
 use Rattle.i3c_device.proofs.SeenWalks.{on_err, on_ok}
 use Rattle.i3c_device.proofs.occupants.Occupants.raise.Goals as goal
 
--- whatever stands in the slot
+-- the device in the slot
 stands : (places now : List (Option Device)) (i slot : ℕ) (d : Option Device) → places ≡ now → i ≡ slot → i < length places → get_or places i d ≡ get_or now slot None
 stands places now i slot d is same low = get_or_default places i d None low ∙ (ap (λ s. get_or places s None) same ∙ ap (λ xs. get_or xs slot None) is)
 

@@ -1,4 +1,4 @@
--- Those who answer there and have a dynamic address, but the active controller.
+-- The devices that answer there and have a dynamic address, except the active controller.
 use Rattle.std.proofs.Common.{arith, Some, subst}
 use Rattle.i3c_device.proofs.MarkLaws.{there_at}
 use Rattle.i3c_device.proofs.occupants.Occupants.targets.Goals as goal

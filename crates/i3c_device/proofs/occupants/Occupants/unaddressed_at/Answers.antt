@@ -1,4 +1,4 @@
--- Those who answer there and have no dynamic address, but the active controller.
+-- The devices that answer there and have no dynamic address, except the active controller.
 use Rattle.std.proofs.Common.{arith, subst}
 use Rattle.i3c_device.specs.Walks.{AreTakers}
 use Rattle.i3c_device.proofs.MarkLaws.{takers_at}

@@ -1,4 +1,4 @@
--- Who has no wish for the role loses none.
+-- A device without a wish for the role loses none.
 use Rattle.std.proofs.Common.{◌≡◌, ◌∙◌, Bool, false, Option, Some, None, option_map, ap, refl, sym}
 use Rattle.i3c_base.specs.Serve.{without_role}
 use Rattle.i3c_base.specs.State.{Device, in_slot}
