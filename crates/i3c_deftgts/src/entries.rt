@@ -81,24 +81,6 @@ impl List {
         }
     }
 
-    /// The same list once more.
-    pub fn copied(&self) -> List
-        ensures { result ≡ self.now }
-    {
-        let mut entries = ArrayVec::new();
-        let Ok(()) = entries.try_extend_from_slice(self.entries.as_slice()) else {
-            unreachable!()
-        };
-        List { entries }
-    }
-
-    /// Whether both lists have the same entries, in the same order.
-    pub fn is_same(&self, other: &List) -> bool
-        ensures { IsTrue result ↔ (self.now ≡ other.now) }
-    {
-        self.entries.as_slice() == other.entries.as_slice()
-    }
-
     /// The entries, in the order of the words.
     pub fn entries(&self) -> &[Entry]
         ensures same { result.now ≡ self.now }
