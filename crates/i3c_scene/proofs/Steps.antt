@@ -1,8 +1,9 @@
 -- What a line's command does, by the steps of the bus.
-use Rattle.std.proofs.Common.{◌≡◌, ◌≢◌, ◌∙◌, true, List, [], ◌∷◌, Option, Some, None, Result, Ok, Err, ap, inl, inr, refl, subst, sym}
+use Rattle.std.proofs.Common.{◌≡◌, ◌≢◌, ◌∙◌, ℕ, true, List, [], ◌∷◌, Option, Some, None, Result, Ok, Err, ap, inl, inr, refl, subst, sym}
 use Rattle.std.specs.Option.{is_some}
 use Rattle.std.specs.Prelude.{IfErr, IfOk, MatchResult}
 use Rattle.i3c_base.specs.declared.answers.RoundReply.{RoundReply}
+use Rattle.i3c_base.specs.declared.refusals.RaiseRefusal.{RaiseRefusal}
 use Rattle.i3c_base.specs.declared.requests.Fixed.{Fixed}
 use Rattle.i3c_base.specs.Cutting.{CutList, no_cuts}
 use Rattle.i3c_base.specs.State.{State}
@@ -14,6 +15,7 @@ use Rattle.i3c_step.specs.declared.replies.ActiveStays.{ActiveStays}
 use Rattle.i3c_step.specs.declared.replies.Refusal.{Refusal as BusRefusal}
 use Rattle.i3c_step.specs.declared.replies.Reply.{Reply}
 use Rattle.i3c_step.specs.Commands.{event_of}
+use Rattle.i3c_step.specs.Replies.{raised_reply}
 use Rattle.i3c_step.specs.Step.{Step, cuts_in}
 use Rattle.i3c_bus.specs.declared.assignment.Assignment.{Assignment}
 use Rattle.i3c_bus.specs.Assigning.{AreRounds, IsAssignment}
@@ -39,6 +41,15 @@ pub answered : (old new : State) (settings : Settings) (cuts : CutList) (names :
 answered old new settings cuts names event reply result step kept ends =
     ends_by (λ refused. (reply ≢ Reply.OutOfMemory) × (refused ≡ reply_refusal reply)) (λ refused. Answers (seen old settings cuts names) event refused (seen new settings cuts names)) result
     (λ refused told. (reply, record { step = step; fed = told.0; settings = refl; cuts = sym kept; names = refl }, told.1)) ends
+
+-- a raise is a step that always has its memory
+fed_raise : (said : Result ℕ RaiseRefusal) → raised_reply said ≢ Reply.OutOfMemory
+fed_raise (Ok number) e = cc
+fed_raise (Err why) e = cc
+
+pub raised : (old new : State) (settings : Settings) (cuts : CutList) (names : List Named) (slot : ℕ) (byte : Option ℕ) (said : Result ℕ RaiseRefusal) → Step old (Event.Raise slot byte) (raised_reply said) new
+    → Answers (seen old settings cuts names) (Event.Raise slot byte) (reply_refusal (raised_reply said)) (seen new settings cuts names)
+raised old new settings cuts names slot byte said step = (raised_reply said, record { step = step; fed = fed_raise said; settings = refl; cuts = refl; names = refl }, refl)
 
 -- a frame takes the cuts that wait, so they may be taken before
 pub framed : (old taken new : Seen) (event : Event) (refused : Option Refusal) → is_some (cuts_in event) ≡ true → taken ≡ record old { cuts = no_cuts } → Answers taken event refused new → Answers old event refused new

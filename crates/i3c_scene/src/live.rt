@@ -137,8 +137,8 @@ impl Live {
         scene.rest.still.wake_at(slot, &mut self.bus);
     }
 
-    /// The slot and the byte of a line's raise, if the line is one, of a device whose slot is known.
-    pub(crate) fn raise_of(&self, line: &Line) -> Option<(Slot, Option<u8>)>
+    /// The raise in a line, if the line is one: the slot of its device, and the byte. The name has to stand for a slot.
+    pub(crate) fn raise_in_line(&self, line: &Line) -> Option<(Slot, Option<u8>)>
         ensures { IfSome result (λ raise. RaisesIn self.now line.now.command raise.0 raise.1) }
     {
         let Some(Command::Raise { name, byte }) = &line.command else {
@@ -151,30 +151,22 @@ impl Live {
     }
 
     /// Tries a line that raises an interrupt in this slot: whether all that is expected holds. It changes no other slot.
-    pub(crate) fn tried_raise(
-        &mut self,
-        line: &Line,
-        slot: Slot,
-        byte: Option<u8>,
-    ) -> Result<bool, AllocError>
+    pub(crate) fn try_raise(&mut self, line: &Line, slot: Slot, byte: Option<u8>) -> bool
         requires { RaisesIn self.old line.now.command slot byte }
-        ensures tried { IfOk result (λ held. (before : BeforeValue) × ((way : ℕ) → Runs self.old line.now.command line.now.risk way before self.new) × (held ≡ all_hold self.new before line.now.expectations.items)) }
-        ensures behind { OnOk result (IsBehind slot self.old self.new) }
+        ensures tried { (before : BeforeValue) × ((way : ℕ) → Runs self.old line.now.command line.now.risk way before self.new) × (result ≡ all_hold self.new before line.now.expectations.items) }
+        ensures behind { IsBehind slot self.old self.new }
     {
-        match self.raised(slot, byte) {
-            Ok(came) => Ok(self.all_hold(&came, line.expectations.as_slice())),
-            Err(short) => Err(short),
-        }
+        let came = self.raise_in_slot(slot, byte);
+        self.all_hold(&came, line.expectations.as_slice())
     }
 
-    /// A device raises an interrupt, and it is answered what that came to.
-    fn raised(&mut self, slot: Slot, byte: Option<u8>) -> Result<Before, AllocError>
-        ensures { IfOk result (λ before. (refused : Option RefusalValue) × Answers self.old (EventValue.Raise slot byte) refused self.new × (before ≡ came_to refused)) }
+    /// The device in a slot raises an interrupt. It answers what that comes to.
+    fn raise_in_slot(&mut self, slot: Slot, byte: Option<u8>) -> Before
+        ensures { (refused : Option RefusalValue) × Answers self.old (EventValue.Raise slot byte) refused self.new × (result ≡ came_to refused) }
     {
-        match self.answer(&Event::Raise(slot, byte)) {
-            Ok(()) => Ok(Before::Done),
-            Err(Stop::Refused(fault)) => Ok(Before::Refused(fault)),
-            Err(Stop::Memory) => Err(AllocError),
+        match self.bus.raise(slot, byte) {
+            Ok(_) => Before::Done,
+            Err(why) => Before::Refused(Refusal::Bus(why.into())),
         }
     }
 

@@ -29,11 +29,12 @@ impl Named {
 pub fn place_in(names: &[Named], name: &Name) -> Option<Place>
     ensures { result ≡ place_in names.now name.now }
 {
-    let (first, rest) = names.split_first()?;
-    if first.name == *name {
-        return Some(first.place);
+    for named in names {
+        if named.name == *name {
+            return Some(named.place);
+        }
     }
-    place_in(rest, name)
+    None
 }
 
 /// A slot is given a name; whoever had the slot is gone.
@@ -138,20 +139,5 @@ pub(crate) fn are_same(names: &[Named], others: &[Named]) -> bool
 fn is_same(one: &Named, other: &Named) -> bool
     ensures { IsTrue result → one.now ≡ other.now }
 {
-    one.place == other.place && have_same_letters(one.name.as_bytes(), other.name.as_bytes())
-}
-
-/// Whether both are the same letters. Most names are short, so they are compared letter by letter.
-fn have_same_letters(letters: &[u8], others: &[u8]) -> bool
-    ensures { IsTrue result → letters.now ≡ others.now }
-{
-    if letters.len() != others.len() {
-        return false;
-    }
-    for index in 0..letters.len() {
-        if letters[index] != others[index] {
-            return false;
-        }
-    }
-    true
+    one.name.is_same(&other.name) && one.place == other.place
 }

@@ -53,10 +53,10 @@ impl Runner {
         ensures tried { IfOk result (λ held. (before : BeforeValue) × Runs self.old.live line.now.command line.now.risk way before self.new.live × (held ≡ all_hold self.new.live before line.now.expectations.items)) }
         ensures near { OnOk result (IfSome self.new.touched (λ slot. IsBehind slot self.old.live self.new.live)) }
     {
-        match self.live.raise_of(line) {
+        match self.live.raise_in_line(line) {
             Some((slot, byte)) => {
                 self.touched = Some(slot);
-                self.live.tried_raise(line, slot, byte)
+                Ok(self.live.try_raise(line, slot, byte))
             }
             None => {
                 self.touched = None;

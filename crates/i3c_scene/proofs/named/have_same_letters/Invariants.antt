@@ -1,6 +1,0 @@
-use Rattle.std.proofs.Common.{◌≡◌, take}
-use Rattle.i3c_scene.proofs.named.have_same_letters.Given as goal
-
--- both begin alike
-abbrev pub invariant-loop-index : goal.invariant-loop-index
-invariant-loop-index l = take l.index l.fn.letters ≡ take l.index l.fn.others
