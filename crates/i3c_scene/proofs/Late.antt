@@ -114,7 +114,7 @@ frame_left (Frame.SetNew a to) policy c d = refl
 frame_left (Frame.Get what a) policy c d = refl
 frame_left (Frame.SetLength way most to) policy c d = refl
 
--- and in a whole session, of whose frames the opening alone takes the cuts
+-- and in a whole session, in which only the opening frame takes the cuts
 assigns_late : (st : State) (settings : Settings) (cuts : CutList) (names : List Named) (refused : Option Refusal) (new : Seen) (s bit more : ℕ) → 18 < bit → 18 < more
     → Assigns (seen st settings (cut_at cuts s bit) names) refused new → Assigns (seen st settings (cut_at cuts s more) names) refused new
 assigns_late st settings cuts names refused new s bit more late later (is, inl (complete, session, told)) = (
@@ -220,7 +220,7 @@ runs_tried old command risk before new way runs =
       | inr (_, gt) ↦ runs_late old command risk before new way (omega (arith, gt)) (subst (λ (w : ℕ). Runs old command risk w before new) (min-eq_right (omega (arith, gt))) runs)
     ]
 
--- what came of a line that was tried in a way
+-- the result of a line that was tried in a way
 pub tried_of : (old live : Seen) (line : Line) (way tried : ℕ) (result : Result Bool AllocError) (held : Bool) (new : Seen) → live ≡ old → tried ≡ min way (latest old.state line.risk line.command) → result ≡ Ok held
     → IfOk result (λ (h : Bool). (before : Before) × Runs live line.command line.risk tried before new × (h ≡ all_hold new before line.expectations.items))
     → (before : Before) × Runs old line.command line.risk way before new × (held ≡ all_hold new before line.expectations.items)

@@ -55,7 +55,7 @@ impl Known {
         are_same(self.names.as_slice(), other.names.as_slice())
     }
 
-    /// A slot is given a name; whoever had the slot is gone.
+    /// A slot is given a name; the name that had the slot is gone.
     pub(crate) fn give(&mut self, name: &Name, slot: Slot) -> Result<(), AllocError>
         ensures { OnOk result (self.new ≡ given name.now slot self.old) }
     {

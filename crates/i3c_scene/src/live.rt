@@ -233,7 +233,7 @@ impl Live {
         }
     }
 
-    /// Runs a line in a way, and answers what it came to.
+    /// Runs a line in a way, and answers the result.
     pub(crate) fn run(&mut self, line: &Line, way: usize) -> Result<Before, AllocError>
         requires { way < 2 ^ 16 }
         ensures { IfOk result (λ before. Runs self.old line.now.command line.now.risk way before self.new) }
@@ -372,7 +372,7 @@ impl Live {
         self.answer(&Event::Round(cuts))
     }
 
-    /// The cuts that wait, of which none is left.
+    /// The cuts that wait; none is left.
     fn take_cuts(&mut self) -> Cuts
         ensures taken { result ≡ self.old.cuts }
         ensures left { self.new ≡ record self.old { cuts = no_cuts } }

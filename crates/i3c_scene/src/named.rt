@@ -37,7 +37,7 @@ pub fn place_in(names: &[Named], name: &Name) -> Option<Place>
     None
 }
 
-/// A slot is given a name; whoever had the slot is gone.
+/// A slot is given a name; the name that had the slot is gone.
 pub(crate) fn give(names: &mut Vec<Named>, name: &Name, slot: Slot) -> Result<(), AllocError>
     ensures { OnOk result (names.new.items ≡ given name.now slot names.old.items) }
 {
@@ -45,7 +45,7 @@ pub(crate) fn give(names: &mut Vec<Named>, name: &Name, slot: Slot) -> Result<()
     put(names, name, Place::Slot(slot))
 }
 
-/// Whoever stood at a slot is gone from there.
+/// The name at a slot is gone from there.
 fn leave(names: &mut [Named], slot: Slot)
     ensures { names.new ≡ map (left slot) names.old }
 {

@@ -5,6 +5,7 @@ ghost use Rattle.i3c_scene.specs.Shown.{IsShown, StandFor, put_legacy, put_slot}
 use crate::line::{Expectation, Line};
 use crate::live::Live;
 use crate::named::Named;
+use crate::runner::Runner;
 use crate::scene::Scene;
 use i3c_facts::Before;
 use i3c_lines::{Names, Place};
@@ -13,16 +14,22 @@ use i3c_text::Text;
 use std::alloc::{AllocError, Global};
 
 impl Scene {
-    /// Appends what `show` prints of it.
+    /// Appends what `show` prints of it. A runner, which can be in any state, comes to it.
     ///
     /// # Errors
     ///
     /// There is no memory for it.
-    pub fn show(&self, alloc: Global, text: &mut Text) -> Result<(), AllocError>
+    pub fn show(
+        &self,
+        alloc: Global,
+        runner: &mut Runner,
+        text: &mut Text,
+    ) -> Result<(), AllocError>
         ensures { OnOk result ((said : List ℕ) × IsShown self.now said × (text.new ≡ text.old ++ said)) }
     {
         let names = names_of(alloc, self.rest.known.as_slice())?;
-        let live = self.wake(alloc)?;
+        runner.wake_to(alloc, self, false)?;
+        let live = &runner.live;
         show_bus(live.bus(), &names, live.forgotten(), text)
     }
 

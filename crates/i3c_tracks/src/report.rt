@@ -4,9 +4,9 @@ ghost use Rattle.i3c_tracks.specs.Telling.{cut_in, cut_text, head_text, like_tex
 
 use crate::course::{Run, runs_of};
 use crate::plan::Plan;
-use i3c_explore::{Explored, Node};
+use i3c_explore::{Explored, Machine, Node};
 use i3c_lines::Name;
-use i3c_scene::Scene;
+use i3c_scene::{Runner, Scene};
 use i3c_text::Text;
 use std::alloc::{AllocError, Global};
 
@@ -54,8 +54,13 @@ fn push_each(
 ) -> Result<(), AllocError>
     ensures { OnOk result ((said : List ℕ) × AreEndTexts lines.now plan.now.blocks.items plan.now.opened.items (not plan.now.risky) ends.now (length ends.now) said × (text.new ≡ text.old ++ said)) }
 {
+    let Some(first) = ends.first() else {
+        return Ok(());
+    };
+    let mut runner = first.state.runner(alloc)?;
     for index in 0..ends.len() {
-        push_end(alloc, lines, plan, index as u64 + 1, &ends[index], text)?;
+        let number = index as u64 + 1;
+        push_end(alloc, lines, plan, number, &ends[index], &mut runner, text)?;
     }
     Ok(())
 }
@@ -96,12 +101,13 @@ fn push_end(
     plan: &Plan,
     number: u64,
     end: &Node<Scene>,
+    runner: &mut Runner,
     text: &mut Text,
 ) -> Result<(), AllocError>
     ensures { OnOk result ((said : List ℕ) × IsEndText lines.now plan.now.blocks.items plan.now.opened.items (not plan.now.risky) number end.now said × (text.new ≡ text.old ++ said)) }
 {
     push_head(number, end.orders, !plan.risky, text)?;
-    end.state.show(alloc, text)?;
+    end.state.show(alloc, runner, text)?;
     let runs = runs_of(alloc, plan, &end.order)?;
     push_like(lines, &runs, text)
 }

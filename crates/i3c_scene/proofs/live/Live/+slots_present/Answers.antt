@@ -1,4 +1,4 @@
--- The first name's slot stands in front of the others.
+-- The first name's slot comes before the others.
 use Rattle.std.proofs.Common.{◌≡◌, ◌∙◌, ◌++◌, Ok, Err, List, ℕ, subst, sym}
 use Rattle.std.specs.Prelude.{MatchResult}
 use Rattle.i3c_script.specs.Asking.{slots_named, with_others}
