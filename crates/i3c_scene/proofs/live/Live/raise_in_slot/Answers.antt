@@ -1,7 +1,7 @@
 -- A raise is a step of the bus.
 use Rattle.std.proofs.Common.{◌≡◌, ◌∙◌, ℕ, Result, ap, sym}
 use Rattle.i3c_base.specs.declared.refusals.RaiseRefusal.{RaiseRefusal}
-use Rattle.i3c_facts.specs.declared.holding.Before.{Before}
+use Rattle.i3c_facts.specs.declared.before.Before.{Before}
 use Rattle.i3c_facts.specs.Holding.{came_to}
 use Rattle.i3c_lines.specs.declared.refusals.Refusal.{Refusal}
 use Rattle.i3c_script.specs.Stops.{reply_refusal}

@@ -19,5 +19,5 @@ shown (Ok u) scene live st forgotten names old new same is gone stand told = (
 )
 
 pub returns : goal.returns
-returns c = shown c.show_bus.result c.args.self.now c.wake_to.new.runner.live c.bus.result.now.state c.forgotten.result c.in_ok-names.names c.args.text.now c.show_bus.new.text c.in_ok-wake_to.ensures c.bus.ensures c.forgotten.ensures
+returns c = shown c.show_bus.result c.args.self.now c.wake_to.new.self.live c.bus.result.now.state c.forgotten.result c.in_ok-names.names c.args.text.now c.show_bus.new.text c.in_ok-wake_to.ensures c.bus.ensures c.forgotten.ensures
     (subst (λ (known : List Named). StandFor known c.in_ok-names.names) (c.as_slice.ensures ∙ ap (λ (r : Rest). r.known) c.deref.ensures ∙ ap (λ (s : Seen). s.names) c.self.view_is) c.in_ok-names.ensures) c.show_bus.ensures
