@@ -3,8 +3,8 @@ use Rattle.std.specs.Prelude.{◌≡◌, ℕ, None, slice_index, slice_index_or,
 use Rattle.i3c_base.specs.Frames.{active_has}
 use Rattle.i3c_base.specs.State.{State}
 
--- `near` differs from `st` at most in this slot's device and its number of raises, and the active controller's address is the
--- same in both
+-- `near` differs from `st` at most in this slot's device and its number of raises, and the active controller's address is
+-- the same in both
 pub record IsNear (slot : ℕ) (st near : State) : Type 0 where
   pub devices : slice_set near.devices slot (slice_index_or st.devices slot None) ≡ st.devices
   pub raised : slice_set near.raised slot (slice_index st.raised slot) ≡ st.raised

@@ -45,8 +45,8 @@ use Rattle.i3c_bus.specs.Whole.{the_table}
 abbrev pub IsAck : State → CutList → ℕ → Bool → Type 0
 IsAck st cuts bit ack = (ack ≡ true) ↔ AnyLeft st (lost_by cuts bit)
 
--- an accepted interrupt: its header, and the mandatory byte if it has one, as the new record says: the byte that its drivers
--- put on the lines, ended by a driver that isn't lost by its T
+-- an accepted interrupt: its header, and the mandatory byte if it has one, as the new record says: the byte that its
+-- drivers put on the lines, ended by a driver that isn't lost by its T
 abbrev pub IsRecordedWire : State → CutList → State → List Symbol → Type 0
 IsRecordedWire old cuts new wire =
     (r : Record) × (new.records ≡ old.records ++ r ∷ []) × (is_some r.byte ≡ byte_due (entry_at old r.at))
@@ -62,7 +62,8 @@ IsTornWire old cuts wire =
     × IsByteRead old cuts a byte
     × (wire ≡ Start ∷ request_header (Interrupt a) true ∷ Symbol.Word (record { byte = byte; t = true }) ∷ [])
 
--- the beginning of a frame by what it served: START, the header of the broadcast or of the winner, and the byte that was read
+-- the beginning of a frame by what it served: START, the header of the broadcast or of the winner, and the byte that was
+-- read
 abbrev pub IsBegun : State → CutList → Served → State → List Symbol → Type 0
 IsBegun old cuts Served.Quiet new wire = (ack : Bool) × IsAck old cuts 0 ack × (wire ≡ Start ∷ Header 0x7E false ack ∷ [])
 IsBegun old cuts Served.Refused new wire = (r : Request) × IsFirst old r × (wire ≡ Start ∷ request_header r false ∷ [])
@@ -85,25 +86,25 @@ IsFrameWire old cuts served new IsOwn wire =
 
 -- a command to an address is acknowledged there exactly where somebody isn't lost by the ninth bit of its header
 abbrev pub IsAnswered : State → CutList → Option ℕ → ℕ → Answer → Type 0
-IsAnswered st cuts None begun answer = ⊤
-IsAnswered st cuts (Some a) begun answer = (answer ≡ Answer.Done) ↔ SomeLeftAt st a (lost_by cuts (begun + 18))
+IsAnswered st cuts None bits_before answer = ⊤
+IsAnswered st cuts (Some a) bits_before answer = (answer ≡ Answer.Done) ↔ SomeLeftAt st a (lost_by cuts (bits_before + 18))
 
--- ENEC or DISEC, with `begun` bits of the frame before it
+-- ENEC or DISEC, with `bits_before` bits of the frame before it
 abbrev pub IsKindsPart : State → CutList → Change → Option ℕ → Kinds → Answer → ℕ → List Symbol → Type 0
-IsKindsPart old cuts change to kinds answer begun wire = IsKindsWire change to kinds answer wire × IsAnswered old cuts to begun answer
+IsKindsPart old cuts change to kinds answer bits_before wire = IsKindsWire change to kinds answer wire × IsAnswered old cuts to bits_before answer
 
--- SETDASA, the code 87, with `begun` bits of the frame before it: acknowledged exactly if a device without a dynamic address
--- is left at the static one by the ninth bit of its header
+-- SETDASA, the code 87, with `bits_before` bits of the frame before it: acknowledged exactly if a device without a
+-- dynamic address is left at the static one by the ninth bit of its header
 abbrev pub IsStaticPart : State → CutList → ℕ → ℕ → Answer → ℕ → List Symbol → Type 0
-IsStaticPart old cuts f to answer begun wire = IsSettingWire 0x87 f to answer wire × ((answer ≡ Answer.Done) ↔ SomeUnaddressedLeftAt old f (lost_by cuts (begun + 18)))
+IsStaticPart old cuts f to answer bits_before wire = IsSettingWire 0x87 f to answer wire × ((answer ≡ Answer.Done) ↔ SomeUnaddressedLeftAt old f (lost_by cuts (bits_before + 18)))
 
--- SETNEWDA, the code 88, with `begun` bits of the frame before it
+-- SETNEWDA, the code 88, with `bits_before` bits of the frame before it
 abbrev pub IsNewPart : State → CutList → ℕ → ℕ → Answer → ℕ → List Symbol → Type 0
-IsNewPart old cuts a to answer begun wire = IsSettingWire 0x88 a to answer wire × IsAnswered old cuts (Some a) begun answer
+IsNewPart old cuts a to answer bits_before wire = IsSettingWire 0x88 a to answer wire × IsAnswered old cuts (Some a) bits_before answer
 
--- SETMWL or SETMRL, with `begun` bits of the frame before it
+-- SETMWL or SETMRL, with `bits_before` bits of the frame before it
 abbrev pub IsLengthPart : State → CutList → Direction → Option ℕ → ℕ → Answer → ℕ → List Symbol → Type 0
-IsLengthPart old cuts way to most answer begun wire = IsLengthWire way to most answer wire × IsAnswered old cuts to begun answer
+IsLengthPart old cuts way to most answer bits_before wire = IsLengthWire way to most answer wire × IsAnswered old cuts to bits_before answer
 
 -- RSTDAA: the code 06
 abbrev pub IsResetWire : List Symbol → Type 0
@@ -130,35 +131,35 @@ IsListOf st words =
 abbrev pub IsListPart : State → List Symbol → Type 0
 IsListPart st wire = (words : List Word) × IsListOf st words × IsListWire words wire
 
--- a private read, with `begun` bits of the frame before it: acknowledged if a legacy target is there or a device is left at
--- its header's ninth bit, and its bytes as those there drive them
+-- a private read, with `bits_before` bits of the frame before it: acknowledged if a legacy target is there or a device is
+-- left at its header's ninth bit, and its bytes as those there drive them
 abbrev pub IsReadPart : State → CutList → ℕ → Answer → ℕ → List Symbol → Type 0
-IsReadPart old cuts a answer begun wire =
-    (read : Read) × (read_answer a read ≡ answer) × ((is_read_acknowledged read ≡ true) ↔ AnyAnswers old a (lost_by cuts (begun + 9))) × IsDataAs old a cuts (begun + 10) read × IsReadWire a read wire
+IsReadPart old cuts a answer bits_before wire =
+    (read : Read) × (read_answer a read ≡ answer) × ((is_read_acknowledged read ≡ true) ↔ AnyAnswers old a (lost_by cuts (bits_before + 9))) × IsDataAs old a cuts (bits_before + 10) read × IsReadWire a read wire
 
 -- a private write of these bytes, acknowledged likewise
 abbrev pub IsWritePart : State → CutList → ℕ → List ℕ → Answer → ℕ → List Symbol → Type 0
-IsWritePart old cuts a bytes answer begun wire =
-    (write : Write) × (write_answer a write ≡ answer) × ((is_write_acknowledged write ≡ true) ↔ AnyAnswers old a (lost_by cuts (begun + 9))) × IsWrittenBy old a write × IsWriteWire a bytes write wire
+IsWritePart old cuts a bytes answer bits_before wire =
+    (write : Write) × (write_answer a write ≡ answer) × ((is_write_acknowledged write ≡ true) ↔ AnyAnswers old a (lost_by cuts (bits_before + 9))) × IsWrittenBy old a write × IsWriteWire a bytes write wire
 
 -- the bus as a frame's own part finds it, if the frame loses these devices by its last bit and leaves the bus `new`: the
 -- first request is served, and the lost devices are still there
 abbrev pub IsFound : State → Lost → State → State → Type 0
 IsFound old lost new mid = (served : Served) × Serves old (given_for served) lost served mid × (new ≡ emptied lost mid)
 
--- a read of a datum, with `begun` bits of the frame before it: acknowledged if a device is left at its header's ninth bit,
--- and its bytes as the devices there drive them
+-- a read of a datum, with `bits_before` bits of the frame before it: acknowledged if a device is left at its header's
+-- ninth bit, and its bytes as the devices there drive them
 abbrev pub IsToldPart : State → CutList → Datum → ℕ → Answer → ℕ → List Symbol → Type 0
-IsToldPart mid cuts what a answer begun wire =
-    (get : Told) × (get_answer a get ≡ answer) × ((is_get_acknowledged get ≡ true) ↔ SomeLeftAt mid a (lost_by cuts (begun + 18)))
-    × IsToldAs mid what (told_length what (entry_at mid a)) a cuts (begun + 19) get × IsGetWire what a get wire
+IsToldPart mid cuts what a answer bits_before wire =
+    (get : Told) × (get_answer a get ≡ answer) × ((is_get_acknowledged get ≡ true) ↔ SomeLeftAt mid a (lost_by cuts (bits_before + 18)))
+    × IsToldAs mid what (told_length what (entry_at mid a)) a cuts (bits_before + 19) get × IsGetWire what a get wire
 
 -- the same of a frame: the bytes are told when its first request is served
 abbrev pub IsGetPart : State → CutList → Datum → ℕ → Answer → State → ℕ → List Symbol → Type 0
-IsGetPart old cuts what a answer new begun wire =
-    (mid : State) × (get : Told) × IsFound old (lost_by cuts (begun + get_bits what (entry_at old a) answer)) new mid
-    × (get_answer a get ≡ answer) × ((is_get_acknowledged get ≡ true) ↔ SomeLeftAt old a (lost_by cuts (begun + 18)))
-    × IsToldAs mid what (told_length what (entry_at old a)) a cuts (begun + 19) get × IsGetWire what a get wire
+IsGetPart old cuts what a answer new bits_before wire =
+    (mid : State) × (get : Told) × IsFound old (lost_by cuts (bits_before + get_bits what (entry_at old a) answer)) new mid
+    × (get_answer a get ≡ answer) × ((is_get_acknowledged get ≡ true) ↔ SomeLeftAt old a (lost_by cuts (bits_before + 18)))
+    × IsToldAs mid what (told_length what (entry_at old a)) a cuts (bits_before + 19) get × IsGetWire what a get wire
 
 -- nobody took the role
 abbrev pub IsUntaken : Offer → Type 0
@@ -166,12 +167,12 @@ IsUntaken Offer.Nobody = ⊤
 IsUntaken (Offer.Torn byte) = ⊤
 IsUntaken (Offer.Taken s) = ⊥
 
--- an offer that nobody took, with `begun` bits of the frame before it: acknowledged if a willing device is left at its
--- header's ninth bit, and its byte as it is read then. The devices cut by its last bit are gone, and no others
+-- an offer that nobody took, with `bits_before` bits of the frame before it: acknowledged if a willing device is left at
+-- its header's ninth bit, and its byte as it is read then. The devices cut by its last bit are gone, and no others
 abbrev pub IsDeclinedPart : State → CutList → ℕ → State → ℕ → List Symbol → Type 0
-IsDeclinedPart old cuts to new begun wire =
-    (offer : Offer) × IsUntaken offer × ((is_acknowledged offer ≡ true) ↔ SomeTakes old to (lost_by cuts (begun + 18))) × IsReadAs old to cuts (begun + 19) offer
-    × (new ≡ emptied (lost_by cuts (begun + offer_bits offer)) old) × IsOfferWire to offer wire
+IsDeclinedPart old cuts to new bits_before wire =
+    (offer : Offer) × IsUntaken offer × ((is_acknowledged offer ≡ true) ↔ SomeTakes old to (lost_by cuts (bits_before + 18))) × IsReadAs old to cuts (bits_before + 19) offer
+    × (new ≡ emptied (lost_by cuts (bits_before + offer_bits offer)) old) × IsOfferWire to offer wire
 
 -- the wire of an offer that the new active controller took
 abbrev pub IsHandedWire : State → Event → List Symbol → Type 0
@@ -180,18 +181,18 @@ IsHandedWire new _ wire = ⊥
 
 -- the own part of a frame that is answered, by its event
 abbrev pub IsOwnWire : State → CutList → Event → Answer → State → ℕ → List Symbol → Type 0
-IsOwnWire old cuts (Enec to kinds policy others) answer new begun wire = IsKindsPart old cuts Change.Enable to kinds answer begun wire
-IsOwnWire old cuts (Disec to kinds policy others) answer new begun wire = IsKindsPart old cuts Change.Disable to kinds answer begun wire
-IsOwnWire old cuts (Reset policy others) answer new begun wire = IsResetWire wire
-IsOwnWire old cuts (SendList policy others) answer new begun wire = IsListPart old wire
-IsOwnWire old cuts (ReadFrom a policy others) answer new begun wire = IsReadPart old cuts a answer begun wire
-IsOwnWire old cuts (WriteTo a bytes policy others) answer new begun wire = IsWritePart old cuts a bytes.items answer begun wire
-IsOwnWire old cuts (SetStatic f to policy others) answer new begun wire = IsStaticPart old cuts f to answer begun wire
-IsOwnWire old cuts (SetNew a to policy others) answer new begun wire = IsNewPart old cuts a to answer begun wire
-IsOwnWire old cuts (Get what a policy others) answer new begun wire = IsGetPart old cuts what a answer new begun wire
-IsOwnWire old cuts (SetLength way most to policy others) answer new begun wire = IsLengthPart old cuts way to most answer begun wire
-IsOwnWire old cuts (HandOver to others) answer new begun wire = IsDeclinedPart old cuts to new begun wire
-IsOwnWire old cuts _ answer new begun wire = ⊥
+IsOwnWire old cuts (Enec to kinds policy others) answer new bits_before wire = IsKindsPart old cuts Change.Enable to kinds answer bits_before wire
+IsOwnWire old cuts (Disec to kinds policy others) answer new bits_before wire = IsKindsPart old cuts Change.Disable to kinds answer bits_before wire
+IsOwnWire old cuts (Reset policy others) answer new bits_before wire = IsResetWire wire
+IsOwnWire old cuts (SendList policy others) answer new bits_before wire = IsListPart old wire
+IsOwnWire old cuts (ReadFrom a policy others) answer new bits_before wire = IsReadPart old cuts a answer bits_before wire
+IsOwnWire old cuts (WriteTo a bytes policy others) answer new bits_before wire = IsWritePart old cuts a bytes.items answer bits_before wire
+IsOwnWire old cuts (SetStatic f to policy others) answer new bits_before wire = IsStaticPart old cuts f to answer bits_before wire
+IsOwnWire old cuts (SetNew a to policy others) answer new bits_before wire = IsNewPart old cuts a to answer bits_before wire
+IsOwnWire old cuts (Get what a policy others) answer new bits_before wire = IsGetPart old cuts what a answer new bits_before wire
+IsOwnWire old cuts (SetLength way most to policy others) answer new bits_before wire = IsLengthPart old cuts way to most answer bits_before wire
+IsOwnWire old cuts (HandOver to others) answer new bits_before wire = IsDeclinedPart old cuts to new bits_before wire
+IsOwnWire old cuts _ answer new bits_before wire = ⊥
 
 -- ENTDAA: the code 07. The session goes on with its rounds
 abbrev pub IsOpenWire : List Symbol → Type 0
@@ -201,8 +202,8 @@ IsOpenWire wire = (code : Word) × IsWord 0x07 code × (wire ≡ Symbol.Word cod
 abbrev pub IsServeWire : State → CutList → Served → State → List Symbol → Type 0
 IsServeWire old cuts served new wire = (begun : List Symbol) × IsBegun old cuts served new begun × (wire ≡ begun ++ Stop ∷ [])
 
--- the wire of a round with this answer: its bits are those that the contest of the hearers' numbers reads, and its ACKs are
--- those of the hearers that are left
+-- the wire of a round with this answer: its bits are those that the contest of the hearers' numbers reads, and its ACKs
+-- are those of the hearers that are left
 abbrev pub IsRoundWireOf : State → CutList → RoundReply → List Symbol → Type 0
 IsRoundWireOf st cuts answer wire = (round : Round) × (reply_of round ≡ answer) × IsRead st cuts round × IsAcknowledged st cuts round × IsRoundWire round wire
 
@@ -221,7 +222,7 @@ IsWire old event (Reply.Raised number) new wire = wire ≡ []
 IsWire old event Reply.Asked new wire = wire ≡ []
 IsWire old event (Reply.Served served) new wire = OfCuts event (λ cuts. IsServeWire old cuts served new wire)
 IsWire old event (Reply.Framed framed) new wire = OfCuts event (λ cuts. IsFrameWire old cuts framed.served new (IsOwnWire old cuts event framed.answer new) wire)
-IsWire old event (Reply.Opened served) new wire = OfCuts event (λ cuts. IsFrameWire old cuts served new (λ begun. IsOpenWire) wire)
+IsWire old event (Reply.Opened served) new wire = OfCuts event (λ cuts. IsFrameWire old cuts served new (λ bits_before. IsOpenWire) wire)
 IsWire old event (Reply.Round answer) new wire = OfCuts event (λ cuts. IsRoundWireOf old cuts answer wire)
-IsWire old event (Reply.Handed served) new wire = OfCuts event (λ cuts. IsFrameWire old cuts served new (λ begun. IsHandedWire new event) wire)
+IsWire old event (Reply.Handed served) new wire = OfCuts event (λ cuts. IsFrameWire old cuts served new (λ bits_before. IsHandedWire new event) wire)
 IsWire old event Reply.Ended new wire = wire ≡ Stop ∷ []

@@ -22,7 +22,7 @@ impl Bus {
     ghost use Rattle.i3c_step.specs.Replies.{announced_reply};
 
     /// Clears each address but the active controller's, what is kept for identities, and wishes for the role (RSTDAA, I3C
-    /// Basic 5.1.9.3.3). It serves the first request first.
+    /// Basic 5.1.9.3.3). Before its own part it serves the first request.
     #[inline(always)]
     pub fn reset<P: Policy, T: Tap>(
         &mut self,
@@ -38,14 +38,14 @@ impl Bus {
         if self.cuts_active(cuts) {
             return Err(FrameFault::ActiveStays);
         }
-        let Ok(begun) = self.begin_frame(policy, tap, cuts) else {
+        let Ok(start) = self.begin_frame(policy, tap, cuts) else {
             return Err(FrameFault::OutOfMemory);
         };
         tell_reset(tap);
         self.clear();
-        self.drop_lost(cuts, begun.bits + WORD_BITS);
+        self.drop_lost(cuts, start.bits + WORD_BITS);
         Ok(Framed {
-            served: begun.served,
+            served: start.served,
             answer: Answer::Done,
         })
     }
@@ -67,13 +67,13 @@ impl Bus {
         if self.cuts_active(cuts) {
             return Err(FrameFault::ActiveStays);
         }
-        let Ok(begun) = self.begin_frame(policy, tap, cuts) else {
+        let Ok(start) = self.begin_frame(policy, tap, cuts) else {
             return Err(FrameFault::OutOfMemory);
         };
         let bits = self.send_list(tap);
-        self.drop_lost(cuts, begun.bits + bits);
+        self.drop_lost(cuts, start.bits + bits);
         Ok(Framed {
-            served: begun.served,
+            served: start.served,
             answer: Answer::Done,
         })
     }

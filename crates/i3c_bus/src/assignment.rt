@@ -33,7 +33,8 @@ impl Bus {
     ghost use Rattle.i3c_step.specs.declared.replies.Reply.{Reply};
 
     /// Plays a whole session (ENTDAA, I3C Basic 5.1.4.2): opens it, goes round until each device that hears it has an
-    /// address or none is left, and ends it. Nobody is cut in its rounds. Where the active controller is cut, it is refused.
+    /// address or none is left, and ends it. Nobody is cut in its rounds. Where the active controller is cut, it is
+    /// refused.
     pub fn assign_all<T: Tap>(
         &mut self,
         role: Role,

@@ -88,9 +88,8 @@ impl Bus {
     ghost use Rattle.i3c_step.specs.declared.events.Event.{Event};
     ghost use Rattle.i3c_bus.specs.declared.hand.Hand.{Hand};
 
-    /// A bus with its main controller, in slot 0 at the least pickable address, beside these legacy targets and with these
-    /// declared static addresses.
-    /// It answers `NotCapable` where the main device's BCR isn't a controller's.
+    /// A bus with its main controller, in slot 0 at the least pickable address, beside these legacy targets and with
+    /// these declared static addresses. It answers `NotCapable` where the main device's BCR isn't a controller's.
     #[inline(always)]
     pub fn new(alloc: Global, main: Setup, legacies: Legacies) -> Result<(Bus, Role), StartFault>
         ensures capable { IsOk result ↔ (is_capable main.identity.bcr ≡ true) }
@@ -270,8 +269,8 @@ impl Bus {
         }
     }
 
-    /// A device enters a slot, without a dynamic address; its static one is what was declared for its identity. It answers
-    /// `SlotTaken` where the slot holds one.
+    /// A device enters a slot, without a dynamic address; its static one is what was declared for its identity. It
+    /// answers `SlotTaken` where the slot holds one.
     #[inline(never)]
     pub fn attach(&mut self, slot: Slot, setup: Setup) -> Result<(), SlotTaken>
         ensures step { Step self.old.state (Event.Attach slot setup) (attached_reply result) self.new.state }
@@ -336,8 +335,9 @@ impl Bus {
         i3c_handoff::ask(&mut self.devices, active, slot)
     }
 
-    /// The copy that a slot's device keeps of the last list, while that is current: a device keeps it that has an address and
-    /// can be a controller, and isn't the active one (I3C Basic 5.1.9.3.7). The copy becomes its table if it takes the role.
+    /// The copy that a slot's device keeps of the last list, while that is current: a device keeps it that has an address
+    /// and can be a controller, and isn't the active one (I3C Basic 5.1.9.3.7). The copy becomes its table if it takes
+    /// the role.
     pub fn copy(&self, slot: Slot) -> Option<&List>
         ensures { MatchOption result (keeps_copy self.now.state slot ≡ false) (λ list. (keeps_copy self.now.state slot ≡ true) × IsCopyOf self.now.state list.now) }
     {

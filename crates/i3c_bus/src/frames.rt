@@ -5,18 +5,18 @@ ghost use Rattle.i3c_step.specs.Serving.{place_of};
 
 use crate::bus::Bus;
 use crate::hand::Hand;
-use i3c_base::{Addr7, Answer, Change, Cuts, Kinds, Record, Served};
-use i3c_events::{answer_of, hear_kinds, kinds_bits, tell_kinds};
+use i3c_base::{Addr7, Change, Cuts, Record, Served};
 use i3c_frame::{Symbol, Tap};
 use i3c_handoff::Role;
 use i3c_ibi::{
     Policy, Reading, first_request, serve, tell_broadcast, tell_reading, tell_repeated,
     tell_request,
 };
-use i3c_step::{Command, FrameFault, Framed, OutOfMemory, Refusal, Reply, TargetFault};
+use i3c_step::{Command, FrameFault, OutOfMemory, Refusal, Reply};
 use i3c_word::HEADER_BITS;
 
-/// How a frame began: what it served, and how many bits it has sent after its first, which is the header's ninth.
+/// How a frame began: what it served, and how many bits it has sent behind its first header. These are at most 18: an
+/// interrupt's byte with its T, and the header after a repeated START.
 #[derive(Clone, Copy)]
 pub(crate) struct FrameStart {
     pub served: Served,
@@ -26,27 +26,25 @@ pub(crate) struct FrameStart {
 impl Bus {
     ghost use Rattle.std.specs.Prelude.{ℕ, ◌+◌, ◌≤◌, true, false, None, IfOk, OnErr};
     ghost use Rattle.i3c_base.specs.Cutting.{Lost, lost_by};
-    ghost use Rattle.i3c_base.specs.Frames.{Rekinds, changed_kinds, kinds_bits};
     ghost use Rattle.i3c_base.specs.Serve.{IsWordBits, Serves, emptied, given_for, header_bits, refuse_all};
-    ghost use Rattle.i3c_events.specs.Wire.{IsKindsWire};
     ghost use Rattle.i3c_frame.specs.Taps.{Tells};
     ghost use Rattle.i3c_ibi.specs.Policies.{Decides};
     ghost use Rattle.i3c_bus.specs.Asking.{Asks};
     ghost use Rattle.i3c_step.specs.Giving.{given_by};
-    ghost use Rattle.i3c_bus.specs.Beginning.{Begins, IsWay, LeavesBy};
+    ghost use Rattle.i3c_bus.specs.Beginning.{Begins, IsWay};
     ghost use Rattle.i3c_bus.specs.Calls.{Carries};
-    ghost use Rattle.i3c_step.specs.Commands.{event_of, kinds_event};
+    ghost use Rattle.i3c_step.specs.Commands.{event_of};
     ghost use Rattle.i3c_bus.specs.Hands.{HandFits};
-    ghost use Rattle.i3c_step.specs.Replies.{framed_reply, served_reply};
+    ghost use Rattle.i3c_step.specs.Replies.{served_reply};
     ghost use Rattle.i3c_bus.specs.Room.{IsUntouched};
     ghost use Rattle.i3c_step.specs.Serving.{place_of};
     ghost use Rattle.i3c_step.specs.Step.{cuts_active, is_no_target};
-    ghost use Rattle.i3c_bus.specs.Wire.{IsAnswered, IsBegun, IsOn};
+    ghost use Rattle.i3c_bus.specs.Wire.{IsBegun, IsOn};
     ghost use Rattle.i3c_step.specs.declared.events.Event.{Event};
     ghost use Rattle.i3c_bus.specs.declared.hand.Hand.{Hand};
 
-    /// Serves the first request, and does no more (I3C Basic 5.1.6.2): the policy decides on it, unless its address has no
-    /// row. There must be room for a record, or it is made before the first bit: `OutOfMemory` changes nothing.
+    /// Serves the first request, and does no more (I3C Basic 5.1.6.2): the policy decides on it, unless its address has
+    /// no row. There must be room for a record, or it is made before the first bit: `OutOfMemory` changes nothing.
     pub fn serve<P: Policy, T: Tap>(
         &mut self,
         role: &Role,
@@ -64,46 +62,10 @@ impl Bus {
         if self.make_room().is_err() {
             return Err(FrameFault::OutOfMemory);
         }
-        let begun = self.begin(policy, tap, cuts);
+        let start = self.begin(policy, tap, cuts);
         tap.note(Symbol::Stop);
-        self.drop_lost(cuts, begun.bits);
-        Ok(begun.served)
-    }
-
-    /// Enables kinds of events (ENEC, I3C Basic 5.1.9.3.1): of the devices at an address, or without one of all but the
-    /// active controller. It serves the first request first. It answers `NoAnswer`, without a frame, if the table has no row
-    /// at the address or it is the active controller's own.
-    pub fn enec<P: Policy, T: Tap>(
-        &mut self,
-        role: &Role,
-        to: Option<Addr7>,
-        kinds: Kinds,
-        policy: &mut P,
-        tap: &mut T,
-        cuts: &Cuts,
-    ) -> Result<Framed, TargetFault>
-        requires fits { HandFits (Hand.Role role.now) self.old.state }
-        ensures asks { Asks P.verdict_gives policy.old policy.new self.old.state (framed_reply result) }
-        ensures carried { Carries self.old self.new (Event.Enec to kinds (given_by (framed_reply result)) cuts.now) (framed_reply result) (Hand.Role role.now) (Tells T.note_gives tap.old tap.new) }
-    {
-        self.change_kinds(role, Change::Enable, to, kinds, policy, tap, cuts)
-    }
-
-    /// Disables kinds of events (DISEC, I3C Basic 5.1.9.3.1), as `enec` enables them.
-    pub fn disec<P: Policy, T: Tap>(
-        &mut self,
-        role: &Role,
-        to: Option<Addr7>,
-        kinds: Kinds,
-        policy: &mut P,
-        tap: &mut T,
-        cuts: &Cuts,
-    ) -> Result<Framed, TargetFault>
-        requires fits { HandFits (Hand.Role role.now) self.old.state }
-        ensures asks { Asks P.verdict_gives policy.old policy.new self.old.state (framed_reply result) }
-        ensures carried { Carries self.old self.new (Event.Disec to kinds (given_by (framed_reply result)) cuts.now) (framed_reply result) (Hand.Role role.now) (Tells T.note_gives tap.old tap.new) }
-    {
-        self.change_kinds(role, Change::Disable, to, kinds, policy, tap, cuts)
+        self.drop_lost(cuts, start.bits);
+        Ok(start.served)
     }
 
     /// Sends a frame under the role, or refuses it: while a session is open it is `SessionOpen`.
@@ -170,66 +132,6 @@ impl Bus {
         }
     }
 
-    /// ENEC or DISEC: serves the first request, and goes on with the command.
-    #[inline(always)]
-    pub(crate) fn change_kinds<P: Policy, T: Tap>(
-        &mut self,
-        role: &Role,
-        change: Change,
-        to: Option<Addr7>,
-        kinds: Kinds,
-        policy: &mut P,
-        tap: &mut T,
-        cuts: &Cuts,
-    ) -> Result<Framed, TargetFault>
-        requires fits { HandFits (Hand.Role role.now) self.old.state }
-        ensures asks { Asks P.verdict_gives policy.old policy.new self.old.state (framed_reply result) }
-        ensures carried { Carries self.old self.new (kinds_event change to kinds (given_by (framed_reply result)) cuts.now) (framed_reply result) (Hand.Role role.now) (Tells T.note_gives tap.old tap.new) }
-    {
-        if self.cuts_active(cuts) {
-            return Err(TargetFault::ActiveStays);
-        }
-        if let Some(address) = to {
-            if self.is_no_target(address) {
-                return Err(TargetFault::NoAnswer(address));
-            }
-        }
-        let Ok(begun) = self.begin_frame(policy, tap, cuts) else {
-            return Err(TargetFault::OutOfMemory);
-        };
-        let answer = self.command_kinds(change, to, kinds, tap, cuts, begun.bits);
-        Ok(Framed {
-            served: begun.served,
-            answer,
-        })
-    }
-
-    /// The own part of ENEC and DISEC, with `begun` bits of the frame before it: each device that it reaches hears it, and
-    /// cut devices are gone.
-    fn command_kinds<T: Tap>(
-        &mut self,
-        change: Change,
-        to: Option<Addr7>,
-        kinds: Kinds,
-        tap: &mut T,
-        cuts: &Cuts,
-        begun: u16,
-    ) -> Answer
-        requires few { begun ≤ 18 }
-        requires left { cuts_active self.old.state cuts.now ≡ false }
-        ensures rekinds { LeavesBy cuts.now (begun + kinds_bits to result) (Rekinds to (changed_kinds change kinds) result) self.old.state self.new.state }
-        ensures answered { IsAnswered self.old.state cuts.now to begun result }
-        ensures told { Tells T.note_gives tap.old tap.new (IsKindsWire change to kinds result) }
-        ensures room { self.new.room ≡ self.old.room }
-    {
-        let active = self.active();
-        let heard = hear_kinds(&mut self.devices, active, to, change, kinds, cuts, begun);
-        tell_kinds(tap, change, &to, kinds, &heard);
-        let answer = answer_of(&heard);
-        self.drop_lost(cuts, begun + kinds_bits(&to, &answer));
-        answer
-    }
-
     /// Whether the cuts name the active controller's slot.
     pub(crate) fn cuts_active(&self, cuts: &Cuts) -> bool
         ensures { result ≡ cuts_active self.now.state cuts.now }
@@ -270,8 +172,8 @@ impl Bus {
         ensures short { OnErr result (IsUntouched self.old self.new × (self.old.room ≡ false) × (policy.new ≡ policy.old) × (tap.new ≡ tap.old)) }
     {
         self.make_room()?;
-        let begun = self.begin(policy, tap, cuts);
-        Ok(self.go_on(begun, tap, cuts))
+        let start = self.begin(policy, tap, cuts);
+        Ok(self.go_on(start, tap, cuts))
     }
 
     /// The beginning of a frame: its first request is served. There must be room for a record.
@@ -294,13 +196,13 @@ impl Bus {
 
     /// How a frame goes on after its beginning: after a request a repeated START and the broadcast header are sent.
     #[inline(always)]
-    pub(crate) fn go_on<T: Tap>(&self, begun: FrameStart, tap: &mut T, cuts: &Cuts) -> FrameStart
-        requires { begun.bits ≤ 9 }
-        ensures served { result.served ≡ begun.served }
-        ensures bits { result.bits ≡ begun.bits + header_bits begun.served }
-        ensures told { Tells T.note_gives tap.old tap.new (IsOn self.now.state cuts.now begun.served begun.bits) }
+    pub(crate) fn go_on<T: Tap>(&self, start: FrameStart, tap: &mut T, cuts: &Cuts) -> FrameStart
+        requires { start.bits ≤ 9 }
+        ensures served { result.served ≡ start.served }
+        ensures bits { result.bits ≡ start.bits + header_bits start.served }
+        ensures told { Tells T.note_gives tap.old tap.new (IsOn self.now.state cuts.now start.served start.bits) }
     {
-        let FrameStart { served, bits } = begun;
+        let FrameStart { served, bits } = start;
         match served {
             Served::Quiet => FrameStart { served, bits },
             _ => {

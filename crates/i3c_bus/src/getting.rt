@@ -23,8 +23,8 @@ impl Bus {
     ghost use Rattle.i3c_bus.specs.declared.hand.Hand.{Hand};
 
     /// Asks the devices at an address for a datum (GETPID and its like, I3C Basic 5.1.9.3). It serves the first request
-    /// first. It answers `NoAnswer`, without a frame, if the table has no row at the address or it is the active controller's
-    /// own.
+    /// first. It answers `NoAnswer`, without a frame, if the table has no row at the address or it is the active
+    /// controller's own.
     #[inline(always)]
     pub fn get<P: Policy, T: Tap>(
         &mut self,
@@ -45,38 +45,38 @@ impl Bus {
         if self.is_no_target(from) {
             return Err(TargetFault::NoAnswer(from));
         }
-        let Ok(begun) = self.begin_frame(policy, tap, cuts) else {
+        let Ok(start) = self.begin_frame(policy, tap, cuts) else {
             return Err(TargetFault::OutOfMemory);
         };
-        let answer = self.get_part(what, from, tap, cuts, begun.bits);
+        let answer = self.get_part(what, from, tap, cuts, start.bits);
         Ok(Framed {
-            served: begun.served,
+            served: start.served,
             answer,
         })
     }
 
-    /// The own part of GETPID and its like, with `begun` bits of the frame before it: the datum is told, and cut devices are
-    /// gone.
+    /// The own part of GETPID and its like, with `bits_before` bits of the frame before it: the datum is told, and cut
+    /// devices are gone.
     fn get_part<T: Tap>(
         &mut self,
         what: Datum,
         from: Addr7,
         tap: &mut T,
         cuts: &Cuts,
-        begun: u16,
+        bits_before: u16,
     ) -> Answer
-        requires few { begun ≤ 18 }
+        requires few { bits_before ≤ 18 }
         requires left { cuts_active self.old.state cuts.now ≡ false }
-        ensures gets { LeavesBy cuts.now (begun + get_bits what (entry_at self.old.state from) result) (Gets what from result) self.old.state self.new.state }
-        ensures told { Tells T.note_gives tap.old tap.new (IsToldPart self.old.state cuts.now what from result begun) }
+        ensures gets { LeavesBy cuts.now (bits_before + get_bits what (entry_at self.old.state from) result) (Gets what from result) self.old.state self.new.state }
+        ensures told { Tells T.note_gives tap.old tap.new (IsToldPart self.old.state cuts.now what from result bits_before) }
         ensures room { self.new.room ≡ self.old.room }
     {
         let count = self.told_count(what, from);
         let active = self.active();
-        let told = get(&self.devices, active, what, count, from, cuts, begun);
+        let told = get(&self.devices, active, what, count, from, cuts, bits_before);
         tell_get(tap, what, from, &told);
         let answer = told.answer(from);
-        self.drop_lost(cuts, begun + get_bits(count, &answer));
+        self.drop_lost(cuts, bits_before + get_bits(count, &answer));
         answer
     }
 

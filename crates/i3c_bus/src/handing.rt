@@ -17,10 +17,10 @@ impl Bus {
     ghost use Rattle.i3c_bus.specs.Hands.{HandFits, hand_refusal, handed_hand, handed_reply};
     ghost use Rattle.i3c_bus.specs.declared.hand.Hand.{Hand};
 
-    /// Offers the role to the device at an address (GETACCCR, I3C Basic 5.1.9.3.16), and turns requests down. Where a willing
-    /// device there acknowledges and its byte is read whole, it is the active controller, with its copy of the list as its
-    /// table, and the role comes back as its own. If the offer is refused, or nobody takes it, the role comes back with the
-    /// same holder. A frame that nobody answered has still served a request and lost the devices cut in it.
+    /// Offers the role to the device at an address (GETACCCR, I3C Basic 5.1.9.3.16), and turns requests down. Where a
+    /// willing device there acknowledges and its byte is read whole, it is the active controller, with its copy of the
+    /// list as its table, and the role comes back as its own. If the offer is refused, or nobody takes it, the role comes
+    /// back with the same holder. A frame that nobody answered has still served a request and lost the devices cut in it.
     pub fn hand_over<T: Tap>(
         &mut self,
         role: Role,
@@ -36,8 +36,8 @@ impl Bus {
         if let Err(fault) = self.may_offer(to, cuts) {
             return Err((role, Served::Quiet, fault));
         }
-        let begun = self.begin_refusing(tap, cuts);
-        let FrameStart { served, bits } = self.go_on(begun, tap, cuts);
+        let start = self.begin_refusing(tap, cuts);
+        let FrameStart { served, bits } = self.go_on(start, tap, cuts);
         let active = self.active();
         let offer = offer(&self.devices, active, to, cuts, bits);
         tell_offer(tap, to, &offer);
@@ -79,8 +79,8 @@ impl Bus {
         Ok(())
     }
 
-    /// The role passes to a slot, whose device has this address. What its device's copy of the list gives is the table then:
-    /// the one that there is, in which addresses are kept for declared identities alone.
+    /// The role passes to a slot, whose device has this address. What its device's copy of the list gives is the table
+    /// then: the one that there is, in which addresses are kept for declared identities alone.
     fn hand(&mut self, role: Role, slot: Slot, address: Addr7) -> Role
         requires own { role ≡ self.old.state.active }
         requires willing { IsWillingAt self.old.state address slot }

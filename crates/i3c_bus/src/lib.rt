@@ -1,7 +1,7 @@
 //! The bus: the calls that carry its events out, and whole runs.
 //!
-//! Each call is one step of `i3c_step`, whose wire it tells, and `run_events` is a whole run. `i3c_step` has the laws over all
-//! runs.
+//! Each call is one step of `i3c_step`, whose wire it tells, and `run_events` is a whole run. `i3c_step` has the laws
+//! over all runs.
 #![tactic(auto)]
 
 mod announcing;
@@ -12,6 +12,7 @@ mod frames;
 mod getting;
 mod hand;
 mod handing;
+mod kinds;
 mod limiting;
 mod outcome;
 mod replying;

@@ -23,8 +23,8 @@ impl Bus {
     ghost use Rattle.i3c_bus.specs.declared.hand.Hand.{Hand};
 
     /// Sets the maximum length of writes (SETMWL, I3C Basic 5.1.9.3.5) or of reads (SETMRL, I3C Basic 5.1.9.3.6): of the
-    /// devices at an address, or without one of all but the active controller. It serves the first request first. It answers
-    /// `NoAnswer`, without a frame, if the table has no row at the address or it is the active controller's own.
+    /// devices at an address, or without one of all but the active controller. Before its own part it serves the first request. It
+    /// answers `NoAnswer`, without a frame, if the table has no row at the address or it is the active controller's own.
     #[inline(always)]
     pub fn set_length<P: Policy, T: Tap>(
         &mut self,
@@ -48,18 +48,18 @@ impl Bus {
                 return Err(TargetFault::NoAnswer(address));
             }
         }
-        let Ok(begun) = self.begin_frame(policy, tap, cuts) else {
+        let Ok(start) = self.begin_frame(policy, tap, cuts) else {
             return Err(TargetFault::OutOfMemory);
         };
-        let answer = self.length_part(way, most, to, tap, cuts, begun.bits);
+        let answer = self.length_part(way, most, to, tap, cuts, start.bits);
         Ok(Framed {
-            served: begun.served,
+            served: start.served,
             answer,
         })
     }
 
-    /// The own part of SETMWL and SETMRL, with `begun` bits of the frame before it: each device that it reaches has the
-    /// maximum length, and cut devices are gone.
+    /// The own part of SETMWL and SETMRL, with `bits_before` bits of the frame before it: each device that it reaches has
+    /// the maximum length, and cut devices are gone.
     fn length_part<T: Tap>(
         &mut self,
         way: Direction,
@@ -67,20 +67,20 @@ impl Bus {
         to: Option<Addr7>,
         tap: &mut T,
         cuts: &Cuts,
-        begun: u16,
+        bits_before: u16,
     ) -> Answer
-        requires few { begun ≤ 18 }
+        requires few { bits_before ≤ 18 }
         requires left { cuts_active self.old.state cuts.now ≡ false }
-        ensures sets { LeavesBy cuts.now (begun + length_bits to result) (SetsLength to way most result) self.old.state self.new.state }
-        ensures answered { IsAnswered self.old.state cuts.now to begun result }
+        ensures sets { LeavesBy cuts.now (bits_before + length_bits to result) (SetsLength to way most result) self.old.state self.new.state }
+        ensures answered { IsAnswered self.old.state cuts.now to bits_before result }
         ensures told { Tells T.note_gives tap.old tap.new (IsLengthWire way to most result) }
         ensures room { self.new.room ≡ self.old.room }
     {
         let active = self.active();
-        let heard = hear_length(&mut self.devices, active, to, way, most, cuts, begun);
+        let heard = hear_length(&mut self.devices, active, to, way, most, cuts, bits_before);
         tell_length(tap, way, &to, most, &heard);
         let answer = answer_of(&heard);
-        self.drop_lost(cuts, begun + length_bits(&to, &answer));
+        self.drop_lost(cuts, bits_before + length_bits(&to, &answer));
         answer
     }
 }

@@ -5,8 +5,9 @@ use i3c_handoff::Role;
 use i3c_ibi::Policy;
 use i3c_step::Reply;
 
-// Each command makes its reply in a function of its own. Rattle clears a function's locals where it begins, so those of all
-// commands in one function would be cleared for each of them. A reply has 48 bytes, and is written where its reader keeps it.
+// Each command makes its reply in a function of its own. Rattle clears a function's locals where it begins, so those of
+// all commands in one function would be cleared for each of them. A reply has 48 bytes, and is written where its reader
+// keeps it.
 
 impl Bus {
     ghost use Rattle.i3c_frame.specs.Taps.{Tells};

@@ -37,8 +37,8 @@ impl Bus {
         if self.cuts_active(cuts) {
             return Err((role, ActiveStays));
         }
-        let begun = self.begin_refusing(tap, cuts);
-        let FrameStart { served, bits } = self.go_on(begun, tap, cuts);
+        let start = self.begin_refusing(tap, cuts);
+        let FrameStart { served, bits } = self.go_on(start, tap, cuts);
         tell_open(tap);
         self.open();
         self.drop_lost(cuts, bits + WORD_BITS);

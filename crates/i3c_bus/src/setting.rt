@@ -30,8 +30,9 @@ impl Bus {
     ghost use Rattle.i3c_bus.specs.declared.hand.Hand.{Hand};
 
     /// Gives the device at a static address, while it has no dynamic one, this dynamic address (SETDASA, I3C Basic
-    /// 5.1.9.3.10). It serves the first request first. It sends no frame and answers `NoAnswer` if no identity is declared at
-    /// the static address, and `BadAddress` if the new one may not be picked and isn't kept for that identity.
+    /// 5.1.9.3.10). Before its own part it serves the first request. It sends no frame and answers `NoAnswer` if no identity is
+    /// declared at the static address, and `BadAddress` if the new one may not be picked and isn't kept for that
+    /// identity.
     #[inline(always)]
     pub fn set_static<P: Policy, T: Tap>(
         &mut self,
@@ -55,19 +56,19 @@ impl Bus {
         if !self.may_give(&identity, new) {
             return Err(SetFault::BadAddress(new));
         }
-        let Ok(begun) = self.begin_frame(policy, tap, cuts) else {
+        let Ok(start) = self.begin_frame(policy, tap, cuts) else {
             return Err(SetFault::OutOfMemory);
         };
-        let answer = self.static_part(fixed, &identity, new, tap, cuts, begun.bits);
+        let answer = self.static_part(fixed, &identity, new, tap, cuts, start.bits);
         Ok(Framed {
-            served: begun.served,
+            served: start.served,
             answer,
         })
     }
 
-    /// Gives the device at a dynamic address another one in its place (SETNEWDA, I3C Basic 5.1.9.3.11). It serves the first
-    /// request first. It sends no frame and answers `NoAnswer` if the table has no row at the old address or it is the active
-    /// controller's own, and `BadAddress` if the new one may not be picked.
+    /// Gives the device at a dynamic address another one in its place (SETNEWDA, I3C Basic 5.1.9.3.11). It serves the
+    /// first request first. It sends no frame and answers `NoAnswer` if the table has no row at the old address or it is
+    /// the active controller's own, and `BadAddress` if the new one may not be picked.
     #[inline(always)]
     pub fn set_new<P: Policy, T: Tap>(
         &mut self,
@@ -91,18 +92,18 @@ impl Bus {
         if !self.is_pickable(new) {
             return Err(SetFault::BadAddress(new));
         }
-        let Ok(begun) = self.begin_frame(policy, tap, cuts) else {
+        let Ok(start) = self.begin_frame(policy, tap, cuts) else {
             return Err(SetFault::OutOfMemory);
         };
-        let answer = self.new_part(old, new, tap, cuts, begun.bits);
+        let answer = self.new_part(old, new, tap, cuts, start.bits);
         Ok(Framed {
-            served: begun.served,
+            served: start.served,
             answer,
         })
     }
 
-    /// The own part of SETDASA, with `begun` bits of the frame before it: the devices that take it have the new address, and
-    /// cut devices are gone.
+    /// The own part of SETDASA, with `bits_before` bits of the frame before it: the devices that take it have the new
+    /// address, and cut devices are gone.
     #[inline(always)]
     fn static_part<T: Tap>(
         &mut self,
@@ -111,26 +112,27 @@ impl Bus {
         new: Addr7,
         tap: &mut T,
         cuts: &Cuts,
-        begun: u16,
+        bits_before: u16,
     ) -> Answer
-        requires few { begun ≤ 18 }
+        requires few { bits_before ≤ 18 }
         requires left { cuts_active self.old.state cuts.now ≡ false }
         requires declared { declared_at self.old.state fixed ≡ Some identity.now }
         requires fixed { IsFixedAt self.old.state.declared identity.now fixed }
         requires given { (is_pickable self.old.state new || is_kept_for self.old.state (Some identity.now) new) ≡ true }
         requires dynamic { 8 ≤ new }
-        ensures sets { LeavesBy cuts.now (begun + kinds_bits (Some fixed) result) (SetsStatic fixed new result) self.old.state self.new.state }
-        ensures told { Tells T.note_gives tap.old tap.new (IsStaticPart self.old.state cuts.now fixed new result begun) }
+        ensures sets { LeavesBy cuts.now (bits_before + kinds_bits (Some fixed) result) (SetsStatic fixed new result) self.old.state self.new.state }
+        ensures told { Tells T.note_gives tap.old tap.new (IsStaticPart self.old.state cuts.now fixed new result bits_before) }
         ensures room { self.new.room ≡ self.old.room }
     {
-        let heard = self.give_static(fixed, identity, new, cuts, begun);
+        let heard = self.give_static(fixed, identity, new, cuts, bits_before);
         tell_setting(tap, Setting::Static, fixed, new, &heard);
         let answer = answer_of(&heard);
-        self.drop_lost(cuts, begun + kinds_bits(&Some(fixed), &answer));
+        self.drop_lost(cuts, bits_before + kinds_bits(&Some(fixed), &answer));
         answer
     }
 
-    /// If the static address is acknowledged, the devices that take SETDASA there have the new address, and so has the table.
+    /// If the static address is acknowledged, the devices that take SETDASA there have the new address, and so has the
+    /// table.
     #[inline(always)]
     fn give_static(
         &mut self,
@@ -138,20 +140,20 @@ impl Bus {
         identity: &Identity,
         new: Addr7,
         cuts: &Cuts,
-        begun: u16,
+        bits_before: u16,
     ) -> Result<(), NoAnswer>
-        requires few { begun ≤ 18 }
+        requires few { bits_before ≤ 18 }
         requires declared { declared_at self.old.state fixed ≡ Some identity.now }
         requires fixed { IsFixedAt self.old.state.declared identity.now fixed }
         requires given { (is_pickable self.old.state new || is_kept_for self.old.state (Some identity.now) new) ≡ true }
         requires dynamic { 8 ≤ new }
         ensures given { MatchResult result (λ _. AnyUnaddressedAt self.old.state fixed × (self.new.state ≡ with_static fixed identity.now new self.old.state))
-            (λ none. (none.0 ≡ fixed) × AllUnaddressedLostAt self.old.state fixed (lost_by cuts.now (begun + 18)) × (self.new.state ≡ self.old.state)) }
-        ensures answered { IsOk result ↔ SomeUnaddressedLeftAt self.old.state fixed (lost_by cuts.now (begun + 18)) }
+            (λ none. (none.0 ≡ fixed) × AllUnaddressedLostAt self.old.state fixed (lost_by cuts.now (bits_before + 18)) × (self.new.state ≡ self.old.state)) }
+        ensures answered { IsOk result ↔ SomeUnaddressedLeftAt self.old.state fixed (lost_by cuts.now (bits_before + 18)) }
         ensures room { self.new.room ≡ self.old.room }
     {
         let active = self.active();
-        let heard = hear_static(&mut self.devices, active, fixed, new, cuts, begun);
+        let heard = hear_static(&mut self.devices, active, fixed, new, cuts, bits_before);
         match heard {
             Ok(()) => {
                 settle(&mut self.table, identity, fixed, new);
@@ -161,45 +163,45 @@ impl Bus {
         }
     }
 
-    /// The own part of SETNEWDA, with `begun` bits of the frame before it: the devices that acknowledge have the new address,
-    /// and cut devices are gone.
+    /// The own part of SETNEWDA, with `bits_before` bits of the frame before it: the devices that acknowledge have the
+    /// new address, and cut devices are gone.
     fn new_part<T: Tap>(
         &mut self,
         old: Addr7,
         new: Addr7,
         tap: &mut T,
         cuts: &Cuts,
-        begun: u16,
+        bits_before: u16,
     ) -> Answer
-        requires few { begun ≤ 18 }
+        requires few { bits_before ≤ 18 }
         requires left { cuts_active self.old.state cuts.now ≡ false }
         requires there { is_no_target self.old.state old ≡ false }
         requires given { is_pickable self.old.state new ≡ true }
         requires dynamic { 8 ≤ new }
-        ensures sets { LeavesBy cuts.now (begun + kinds_bits (Some old) result) (SetsNew old new result) self.old.state self.new.state }
-        ensures told { Tells T.note_gives tap.old tap.new (IsNewPart self.old.state cuts.now old new result begun) }
+        ensures sets { LeavesBy cuts.now (bits_before + kinds_bits (Some old) result) (SetsNew old new result) self.old.state self.new.state }
+        ensures told { Tells T.note_gives tap.old tap.new (IsNewPart self.old.state cuts.now old new result bits_before) }
         ensures room { self.new.room ≡ self.old.room }
     {
-        let heard = self.give_new(old, new, cuts, begun);
+        let heard = self.give_new(old, new, cuts, bits_before);
         tell_setting(tap, Setting::New, old, new, &heard);
         let answer = answer_of(&heard);
-        self.drop_lost(cuts, begun + kinds_bits(&Some(old), &answer));
+        self.drop_lost(cuts, bits_before + kinds_bits(&Some(old), &answer));
         answer
     }
 
     /// If the old address is acknowledged, its devices have the new one, and the table's row moves there.
-    fn give_new(&mut self, old: Addr7, new: Addr7, cuts: &Cuts, begun: u16) -> Result<(), NoAnswer>
-        requires few { begun ≤ 18 }
+    fn give_new(&mut self, old: Addr7, new: Addr7, cuts: &Cuts, bits_before: u16) -> Result<(), NoAnswer>
+        requires few { bits_before ≤ 18 }
         requires there { is_no_target self.old.state old ≡ false }
         requires given { is_pickable self.old.state new ≡ true }
         requires dynamic { 8 ≤ new }
         ensures given { MatchResult result (λ _. AnyAt self.old.state old × (self.new.state ≡ with_new old new self.old.state))
-            (λ none. (none.0 ≡ old) × AllLostAt self.old.state old (lost_by cuts.now (begun + 18)) × (self.new.state ≡ self.old.state)) }
-        ensures answered { IsOk result ↔ SomeLeftAt self.old.state old (lost_by cuts.now (begun + 18)) }
+            (λ none. (none.0 ≡ old) × AllLostAt self.old.state old (lost_by cuts.now (bits_before + 18)) × (self.new.state ≡ self.old.state)) }
+        ensures answered { IsOk result ↔ SomeLeftAt self.old.state old (lost_by cuts.now (bits_before + 18)) }
         ensures room { self.new.room ≡ self.old.room }
     {
         let active = self.active();
-        let heard = hear_new(&mut self.devices, active, old, new, cuts, begun);
+        let heard = hear_new(&mut self.devices, active, old, new, cuts, bits_before);
         match heard {
             Ok(()) => {
                 self.table.renumber(old, new);

@@ -26,7 +26,7 @@ pub struct Still {
     devices: Resting,
     raised: [u64; SLOTS],
     active: Slot,
-    // of a current list the table tells each entry
+    // the list, if it is current, has the same entries: so it isn't kept
     table: RestingTable,
     legacy: RestingTargets,
     in_session: bool,
@@ -73,7 +73,7 @@ impl Bus {
         for record in &self.records[first..] {
             key = key_with(key, record.slot.index() as u64);
         }
-        // one pass without a branch; which device raised is in the devices' key
+        // one pass without a branch; a device that still waits or wishes is in the devices' key, by its slot
         let mut raises = 0u64;
         for raised in &self.raised {
             raises = raises.wrapping_add(*raised);
@@ -121,8 +121,8 @@ impl Still {
         Ok((bus, Hand::new(role, self.in_session)))
     }
 
-    /// A bus comes to the state of this one. It takes the role or session that is of it, and gives back that which is of it
-    /// then.
+    /// A bus comes to the state of this one. It takes the role or session that is of it, and gives back that which is of
+    /// it then.
     ///
     /// # Errors
     ///
@@ -181,7 +181,7 @@ impl Still {
         }
     }
 
-    // The same, for a place of any type.
+    // The same, not boxed.
     #[inline(always)]
     fn seen(alloc: Global, bus: &Bus) -> Result<Still, OutOfMemory>
         ensures { IfOk result (λ still. still ≡ bus.now.state) }
@@ -244,7 +244,7 @@ impl Still {
     pub fn is_same(&self, other: &Still) -> bool
         ensures { IsTrue result ↔ (self.now ≡ other.now) }
     {
-        self.has_same_course(other) && self.has_same_tables(other)
+        self.has_same_devices_and_log(other) && self.has_same_tables(other)
     }
 
     /// Whether a bus that is awake is in this state.
@@ -252,7 +252,7 @@ impl Still {
     pub fn is_of(&self, bus: &Bus) -> bool
         ensures { IsTrue result ↔ (self.now ≡ bus.now.state) }
     {
-        self.has_course_of(bus) && self.has_tables_of(bus)
+        self.has_devices_and_log_of(bus) && self.has_tables_of(bus)
     }
 
     /// How many bits DEFTGTS has from its code on (I3C Basic 5.1.9.3.7), if it is sent now.
@@ -263,7 +263,7 @@ impl Still {
         WORD_BITS * (2 + 4 * self.table.list_len() as u16)
     }
 
-    // A list becomes that of the table, which is this bus's, if it is current.
+    // Rewrites `list` from this bus's table, if the last list that was sent is current.
     fn wake_list(&self, table: &Table, list: &mut List)
         requires { IsTable self.now table.now }
         ensures { self.now.listed ≡ true → IsCopyOf self.now list.new }
@@ -277,9 +277,9 @@ impl Still {
         list.rewrite(table, own);
     }
 
-    // Whether both have the same devices with the same raises, the same active controller, either both or neither a session,
-    // and the same records.
-    fn has_same_course(&self, other: &Still) -> bool
+    // Whether both have the same devices with the same raises, the same active controller, either both or neither a
+    // session, and the same records.
+    fn has_same_devices_and_log(&self, other: &Still) -> bool
         ensures { IsTrue result ↔ ((self.now.active ≡ other.now.active) × (self.now.in_session ≡ other.now.in_session) × (self.now.raised ≡ other.now.raised) × (self.now.records ≡ other.now.records) × (self.now.devices ≡ other.now.devices)) }
     {
         self.active == other.active
@@ -297,7 +297,7 @@ impl Still {
     }
 
     // The same of a bus that is awake.
-    fn has_course_of(&self, bus: &Bus) -> bool
+    fn has_devices_and_log_of(&self, bus: &Bus) -> bool
         ensures { IsTrue result ↔ ((self.now.active ≡ bus.now.state.active) × (self.now.in_session ≡ bus.now.state.in_session) × (self.now.raised ≡ bus.now.state.raised) × (self.now.records ≡ bus.now.state.records) × (self.now.devices ≡ bus.now.state.devices)) }
     {
         self.active == bus.active.slot()
@@ -322,7 +322,8 @@ fn key_with(key: u64, more: u64) -> u64 {
         .rotate_left(23)
 }
 
-/// Whether both are the same numbers, slot by slot. All are looked at, which is faster than to stop at the first that differs.
+/// Whether both are the same numbers, slot by slot. All are looked at, which is faster than to stop at the first that
+/// differs.
 fn are_equal(numbers: &[u64; SLOTS], others: &[u64; SLOTS]) -> bool
     ensures { IsTrue result ↔ (numbers.now ≡ others.now) }
 {

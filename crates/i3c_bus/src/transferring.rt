@@ -24,10 +24,10 @@ impl Bus {
     ghost use Rattle.i3c_bus.specs.Wire.{IsReadPart, IsWritePart};
     ghost use Rattle.i3c_bus.specs.declared.hand.Hand.{Hand};
 
-    /// Reads at an address: the first registers of its devices, as many as their maximum lengths allow, or all registers of
-    /// its legacy target (private read, I3C Basic 5.1.2.2, 5.1.9.3.6). The first request is served before it. Without a
-    /// legacy target there, it answers `NoAnswer` and sends no frame if the table has no row at the address or it is the
-    /// active controller's own.
+    /// Reads at an address: the first registers of its devices, as many as their maximum lengths allow, or all registers
+    /// of its legacy target (private read, I3C Basic 5.1.2.2, 5.1.9.3.6). The first request is served before it. Without
+    /// a legacy target there, it answers `NoAnswer` and sends no frame if the table has no row at the address or it is
+    /// the active controller's own.
     #[inline(always)]
     pub fn read<P: Policy, T: Tap>(
         &mut self,
@@ -47,19 +47,19 @@ impl Bus {
         if self.is_no_partner(from) {
             return Err(TargetFault::NoAnswer(from));
         }
-        let Ok(begun) = self.begin_frame(policy, tap, cuts) else {
+        let Ok(start) = self.begin_frame(policy, tap, cuts) else {
             return Err(TargetFault::OutOfMemory);
         };
-        let answer = self.read_part(from, tap, cuts, begun.bits);
+        let answer = self.read_part(from, tap, cuts, start.bits);
         Ok(Framed {
-            served: begun.served,
+            served: start.served,
             answer,
         })
     }
 
-    /// Writes bytes into the first registers of the devices, as many as their maximum lengths allow, or up to sixteen of the
-    /// legacy target, at an address (private write, I3C Basic 5.1.2.2, 5.1.9.3.5). It serves the first request first. It
-    /// answers `TooLong` for more bytes, and `NoAnswer` as `read` does.
+    /// Writes bytes into the first registers of the devices, as many as their maximum lengths allow, or up to sixteen of
+    /// the legacy target, at an address (private write, I3C Basic 5.1.2.2, 5.1.9.3.5). Before its own part it serves the first request.
+    /// It answers `TooLong` for more bytes, and `NoAnswer` as `read` does.
     pub fn write<P: Policy, T: Tap>(
         &mut self,
         role: &Role,
@@ -84,12 +84,12 @@ impl Bus {
         if self.is_no_partner(to) {
             return Err(WriteFault::NoAnswer(to));
         }
-        let Ok(begun) = self.begin_frame(policy, tap, cuts) else {
+        let Ok(start) = self.begin_frame(policy, tap, cuts) else {
             return Err(WriteFault::OutOfMemory);
         };
-        let answer = self.write_part(to, bytes, tap, cuts, begun.bits);
+        let answer = self.write_part(to, bytes, tap, cuts, start.bits);
         Ok(Framed {
-            served: begun.served,
+            served: start.served,
             answer,
         })
     }
@@ -113,58 +113,59 @@ impl Bus {
         *reply = Reply::from(self.write(role, to, bytes.as_slice(), policy, tap, cuts));
     }
 
-    /// The own part of a read, with `begun` bits of the frame before it: the bytes are read, and cut devices are gone.
-    fn read_part<T: Tap>(&mut self, from: Addr7, tap: &mut T, cuts: &Cuts, begun: u16) -> Answer
-        requires few { begun ≤ 18 }
+    /// The own part of a read, with `bits_before` bits of the frame before it: the bytes are read, and cut devices are
+    /// gone.
+    fn read_part<T: Tap>(&mut self, from: Addr7, tap: &mut T, cuts: &Cuts, bits_before: u16) -> Answer
+        requires few { bits_before ≤ 18 }
         requires left { cuts_active self.old.state cuts.now ≡ false }
-        ensures reads { LeavesBy cuts.now (begun + read_bits (transfer_length self.old.state DirectionValue.Read from) result) (Reads from result) self.old.state self.new.state }
-        ensures told { Tells T.note_gives tap.old tap.new (IsReadPart self.old.state cuts.now from result begun) }
+        ensures reads { LeavesBy cuts.now (bits_before + read_bits (transfer_length self.old.state DirectionValue.Read from) result) (Reads from result) self.old.state self.new.state }
+        ensures told { Tells T.note_gives tap.old tap.new (IsReadPart self.old.state cuts.now from result bits_before) }
         ensures room { self.new.room ≡ self.old.room }
     {
         let active = self.active();
-        let read = read(&self.devices, &self.legacy, active, from, cuts, begun);
+        let read = read(&self.devices, &self.legacy, active, from, cuts, bits_before);
         tell_read(tap, from, &read);
         let answer = read.answer(from);
-        self.drop_lost(cuts, begun + read.bits());
+        self.drop_lost(cuts, bits_before + read.bits());
         answer
     }
 
-    /// The own part of a write, with `begun` bits of the frame before it: each party that acknowledges takes the bytes, and
-    /// cut devices are gone.
+    /// The own part of a write, with `bits_before` bits of the frame before it: each party that acknowledges takes the
+    /// bytes, and cut devices are gone.
     fn write_part<T: Tap>(
         &mut self,
         to: Addr7,
         bytes: &[u8],
         tap: &mut T,
         cuts: &Cuts,
-        begun: u16,
+        bits_before: u16,
     ) -> Answer
-        requires few { begun ≤ 18 }
+        requires few { bits_before ≤ 18 }
         requires short { length bytes.now ≤ MOST }
         requires left { cuts_active self.old.state cuts.now ≡ false }
-        ensures writes { LeavesBy cuts.now (begun + write_bits bytes.now result) (Writes to bytes.now result) self.old.state self.new.state }
-        ensures told { Tells T.note_gives tap.old tap.new (IsWritePart self.old.state cuts.now to bytes.now result begun) }
+        ensures writes { LeavesBy cuts.now (bits_before + write_bits bytes.now result) (Writes to bytes.now result) self.old.state self.new.state }
+        ensures told { Tells T.note_gives tap.old tap.new (IsWritePart self.old.state cuts.now to bytes.now result bits_before) }
         ensures room { self.new.room ≡ self.old.room }
     {
         let active = self.active();
         let (devices, legacy) = (&mut self.devices, &mut self.legacy);
-        let written = write(devices, legacy, active, to, bytes, cuts, begun);
+        let written = write(devices, legacy, active, to, bytes, cuts, bits_before);
         tell_write(tap, to, bytes, &written);
         let answer = written.answer(to);
-        self.drop_lost(cuts, begun + write_bits(bytes, &answer));
+        self.drop_lost(cuts, bits_before + write_bits(bytes, &answer));
         answer
     }
 
-    /// How many bytes a transfer with an address may have: a legacy target's registers, or the least maximum length of the
-    /// devices there (I3C Basic 5.1.9.3.5, 5.1.9.3.6).
+    /// How many bytes a transfer with an address may have: a legacy target's registers, or the least maximum length of
+    /// the devices there (I3C Basic 5.1.9.3.5, 5.1.9.3.6).
     fn transfer_length(&self, address: Addr7, way: Direction) -> Length
         ensures { result ≡ transfer_length self.now.state way address }
     {
         transfer_length(&self.devices, &self.legacy, self.active(), address, way)
     }
 
-    /// Whether nobody is there for a transfer with an address: no legacy target, and no device of the table but the active
-    /// controller.
+    /// Whether nobody is there for a transfer with an address: no legacy target, and no device of the table but the
+    /// active controller.
     fn is_no_partner(&self, address: Addr7) -> bool
         ensures { result ≡ is_no_partner self.now.state address }
     {

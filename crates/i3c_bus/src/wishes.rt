@@ -9,8 +9,8 @@ use i3c_word::write_word;
 /// Interrupts, role requests and Hot-Join, as bits of the byte of ENEC (I3C Basic 5.1.9.3.1).
 const EACH_KIND: u8 = 0x0B;
 
-/// The request that a slot's device would drive if each kind of its events was enabled, if it would drive one: a join without
-/// an address, otherwise the role request before the interrupt (I3C Basic 5.1.6).
+/// The request that a slot's device would drive if each kind of its events was enabled, if it would drive one: a join
+/// without an address, otherwise the role request before the interrupt (I3C Basic 5.1.6).
 pub(crate) fn wish(devices: &Devices, slot: Slot) -> Option<Request>
     ensures { result ≡ wish_of (slice_index_or devices.now slot None) }
 {

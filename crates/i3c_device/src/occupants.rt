@@ -1,7 +1,7 @@
 use crate::attached::Attached;
 use crate::kept::Kept;
 use crate::marks::Marks;
-use crate::places::{byte_from, length_in, pull_low, raise, requeue, stands, wishes_interrupt};
+use crate::places::{byte_from, is_here, length_in, pull_low, raise, requeue, wishes_interrupt};
 use crate::slot_set::SlotSet;
 use crate::slot_update::{Driven, SlotUpdate, Sought, update_in};
 use i3c_base::{Addr7, Cuts, Direction, Length, REGISTERS, RaiseRefusal, SLOTS, Slot};
@@ -78,12 +78,12 @@ impl Occupants {
         }
     }
 
-    /// This device stands in a slot from now on.
+    /// This device is in a slot from now on.
     fn wake_device(&mut self, slot: Slot, device: &Attached)
         ensures put { self.new ≡ slice_set self.old slot (Some device.now) }
         ensures slots { length self.old ≡ SLOT_COUNT }
     {
-        if stands(device, self.at(slot)) {
+        if is_here(device, self.at(slot)) {
             return;
         }
         if self.requeue(slot, device) {
@@ -92,8 +92,7 @@ impl Occupants {
         self.put(slot, Some(device.copied()));
     }
 
-    /// This device stands in a slot from now on, if it differs in what waits alone from the one that stands there. Answers
-    /// whether it does.
+    /// This device is in a slot from now on, if it and the one there differ only in what waits. Answers whether it is.
     fn requeue(&mut self, slot: Slot, device: &Attached) -> bool
         ensures put { IsTrue result → self.new ≡ slice_set self.old slot (Some device.now) }
         ensures kept { result ≡ false → self.new ≡ self.old }

@@ -22,7 +22,7 @@ use i3c_base::{
 };
 
 /// Whether the place holds this device.
-pub(crate) fn stands(device: &Attached, place: &Option<Attached>) -> bool
+pub(crate) fn is_here(device: &Attached, place: &Option<Attached>) -> bool
     ensures { IsTrue result ↔ (place.now ≡ Some device.now) }
 {
     match place {
@@ -31,7 +31,7 @@ pub(crate) fn stands(device: &Attached, place: &Option<Attached>) -> bool
     }
 }
 
-/// What stands here becomes this device, if it differs from it in what waits alone. Answers whether it does.
+/// The device here becomes this one, if the two differ only in what waits. Answers whether it does.
 pub(crate) fn requeue(place: &mut Option<Attached>, device: &Attached) -> bool
     ensures put { IsTrue result → place.new ≡ Some device.now }
     ensures requeued { IsTrue result → place.new ≡ option_map (requeued (λ _. device.now.waiting)) place.old }

@@ -28,7 +28,7 @@ pub(crate) fn copy_from(
 }
 
 /// The same where some wait.
-// kept apart, since at most devices none waits
+// kept apart, since few devices have an interrupt that waits
 #[inline(never)]
 fn copy_some(waiting: &mut ArrayVec<Waiting, WAITING>, others: &ArrayVec<Waiting, WAITING>)
     ensures { waiting.new.items ≡ others.now.items }
@@ -55,7 +55,7 @@ pub(crate) fn are_same(
 }
 
 /// The same where some wait.
-// kept apart, since at most devices none waits
+// kept apart, since few devices have an interrupt that waits
 #[inline(never)]
 fn have_same_items(
     waiting: &ArrayVec<Waiting, WAITING>,

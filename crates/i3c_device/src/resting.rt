@@ -15,7 +15,7 @@ use i3c_base::{Addr7, Slot};
 use std::alloc::{AllocError, Global};
 use std::marker::Model;
 
-/// Devices in their slots as they were at some time, and unchangeable. Only present devices take room.
+/// Devices in their slots as they were at some time, and unchangeable. Slots behind the last present device take no room.
 #[derive(Drop)]
 pub struct Resting {
     pub(crate) kept: Kept,

@@ -10,7 +10,7 @@ use Rattle.i3c_drive.specs.declared.input.Input.{Input}
 use Rattle.i3c_base.specs.declared.requests.Record.{Record}
 use Rattle.i3c_drive.specs.Answers.{AreAnswered, AreLinesOf, Asks, DrivenDoes, IsAnswered, IsChange, IsDrivenPart, IsDrivenRun, IsNews, IsWritten, LacksFeed, StandFor, StandsFor, WentBefore, forgotten_of, log_of}
 use Rattle.i3c_drive.specs.Inputs.{IsInHand, Takes, pending}
-use Rattle.i3c_drive.specs.Steps.{Closes, Fails, IsAnswer, IsCut, IsTold, Knows, RunsAll, RunsPart, RunsWhole, Tells, state}
+use Rattle.i3c_drive.specs.Steps.{Closes, Fails, IsAnswer, IsCut, IsTold, Knows, RunsAll, RunsPart, RunsWhole, AnswersLine, state}
 use Rattle.i3c_lines.specs.Capitals.{in_capitals}
 use Rattle.i3c_lines.specs.Gathering.{gathered}
 use Rattle.i3c_lines.specs.declared.refusals.Refusal.{Refusal}
@@ -276,7 +276,7 @@ last_fails form ScriptFault.TooLarge known now next before mid after input furth
 -- the result of the last line is the result of the run
 pub last_tells : (form : Form) (known now next before mid after : Option (List ℕ)) (input further : Input) (old from to : Driver) (number : ℕ) (line : List ℕ) (result : Result (Unit {0}) ScriptFault)
     → DrivenSoFar form known now before mid input old from number → IsInHand further line → line ≢ [] → Takes now next input further line → pending further ≡ [] → IsAtEnd next
-    → Tells form number (gathered further.line) mid after from to result → RunsAll form known before after old to result
+    → AnswersLine form number (gathered further.line) mid after from to result → RunsAll form known before after old to result
 last_tells form known now next before mid after input further old from to number line (Ok done) so_far hand some takes none end told = last_driven form known now next before mid after input further old from to number line so_far hand some takes none end told
 last_tells form known now next before mid after input further old from to number line (Err fault) so_far hand some takes none end fails = last_fails form fault known now next before mid after input further old from to number line so_far hand takes none end fails
 

@@ -68,8 +68,8 @@ Fails form ScriptFault.Read number line before after old new = ⊥
 Fails form ScriptFault.TooLarge number line before after old new = ⊥
 
 -- the result of a line
-abbrev pub Tells : Form → ℕ → List ℕ → Option (List ℕ) → Option (List ℕ) → Driver → Driver → Result (Unit {0}) ScriptFault → Type 0
-Tells form number line before after old new result = MatchResult result (λ _. IsTold form number line before after old new) (λ fault. Fails form fault number line before after old new)
+abbrev pub AnswersLine : Form → ℕ → List ℕ → Option (List ℕ) → Option (List ℕ) → Driver → Driver → Result (Unit {0}) ScriptFault → Type 0
+AnswersLine form number line before after old new result = MatchResult result (λ _. IsTold form number line before after old new) (λ fault. Fails form fault number line before after old new)
 
 -- each line of the input was run, and all answers went out
 pub record RunsWhole (form : Form) (known before after : Option (List ℕ)) (old new : Driver) : Type 0 where

@@ -2,7 +2,7 @@ ghost use Rattle.std.specs.Prelude.{◌≡◌, ℕ, ◌+◌, ◌≤◌, List, []
 ghost use Rattle.std.specs.Io.KnownBytes.{IsAtEnd};
 ghost use Rattle.i3c_drive.specs.Answers.{AnswersGoOut, AsksAt, IsWritten, first_added, forgotten_of, last_line, log_of, news_text};
 ghost use Rattle.i3c_drive.specs.Inputs.{pending};
-ghost use Rattle.i3c_drive.specs.Steps.{Asked, Closes, IsAnswer, Knows, Reads, RunsAll, Tells, news_of, state};
+ghost use Rattle.i3c_drive.specs.Steps.{Asked, Closes, IsAnswer, Knows, Reads, RunsAll, AnswersLine, news_of, state};
 ghost use Rattle.i3c_lines.specs.Forms.{HasNoForm};
 ghost use Rattle.i3c_script.specs.Obeying.{IsBegun};
 ghost use Rattle.i3c_script.specs.Printed.{numbered_text};
@@ -120,8 +120,8 @@ impl Driver {
             };
             match next {
                 Next::End => return Ok(()),
-                Next::Last => return self.tell(form, number, input.line(), out),
-                Next::Line => match self.tell(form, number, input.line(), out) {
+                Next::Last => return self.run_and_write(form, number, input.line(), out),
+                Next::Line => match self.run_and_write(form, number, input.line(), out) {
                     Ok(()) => {}
                     Err(fault) => return Err(fault),
                 },
@@ -131,8 +131,8 @@ impl Driver {
         Err(ScriptFault::TooLarge)
     }
 
-    /// Runs a line, and hands its answer to the writer.
-    fn tell<W: Write>(
+    /// Runs a line, and writes its answer out.
+    fn run_and_write<W: Write>(
         &mut self,
         form: Form,
         number: u64,
@@ -140,7 +140,7 @@ impl Driver {
         out: &mut W,
     ) -> Result<(), ScriptFault>
         requires { Knows self.old }
-        ensures { Tells form number line.now (W.contents out.old) (W.contents out.new) self.old self.new result }
+        ensures { AnswersLine form number line.now (W.contents out.old) (W.contents out.new) self.old self.new result }
     {
         match self.run(form, number, line) {
             Ok(()) => {}

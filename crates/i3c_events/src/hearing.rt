@@ -18,8 +18,8 @@ pub(crate) const ACK_BITS: u16 = WORD_BITS + HEADER_BITS;
 pub struct NoAnswer(pub Addr7);
 
 /// ENEC or DISEC: each device that it reaches hears it, that is, all but the active controller, or those of them at one
-/// address (I3C Basic 5.1.9.3.1). `begun` bits of the frame come before it, and `cuts` are the devices cut in the frame. If
-/// no device is left at the acknowledgement, nothing changes.
+/// address (I3C Basic 5.1.9.3.1). `bits_before` bits of the frame come before it, and `cuts` are the devices cut in the
+/// frame. If no device is left at the acknowledgement, nothing changes.
 #[inline(always)]
 pub fn hear_kinds(
     devices: &mut Devices,
@@ -28,16 +28,16 @@ pub fn hear_kinds(
     change: Change,
     kinds: Kinds,
     cuts: &Cuts,
-    begun: u16,
+    bits_before: u16,
 ) -> Result<(), NoAnswer>
-    requires { begun ≤ 18 }
+    requires { bits_before ≤ 18 }
     ensures rekinds { (st : State) → HasDevices st devices.old active
-        → Rekinds to (changed_kinds change kinds) (answer_of result) (lost_by cuts.now (begun + kinds_bits to (answer_of result))) st (record st { devices = devices.new }) }
-    ensures answered { (st : State) (a : ℕ) → HasDevices st devices.old active → to ≡ Some a → IsOk result ↔ SomeLeftAt st a (lost_by cuts.now (begun + 18)) }
+        → Rekinds to (changed_kinds change kinds) (answer_of result) (lost_by cuts.now (bits_before + kinds_bits to (answer_of result))) st (record st { devices = devices.new }) }
+    ensures answered { (st : State) (a : ℕ) → HasDevices st devices.old active → to ≡ Some a → IsOk result ↔ SomeLeftAt st a (lost_by cuts.now (bits_before + 18)) }
 {
     let reached = devices.reached(active, &to);
     if let Some(at) = to {
-        if !reached.outlasts(cuts, begun + ACK_BITS) {
+        if !reached.outlasts(cuts, bits_before + ACK_BITS) {
             return Err(NoAnswer(at));
         }
     }
@@ -45,9 +45,9 @@ pub fn hear_kinds(
     Ok(())
 }
 
-/// SETMWL or SETMRL: each device that it reaches has this maximum length, that is, all but the active controller, or those of
-/// them at one address (I3C Basic 5.1.9.3.5, 5.1.9.3.6). `begun` bits of the frame come before it, and `cuts` are the devices
-/// cut in the frame. If no device is left at the acknowledgement, nothing changes.
+/// SETMWL or SETMRL: each device that it reaches has this maximum length, that is, all but the active controller, or
+/// those of them at one address (I3C Basic 5.1.9.3.5, 5.1.9.3.6). `bits_before` bits of the frame come before it, and
+/// `cuts` are the devices cut in the frame. If no device is left at the acknowledgement, nothing changes.
 pub fn hear_length(
     devices: &mut Devices,
     active: Slot,
@@ -55,16 +55,16 @@ pub fn hear_length(
     way: Direction,
     most: Length,
     cuts: &Cuts,
-    begun: u16,
+    bits_before: u16,
 ) -> Result<(), NoAnswer>
-    requires { begun ≤ 18 }
+    requires { bits_before ≤ 18 }
     ensures sets { (st : State) → HasDevices st devices.old active
-        → SetsLength to way most (answer_of result) (lost_by cuts.now (begun + length_bits to (answer_of result))) st (record st { devices = devices.new }) }
-    ensures answered { (st : State) (a : ℕ) → HasDevices st devices.old active → to ≡ Some a → IsOk result ↔ SomeLeftAt st a (lost_by cuts.now (begun + 18)) }
+        → SetsLength to way most (answer_of result) (lost_by cuts.now (bits_before + length_bits to (answer_of result))) st (record st { devices = devices.new }) }
+    ensures answered { (st : State) (a : ℕ) → HasDevices st devices.old active → to ≡ Some a → IsOk result ↔ SomeLeftAt st a (lost_by cuts.now (bits_before + 18)) }
 {
     let reached = devices.reached(active, &to);
     if let Some(at) = to {
-        if !reached.outlasts(cuts, begun + ACK_BITS) {
+        if !reached.outlasts(cuts, bits_before + ACK_BITS) {
             return Err(NoAnswer(at));
         }
     }

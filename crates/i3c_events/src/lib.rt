@@ -1,6 +1,6 @@
 //! Commands to devices that one frame carries: ENEC and DISEC, which enable and disable kinds of events, SETDASA and
-//! SETNEWDA, which set dynamic addresses, and SETMWL and SETMRL, which set the maximum lengths of transfers. For each there
-//! are its words, its effect on the devices, and its symbols.
+//! SETNEWDA, which set dynamic addresses, and SETMWL and SETMRL, which set the maximum lengths of transfers. For each
+//! there are its words, its effect on the devices, and its symbols.
 #![tactic(auto)]
 
 mod hearing;

@@ -49,7 +49,7 @@ impl RestingLegacies {
     }
 
     /// How many legacy targets are declared.
-    pub fn len(&self) -> usize
+    pub fn target_count(&self) -> usize
         ensures count { result ≡ count_by is_some self.now.legacy }
         ensures few { result ≤ LEGACIES }
     {

@@ -110,7 +110,7 @@ fn misfit<'a>(first: &'a [u8], shape: &Shape, tokens: &mut Tokens<'a>) -> FormFa
     ensures { (line : List ℕ) → IsSo line result }
 {
     let mut kinds = *tokens;
-    for field in shape.needed {
+    for field in shape.required {
         let Some(token) = tokens.next() else {
             return FormFault::Missing(*field);
         };
@@ -118,9 +118,9 @@ fn misfit<'a>(first: &'a [u8], shape: &Shape, tokens: &mut Tokens<'a>) -> FormFa
             return fault;
         }
     }
-    match shape.further {
+    match shape.optional {
         Some(Field::Kind) => kind_misfit(first, &mut kinds),
-        further => last_misfit(first, further, tokens),
+        optional => last_misfit(first, optional, tokens),
     }
 }
 
@@ -202,7 +202,7 @@ fn misfit_among<'a>(names: &mut ArrayVec<Name, EXCEPTED>, token: &'a [u8]) -> Op
 /// The first of the tokens behind those that a command needs that isn't as its shape has it.
 fn last_misfit<'a>(
     first: &'a [u8],
-    further: Option<Field>,
+    optional: Option<Field>,
     tokens: &mut Tokens<'a>,
 ) -> FormFault<'a>
     ensures { (line : List ℕ) → IsSo line result }
@@ -211,7 +211,7 @@ fn last_misfit<'a>(
     let Some(token) = tokens.next() else {
         return FormFault::Unknown(first);
     };
-    let Some(field) = further else {
+    let Some(field) = optional else {
         return surplus(token);
     };
     if let Some(fault) = misfit_at(field, token) {

@@ -282,7 +282,7 @@ impl Names {
         let told = Some(*name);
         let place = Place::Slot(slot);
         if !self.is_in(index, name) {
-            self.empty(index, &place)?;
+            self.leave_slot(index, &place)?;
         }
         self.places.insert(*name, place)?;
         self.slots[index] = told;
@@ -300,8 +300,8 @@ impl Names {
         }
     }
 
-    /// The name of the slot of this number is gone, unless it has another place now.
-    fn empty(&mut self, number: usize, place: &Place) -> Result<(), AllocError>
+    /// The name that this slot was last given has no place from now on, unless it has another one.
+    fn leave_slot(&mut self, number: usize, place: &Place) -> Result<(), AllocError>
         requires { number < SLOTS }
         ensures emptied { OnOk result (Empties self.old self.new number place.now) }
         ensures known { (other : Name) → IsSome (place_named self.old other) → IsSome (place_named self.new other) }

@@ -186,8 +186,8 @@ impl PlainDevice {
         self.address == Some(address)
     }
 
-    // Whether it has this static address and no dynamic one.
-    pub(crate) fn is_unaddressed(&self, fixed: Addr7) -> bool
+    // Whether it has this static address, and no dynamic one: so it answers at the static one alone.
+    pub(crate) fn answers_only_at_static(&self, fixed: Addr7) -> bool
         ensures { result ≡ (is_none self.now.address && is_the fixed self.now.fixed) }
     {
         self.address.is_none() && self.fixed == Some(fixed)

@@ -41,7 +41,7 @@ impl Plain {
         });
     }
 
-    // By address, the identities that a new controller at `own` keeps addresses for.
+    // For each address the identity, if there is one, that a new controller at the address `own` keeps it for.
     fn all_kept_again(&self, own: Addr7) -> [Option<Identity>; ADDRESSES]
         ensures { (a : ℕ) → a < ADDRESS_COUNT → slice_index_or result a None ≡ option_and_then (kept_again self.now.declared self.now.given own a) (entry_at self.now a) }
     {
@@ -52,7 +52,8 @@ impl Plain {
         kept
     }
 
-    // The identity that a new controller at `own` keeps an address for.
+    // The identity that a new controller at the address `own` keeps the address of this index for: the one declared at the
+    // static address of its entry, if the address is that static address's home.
     fn kept_again(&self, own: Addr7, index: usize) -> Option<Identity>
         requires { index < ADDRESS_COUNT }
         ensures { result ≡ option_and_then (kept_again self.now.declared self.now.given own index) (entry_at self.now index) }
@@ -73,7 +74,7 @@ impl Plain {
         }
     }
 
-    // The least address in the table, except the controller's own, of a device with this static address.
+    // The home of a static address: the least address in the table, except the controller's own, whose device has it.
     fn home(&self, own: Addr7, fixed: Addr7) -> Option<Addr7>
         ensures { result ≡ home_in self.now.given own fixed }
     {

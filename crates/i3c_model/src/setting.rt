@@ -108,7 +108,7 @@ impl Plain {
     {
         let active = self.active;
         self.devices.iter().any(|(slot, device)| {
-            *slot != active && device.is_unaddressed(fixed) && !cuts.is_lost(*slot, last)
+            *slot != active && device.answers_only_at_static(fixed) && !cuts.is_lost(*slot, last)
         })
     }
 
@@ -119,7 +119,7 @@ impl Plain {
         let active = self.active;
         // every device stays
         self.devices.retain(|slot, device| {
-            if *slot != active && device.is_unaddressed(fixed) {
+            if *slot != active && device.answers_only_at_static(fixed) {
                 device.take_address(new);
             }
             true

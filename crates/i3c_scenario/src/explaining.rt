@@ -28,16 +28,17 @@ pub fn run_explained<R: Read, W: Write>(
     ensures fits { OnOk result (IfSome (R.remaining reader.old) (λ bytes. length bytes ≤ MOST_BYTES)) }
     ensures large { result ≡ Err ScriptFault.TooLarge → IfSome (R.remaining reader.old) (λ bytes. MOST_BYTES < length bytes) }
     ensures lines { GoesOutAs legacies (R.remaining reader.old) (W.contents writer.old) (W.contents writer.new) result }
+    // a trace has no expectations
     ensures unmet { IfOk result (λ tally. tally.unmet ≡ 0) }
 {
     let text = read_text(alloc, reader)?;
     // what can't be told isn't missed
     let _ = explain(alloc, legacies.is_some(), &text, notes);
-    tell_as(alloc, legacies, &text, writer)
+    tell_text(alloc, legacies, &text, writer)
 }
 
-/// Tells a text as a trace, with its faults if legacy targets are named.
-fn tell_as<W: Write>(
+/// Tells a text as a trace, with its faults if legacy targets are named. A trace has no expectations, so none is unmet.
+fn tell_text<W: Write>(
     alloc: Global,
     legacies: Option<Addresses>,
     text: &[u8],
@@ -54,7 +55,7 @@ fn tell_as<W: Write>(
     }
 }
 
-/// Says why each line of a text is refused that is, told as a trace.
+/// Says of each refused line of a text, which is told as a trace, why it is refused.
 fn explain(
     alloc: Global,
     is_linted: bool,
@@ -83,7 +84,7 @@ fn explain_break(broken: &Break<'_>, notes: &mut String) -> Result<(), AllocErro
     )
 }
 
-/// Says why the frames of a trace are refused that are; without faults the first is the last that is told.
+/// Says of each refused frame of a trace why it is refused. Where faults aren't told, nothing behind the first refused frame is.
 fn explain_frames(
     alloc: Global,
     is_linted: bool,

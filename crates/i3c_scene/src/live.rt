@@ -34,7 +34,7 @@ use std::mem;
 
 /// A scene whose bus is awake, so that lines can be obeyed. It has to be put to rest again.
 ///
-/// The bus's role stands in an `Option`, so that an event can take it, and give one back.
+/// The bus's role is in an `Option`, so that an event can take it, and give one back.
 pub struct Live {
     pub(crate) bus: Bus,
     hand: Option<Hand>,

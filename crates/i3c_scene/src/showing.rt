@@ -14,7 +14,7 @@ use i3c_text::Text;
 use std::alloc::{AllocError, Global};
 
 impl Scene {
-    /// Appends what `show` prints of it. A runner, which can be in any state, comes to it.
+    /// Appends what `show` prints of it. A runner in any state serves for it.
     ///
     /// # Errors
     ///
@@ -90,13 +90,13 @@ fn names_of(alloc: Global, known: &[Named]) -> Result<Names, AllocError>
 {
     let mut names = Names::new(alloc);
     for named in known {
-        stand(&mut names, named)?;
+        place_name(&mut names, named)?;
     }
     Ok(names)
 }
 
-/// A name stands for its place.
-fn stand(names: &mut Names, named: &Named) -> Result<(), AllocError>
+/// Gives a name its place.
+fn place_name(names: &mut Names, named: &Named) -> Result<(), AllocError>
     ensures slots { OnOk result (slot_names names.new ≡ put_slot named.now.place named.now.name (slot_names names.old)) }
     ensures targets { OnOk result (legacy_names names.new ≡ put_legacy named.now.place named.now.name (legacy_names names.old)) }
 {

@@ -12,7 +12,8 @@ use i3c_legacy::RestingLegacies;
 use std::alloc::{AllocError, Global};
 use std::marker::Model;
 
-/// A table as it was at some time. It takes room up to the last address that was given, and for what is declared.
+/// A table as it was at some time. Its rows take room up to the last address that was given, and the targets and identities
+/// that are declared take room for themselves. The order of its identities has room for all 128 addresses.
 ///
 /// Clauses see a place for each of the 128 addresses.
 #[derive(Drop)]
@@ -112,7 +113,7 @@ impl RestingTable {
         ensures long { result ≡ count_by is_some self.now.given + count_by is_some self.now.legacy }
         ensures few { result ≤ ROWS + LEGACIES }
     {
-        count(self.held) + self.legacies.len()
+        count(self.held) + self.legacies.target_count()
     }
 
     // The rows.

@@ -99,7 +99,7 @@ fn are_same_registers(registers: &Registers, others: &Registers) -> bool
     registers.bcr == others.bcr && registers.dcr == others.dcr && registers.fixed == others.fixed
 }
 
-// Whether the same registers and the same numbers stand at each of these addresses.
+// Whether both have the same registers and the same number at each of these addresses.
 fn are_stored_alike(
     addresses: &[Addr7],
     registers: &[Registers],
@@ -118,7 +118,7 @@ fn are_stored_alike(
     true
 }
 
-// Whether the same registers and the same number stand at an address.
+// Whether both have the same registers and the same number at an address.
 fn is_stored_alike(
     address: Addr7,
     registers: &[Registers],

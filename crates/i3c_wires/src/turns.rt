@@ -24,7 +24,7 @@ fn cut_bit(cuts: &Cuts, slot: Slot, width: u32) -> u64
     }
 }
 
-/// The bits at which a key differs from the first one, by the number of bits that follow.
+/// The bits at which a key differs from the first one, where the contest may turn, by the number of bits that follow.
 fn differing(keys: &[(Slot, u64)], first: u64, width: u32) -> u64
     requires fit { All (λ e. e.1 < 2 ^ width) keys.now }
     requires first_fits { first < 2 ^ width }
@@ -38,7 +38,7 @@ fn differing(keys: &[(Slot, u64)], first: u64, width: u32) -> u64
     turns
 }
 
-/// The bits at which a contender is cut, by the number of bits that follow.
+/// The bits at which a contender is cut, where the contest may turn, by the number of bits that follow.
 fn cut_bits(keys: &[(Slot, u64)], width: u32, cuts: &Cuts) -> u64
     requires few_bits { width ≤ 64 }
     ensures uncut { (left : ℕ) → left < width → is_one left result ≡ false → All (λ e. is_at (width - suc left) (cut_of cuts.now e.0) ≡ false) keys.now }

@@ -104,11 +104,11 @@ write_taken st new a bytes Write.Nobody ack lost t any e = absurd (both_ways _ r
 write_taken st new a bytes Write.Legacy ack lost t any e = (there st a ack any, e)
 write_taken st new a bytes Write.Devices ack lost t any e = (there st a ack any, e)
 
-pub write_missed : (st new : State) (a : ℕ) (bytes : List ℕ) (w : Write) (cuts : CutList) (begun : ℕ) → is_write_acknowledged w ≡ false → ¬ AnyAnswers st a (lost_by cuts (begun + 9)) → IsWrittenBy st a w → new ≡ st
-    → Writes a bytes (write_answer a w) (lost_by cuts (begun + write_bits bytes (write_answer a w))) st new
-write_missed st new a bytes Write.Nobody cuts begun f none free e = (refl, (free, λ s d is. elim (cases_Bool (lost_by cuts (begun + 9) s)) [ inl gone ↦ gone | inr left ↦ absurd (none (inr (s, d, is, left))) ]), e)
-write_missed st new a bytes Write.Legacy cuts begun f none free e = absurd (both_ways _ f refl)
-write_missed st new a bytes Write.Devices cuts begun f none free e = absurd (both_ways _ f refl)
+pub write_missed : (st new : State) (a : ℕ) (bytes : List ℕ) (w : Write) (cuts : CutList) (bits_before : ℕ) → is_write_acknowledged w ≡ false → ¬ AnyAnswers st a (lost_by cuts (bits_before + 9)) → IsWrittenBy st a w → new ≡ st
+    → Writes a bytes (write_answer a w) (lost_by cuts (bits_before + write_bits bytes (write_answer a w))) st new
+write_missed st new a bytes Write.Nobody cuts bits_before f none free e = (refl, (free, λ s d is. elim (cases_Bool (lost_by cuts (bits_before + 9) s)) [ inl gone ↦ gone | inr left ↦ absurd (none (inr (s, d, is, left))) ]), e)
+write_missed st new a bytes Write.Legacy cuts bits_before f none free e = absurd (both_ways _ f refl)
+write_missed st new a bytes Write.Devices cuts bits_before f none free e = absurd (both_ways _ f refl)
 
 -- without a legacy target there it is the least of the devices
 pub devices_length : (st : State) (way : Direction) (a : ℕ) (devices : List (Option Device)) (active : ℕ) → HasDevices st devices active → legacy_target_at st a ≡ None

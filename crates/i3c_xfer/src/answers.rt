@@ -119,8 +119,8 @@ impl Write {
     }
 }
 
-/// The bits of a read of `count` bytes of a datum with this answer: the code's word and a header, and after its ACK a word
-/// for each byte.
+/// The bits of a read of `count` bytes of a datum with this answer: the code's word and a header, and after its ACK a
+/// word for each byte.
 pub fn get_bits(count: usize, answer: &Answer) -> u16
     requires { count ≤ 6 }
     ensures { (what : DatumValue) (entry : Option Entry) → count ≡ told_length what entry → result ≡ get_bits what entry answer.now }

@@ -11,8 +11,8 @@ use i3c_device::Devices;
 use i3c_word::WORD_BITS;
 
 /// A datum is asked for at an address: its code and a header, and if that is acknowledged its bytes (I3C Basic 5.1.9.3).
-/// `begun` bits of the frame come before it, and `cuts` are the devices cut in the frame. All devices at the address answer,
-/// except the active controller, and the lines give the AND of what they drive.
+/// `bits_before` bits of the frame come before it, and `cuts` are the devices cut in the frame. All devices at the
+/// address answer, except the active controller, and the lines give the AND of what they drive.
 pub fn get(
     devices: &Devices,
     active: Slot,
@@ -20,22 +20,22 @@ pub fn get(
     count: usize,
     to: Addr7,
     cuts: &Cuts,
-    begun: u16,
+    bits_before: u16,
 ) -> Get
-    requires early { begun ≤ 18 }
+    requires early { bits_before ≤ 18 }
     requires few { count ≤ 6 }
     requires some { 1 ≤ count }
     ensures gets { (st : State) → HasDevices st devices.now active → count ≡ told_length what (entry_at st to)
-        → Gets what to (get_answer to result) (lost_by cuts.now (begun + get_bits what (entry_at st to) (get_answer to result))) st st }
-    ensures acknowledged { (st : State) → HasDevices st devices.now active → is_get_acknowledged result ≡ true ↔ SomeLeftAt st to (lost_by cuts.now (begun + 18)) }
-    ensures told { (st : State) → HasDevices st devices.now active → IsToldAs st what count to cuts.now (begun + 19) result }
+        → Gets what to (get_answer to result) (lost_by cuts.now (bits_before + get_bits what (entry_at st to) (get_answer to result))) st st }
+    ensures acknowledged { (st : State) → HasDevices st devices.now active → is_get_acknowledged result ≡ true ↔ SomeLeftAt st to (lost_by cuts.now (bits_before + 18)) }
+    ensures told { (st : State) → HasDevices st devices.now active → IsToldAs st what count to cuts.now (bits_before + 19) result }
 {
     let target = Some(to);
-    if !devices.is_heard(active, &target, cuts, begun + ASKED_BITS) {
+    if !devices.is_heard(active, &target, cuts, bits_before + ASKED_BITS) {
         return Get::Nobody;
     }
-    let bytes = devices.tell(what, count, active, to, cuts, begun + ASKED_BITS + 1);
-    let last = begun + ASKED_BITS + WORD_BITS * count as u16;
+    let bytes = devices.tell(what, count, active, to, cuts, bits_before + ASKED_BITS + 1);
+    let last = bits_before + ASKED_BITS + WORD_BITS * count as u16;
     if devices.is_heard(active, &target, cuts, last) {
         Get::Ended(bytes)
     } else {

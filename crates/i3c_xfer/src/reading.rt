@@ -11,38 +11,38 @@ use i3c_device::Devices;
 use i3c_legacy::LegacyTargets;
 use i3c_word::WORD_BITS;
 
-/// A private read from an address: a header, and if it is acknowledged the first registers, as many as may be read (I3C Basic
-/// 5.1.2.2, 5.1.2.3.4). `begun` bits of the frame come before it, and `cuts` are the devices cut in the frame. A legacy
-/// target answers for its address alone. Otherwise all devices at the address answer, except the active controller, and the
-/// lines give the AND of what they drive.
+/// A private read from an address: a header, and if it is acknowledged the first registers, as many as may be read (I3C
+/// Basic 5.1.2.2, 5.1.2.3.4). `bits_before` bits of the frame come before it, and `cuts` are the devices cut in the
+/// frame. A legacy target answers for its address alone. Otherwise all devices at the address answer, except the active
+/// controller, and the lines give the AND of what they drive.
 pub fn read(
     devices: &Devices,
     legacy: &LegacyTargets,
     active: Slot,
     to: Addr7,
     cuts: &Cuts,
-    begun: u16,
+    bits_before: u16,
 ) -> Read
-    requires { begun ≤ 18 }
+    requires { bits_before ≤ 18 }
     ensures reads { (st : State) → HasDevices st devices.now active → st.legacy ≡ legacy.now
-        → Reads to (read_answer to result) (lost_by cuts.now (begun + bits_of_read result)) st st }
+        → Reads to (read_answer to result) (lost_by cuts.now (bits_before + bits_of_read result)) st st }
     ensures bits { (st : State) → HasDevices st devices.now active → st.legacy ≡ legacy.now
         → bits_of_read result ≡ read_bits (transfer_length st DirectionValue.Read to) (read_answer to result) }
     ensures acknowledged { (st : State) → HasDevices st devices.now active → st.legacy ≡ legacy.now
-        → is_read_acknowledged result ≡ true ↔ AnyAnswers st to (lost_by cuts.now (begun + 9)) }
-    ensures read { (st : State) → HasDevices st devices.now active → st.legacy ≡ legacy.now → IsReadAs st to cuts.now (begun + 10) result }
+        → is_read_acknowledged result ≡ true ↔ AnyAnswers st to (lost_by cuts.now (bits_before + 9)) }
+    ensures read { (st : State) → HasDevices st devices.now active → st.legacy ≡ legacy.now → IsReadAs st to cuts.now (bits_before + 10) result }
 {
     if let Some(target) = legacy.get(to) {
         return Read::Legacy(target.registers);
     }
     let target = Some(to);
-    if !devices.is_heard(active, &target, cuts, begun + ACK_BITS) {
+    if !devices.is_heard(active, &target, cuts, bits_before + ACK_BITS) {
         return Read::Nobody;
     }
     let count = devices.least_length(active, to, Direction::Read).get();
-    let registers = devices.read(active, to, cuts, begun + ACK_BITS + 1);
+    let registers = devices.read(active, to, cuts, bits_before + ACK_BITS + 1);
     let bytes = Bytes::new(&registers[..count as usize]);
-    let last = begun + ACK_BITS + WORD_BITS * count as u16;
+    let last = bits_before + ACK_BITS + WORD_BITS * count as u16;
     if devices.is_heard(active, &target, cuts, last) {
         Read::Ended(bytes)
     } else {

@@ -29,8 +29,8 @@ pub fn tell_read<T: Tap>(tap: &mut T, to: Addr7, read: &Read)
     }
 }
 
-/// Tells a datum's code and the answer as they came out on the lines: the code, a repeated START, the header, the words if it
-/// is acknowledged, and STOP (I3C Basic 5.1.9.3).
+/// Tells a datum's code and the answer as they came out on the lines: the code, a repeated START, the header, the words
+/// if it is acknowledged, and STOP (I3C Basic 5.1.9.3).
 pub fn tell_get<T: Tap>(tap: &mut T, what: Datum, to: Addr7, get: &Get)
     ensures { Tells T.note_gives tap.old tap.new (IsGetWire what to get.now) }
 {
@@ -67,8 +67,8 @@ fn tell_unanswered<T: Tap>(tap: &mut T, to: Addr7, read: bool)
     tap.note(Symbol::Stop);
 }
 
-/// Tells a read that is acknowledged, up to STOP. Each word but the last has a T of 1 or an ACK; the last has this T, or an
-/// ACK where it is true.
+/// Tells a read that is acknowledged, up to STOP. Each word but the last has a T of 1 or an ACK; the last has this T, or
+/// an ACK where it is true.
 fn tell_answered<T: Tap>(tap: &mut T, to: Addr7, side: &Side, bytes: &[u8], last: bool)
     ensures { Tells T.note_gives tap.old tap.new (λ wire. wire ≡ answered_wire to true (read_words side.now last bytes.now)) }
 {

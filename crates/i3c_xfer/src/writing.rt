@@ -33,10 +33,10 @@ fn taker(
     }
 }
 
-/// A private write of these bytes to an address: a header, and if it is acknowledged a word for each byte (I3C Basic 5.1.2.2,
-/// 5.1.2.3.1). `begun` bits of the frame come before it, and `cuts` are the devices cut in the frame. The bytes go into the
-/// first registers of each party that has the address. If none acknowledges, nothing changes; a device lost behind the
-/// acknowledgement is still among the devices.
+/// A private write of these bytes to an address: a header, and if it is acknowledged a word for each byte (I3C Basic
+/// 5.1.2.2, 5.1.2.3.1). `bits_before` bits of the frame come before it, and `cuts` are the devices cut in the frame. The
+/// bytes go into the first registers of each party that has the address. If none acknowledges, nothing changes; a device
+/// lost behind the acknowledgement is still among the devices.
 pub fn write(
     devices: &mut Devices,
     legacy: &mut LegacyTargets,
@@ -44,17 +44,17 @@ pub fn write(
     to: Addr7,
     bytes: &[u8],
     cuts: &Cuts,
-    begun: u16,
+    bits_before: u16,
 ) -> Write
     requires short { length bytes.now ≤ REGISTER_COUNT }
-    requires begun { begun ≤ 18 }
+    requires early { bits_before ≤ 18 }
     ensures writes { (st : State) → HasDevices st devices.old active → st.legacy ≡ legacy.old
-        → Writes to bytes.now (write_answer to result) (lost_by cuts.now (begun + write_bits bytes.now (write_answer to result))) st (record st { devices = devices.new; legacy = legacy.new }) }
+        → Writes to bytes.now (write_answer to result) (lost_by cuts.now (bits_before + write_bits bytes.now (write_answer to result))) st (record st { devices = devices.new; legacy = legacy.new }) }
     ensures acknowledged { (st : State) → HasDevices st devices.old active → st.legacy ≡ legacy.old
-        → is_write_acknowledged result ≡ true ↔ AnyAnswers st to (lost_by cuts.now (begun + 9)) }
+        → is_write_acknowledged result ≡ true ↔ AnyAnswers st to (lost_by cuts.now (bits_before + 9)) }
     ensures written { (st : State) → st.legacy ≡ legacy.old → IsWrittenBy st to result }
 {
-    let taker = taker(devices, legacy, active, to, cuts, begun + ACK_BITS);
+    let taker = taker(devices, legacy, active, to, cuts, bits_before + ACK_BITS);
     if taker.is_acknowledged() {
         devices.write(active, to, bytes);
         legacy.write(to, bytes);

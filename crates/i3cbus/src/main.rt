@@ -11,12 +11,12 @@ mod drawing;
 mod ending;
 mod fault;
 mod run;
+mod standard_error;
 mod stressing;
 mod task;
 mod version;
 mod watcher;
 mod waving;
-mod witness;
 
 use std::io::IsTerminal;
 use std::process::ExitCode;

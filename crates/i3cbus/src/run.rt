@@ -1,12 +1,12 @@
 use crate::drawing::draw_script;
 use crate::ending::{Ending, explore_ending, lines_ending, status_of, tally_of, wave_ending};
 use crate::fault::Fault;
+use crate::standard_error::StandardError;
 use crate::stressing::run_stress;
 use crate::task::{Capturing, STANDARD_INPUT, Task, Telling, Work, task_named};
 use crate::version::print_version;
 use crate::watcher::Watcher;
 use crate::waving::wave_script;
-use crate::witness::Errors;
 use i3c_base::Addresses;
 use i3c_drive::run_driven;
 use i3c_explore::{Limits, Part};
@@ -292,7 +292,7 @@ fn watch_from<R: Print + Eprint + AllocGlobal, S: Read>(
     input: &mut S,
 ) -> Result<Tally, Fault> {
     let mut printed = io::writer(rt);
-    let mut errors = Errors::new(rt);
+    let mut errors = StandardError::new(rt);
     let outcome = run_watched(rt.alloc(), input, &mut printed, &mut errors, watching);
     let flushed = printed.flush().is_ok();
     match outcome {

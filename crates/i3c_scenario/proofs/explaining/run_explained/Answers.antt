@@ -6,5 +6,5 @@ pub returns-clause-lines : goal.returns-clause-lines
 returns-clause-lines g c =
     let known = g.R.Read.remaining c.args.reader.now in
     let text = c.deref-2.result.now in
-    out_as c.args.legacies known (g.W.Write.contents c.args.writer.now) (g.W.Write.contents c.tell_as.new.writer) c.tell_as.result text
-    (read_as known c.in_ok-text.text.items text c.deref-2.ensures.value c.in_ok-text.ensures.text) c.tell_as.ensures.lines
+    out_as c.args.legacies known (g.W.Write.contents c.args.writer.now) (g.W.Write.contents c.tell_text.new.writer) c.tell_text.result text
+    (read_as known c.in_ok-text.text.items text c.deref-2.ensures.value c.in_ok-text.ensures.text) c.tell_text.ensures.lines

@@ -18,8 +18,8 @@ free : (c : After-is_heard) (st : State) → st.legacy ≡ c.args.legacy.now →
 free c st e = legacy_there st c.args.to c.args.legacy.now c.get.result e c.get.ensures ∙ c.in_default.is
 
 -- the header is acknowledged
-heard : (c : After-new-bytes) (st : State) → HasDevices st c.args.devices.now c.args.active → SomeLeftAt st c.args.to (lost_by c.args.cuts.now (c.args.begun + 9))
-heard c st has = left_there st c.args.to (lost_by c.args.cuts.now (c.args.begun + 9)) c.args.devices.now c.args.active has (c.is_heard.ensures.0 c.if-not-is_heard.false)
+heard : (c : After-new-bytes) (st : State) → HasDevices st c.args.devices.now c.args.active → SomeLeftAt st c.args.to (lost_by c.args.cuts.now (c.args.bits_before + 9))
+heard c st has = left_there st c.args.to (lost_by c.args.cuts.now (c.args.bits_before + 9)) c.args.devices.now c.args.active has (c.is_heard.ensures.0 c.if-not-is_heard.false)
 
 -- nor does one where bytes were read
 alone : (c : After-new-bytes) (st : State) → st.legacy ≡ c.args.legacy.now → legacy_target_at st c.args.to ≡ None
@@ -38,22 +38,22 @@ many c st has e =
 
 -- the lines give what the devices drive
 driven : (c : After-new-bytes) (st : State) → HasDevices st c.args.devices.now c.args.active
-    → AreDrivenBy registers_of (length c.new-bytes.result) st c.args.to c.args.cuts.now (c.args.begun + 10) c.new-bytes.result
+    → AreDrivenBy registers_of (length c.new-bytes.result) st c.args.to c.args.cuts.now (c.args.bits_before + 10) c.new-bytes.result
 driven c st has =
-    let next : c.args.begun + 9 + 1 ≡ c.args.begun + 10 = omega arith in
-    subst (λ bytes. AreDrivenBy registers_of (length bytes) st c.args.to c.args.cuts.now (c.args.begun + 10) bytes) (sym c.new-bytes.ensures)
-    (driven_first registers_of REGISTERS c.get-count.result st c.args.to c.args.cuts.now (c.args.begun + 10) c.read-registers.result (few c) c.read-registers.ensures.long
+    let next : c.args.bits_before + 9 + 1 ≡ c.args.bits_before + 10 = omega arith in
+    subst (λ bytes. AreDrivenBy registers_of (length bytes) st c.args.to c.args.cuts.now (c.args.bits_before + 10) bytes) (sym c.new-bytes.ensures)
+    (driven_first registers_of REGISTERS c.get-count.result st c.args.to c.args.cuts.now (c.args.bits_before + 10) c.read-registers.result (few c) c.read-registers.ensures.long
     (subst (λ first. AreDrivenBy registers_of REGISTERS st c.args.to c.args.cuts.now first c.read-registers.result) next
-    (driven_there registers_of REGISTERS st c.args.to c.args.cuts.now (c.args.begun + 9 + 1) c.args.devices.now c.args.active c.read-registers.result has c.read-registers.ensures.read)))
+    (driven_there registers_of REGISTERS st c.args.to c.args.cuts.now (c.args.bits_before + 9 + 1) c.args.devices.now c.args.active c.read-registers.result has c.read-registers.ensures.read)))
 
 small : (c : After-new-bytes) → All (λ byte. byte < 256) c.new-bytes.result
 small c = subst (All (λ byte. byte < 256)) (sym c.new-bytes.ensures) (All-take (λ byte. byte < 256) c.get-count.result c.read-registers.result c.read-registers.ensures.bytes)
 
-all : (c : After-new-bytes) (st : State) → HasDevices st c.args.devices.now c.args.active → st.legacy ≡ c.args.legacy.now → AreDriven st c.args.to c.args.cuts.now (c.args.begun + 10) c.new-bytes.result
+all : (c : After-new-bytes) (st : State) → HasDevices st c.args.devices.now c.args.active → st.legacy ≡ c.args.legacy.now → AreDriven st c.args.to c.args.cuts.now (c.args.bits_before + 10) c.new-bytes.result
 all c st has e = (driven c st has, many c st has e, small c)
 
 -- the last bit of all
-ends : (c : After-new-bytes) → c.args.begun + 9 + 9 * c.get-count.result ≡ c.args.begun + (9 + 9 * length c.new-bytes.result)
+ends : (c : After-new-bytes) → c.args.bits_before + 9 + 9 * c.get-count.result ≡ c.args.bits_before + (9 + 9 * length c.new-bytes.result)
 ends c = omega (arith, count c)
 
 pub returns-then-not-is_heard-clause-reads : goal.returns-then-not-is_heard-clause-reads
@@ -61,7 +61,7 @@ returns-then-not-is_heard-clause-reads c st has e = (
   refl,
   (
     free (goal.at.returns-then-not-is_heard-clause-reads c).After-is_heard st e,
-    all_lost st c.args.to (lost_by c.args.cuts.now (c.args.begun + 9)) c.args.devices.now c.args.active has (λ h. both_ways _ c.if-not-is_heard.true (c.is_heard.ensures.1 h)),
+    all_lost st c.args.to (lost_by c.args.cuts.now (c.args.bits_before + 9)) c.args.devices.now c.args.active has (λ h. both_ways _ c.if-not-is_heard.true (c.is_heard.ensures.1 h)),
   ),
   refl,
 )
@@ -72,10 +72,10 @@ returns-then-is_heard-clause-reads c st has e =
       inr (
         alone at st e,
         subst (λ bit. SomeLeftAt st c.args.to (lost_by c.args.cuts.now bit)) (ends at)
-            (left_there st c.args.to (lost_by c.args.cuts.now (c.args.begun + 9 + 9 * c.get-count.result)) c.args.devices.now c.args.active has (c.is_heard-2.ensures.0 c.if-is_heard.true)),
+            (left_there st c.args.to (lost_by c.args.cuts.now (c.args.bits_before + 9 + 9 * c.get-count.result)) c.args.devices.now c.args.active has (c.is_heard-2.ensures.0 c.if-is_heard.true)),
         many at st has e,
         small at,
-        λ left k l. and_there registers_of (length c.new-bytes.result) st c.args.to c.args.cuts.now (c.args.begun + 10) (c.args.begun + (9 + 9 * length c.new-bytes.result)) c.new-bytes.result (omega arith) (driven at st has)
+        λ left k l. and_there registers_of (length c.new-bytes.result) st c.args.to c.args.cuts.now (c.args.bits_before + 10) (c.args.bits_before + (9 + 9 * length c.new-bytes.result)) c.new-bytes.result (omega arith) (driven at st has)
             (λ j m. small at j 0 m) left k l,
       ),
       refl,
@@ -87,9 +87,9 @@ returns-else-is_heard-clause-reads c st has e =
       (
         alone at st e,
         subst (λ bit. AllLostAt st c.args.to (lost_by c.args.cuts.now bit)) (ends at)
-            (all_lost st c.args.to (lost_by c.args.cuts.now (c.args.begun + 9 + 9 * c.get-count.result)) c.args.devices.now c.args.active has (λ h. both_ways _ c.if-is_heard.false (c.is_heard-2.ensures.1 h))),
+            (all_lost st c.args.to (lost_by c.args.cuts.now (c.args.bits_before + 9 + 9 * c.get-count.result)) c.args.devices.now c.args.active has (λ h. both_ways _ c.if-is_heard.false (c.is_heard-2.ensures.1 h))),
       ),
-      any_there st c.args.to (lost_by c.args.cuts.now (c.args.begun + 9)) (heard at st has),
+      any_there st c.args.to (lost_by c.args.cuts.now (c.args.bits_before + 9)) (heard at st has),
       refl,
     )
 

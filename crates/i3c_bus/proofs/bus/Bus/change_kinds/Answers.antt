@@ -23,7 +23,7 @@ use Rattle.i3c_bus.proofs.bus.Bus.change_kinds.Goals.{in-Some+else-is_no_target,
 pub returns-clause-carried : goal.returns-clause-carried
 returns-clause-carried g c =
     let old : State = c.args.self.now.state in
-    let served : Served = c.in-Ok.begun.served in
+    let served : Served = c.in-Ok.start.served in
     let answer : Answer = c.command_kinds-answer.result in
     let mid : State = c.begin_frame.new.self.state in
     let new : State = c.command_kinds-answer.new.self.state in
@@ -37,14 +37,14 @@ returns-clause-carried g c =
       | in_default w ↦ absurd (w.in_default.not-Some a e)
     ] in
     let begun = c.in-Ok.ensures.begins in
-    let last : ℕ = c.in-Ok.begun.bits + kinds_bits c.args.to answer in
+    let last : ℕ = c.in-Ok.start.bits + kinds_bits c.args.to answer in
     let leaves : LeavesBy c.args.cuts.now last (Own c.args.to) mid new =
-    subst (λ (t : Option ℕ). LeavesBy c.args.cuts.now (c.in-Ok.begun.bits + kinds_bits t answer) (Own t) mid new) to c.command_kinds-answer.ensures.rekinds in
+    subst (λ (t : Option ℕ). LeavesBy c.args.cuts.now (c.in-Ok.start.bits + kinds_bits t answer) (Own t) mid new) to c.command_kinds-answer.ensures.rekinds in
     let wire = subst (λ (t : Option ℕ). Tells g.T.Tap.note_gives c.begin_frame.new.tap c.command_kinds-answer.new.tap (IsKindsWire c.args.change t c.args.kinds answer)) to c.command_kinds-answer.ensures.told in
     let answered : IsAnswered old c.args.cuts.now c.args.to (begun.0 + header_bits served) answer =
     answered_before old (given_for served) _ served mid c.args.cuts.now c.args.to (begun.0 + header_bits served) answer (begun.1.serves 0)
     (subst (λ (bits : ℕ). IsAnswered mid c.args.cuts.now c.args.to bits answer) begun.2
-    (subst (λ (t : Option ℕ). IsAnswered mid c.args.cuts.now t c.in-Ok.begun.bits answer) to c.command_kinds-answer.ensures.answered)) in
+    (subst (λ (t : Option ℕ). IsAnswered mid c.args.cuts.now t c.in-Ok.start.bits answer) to c.command_kinds-answer.ensures.answered)) in
     let told : Tells g.T.Tap.note_gives c.begin_frame.new.tap c.command_kinds-answer.new.tap
     (IsKindsPart old c.args.cuts.now c.args.change c.args.to c.args.kinds answer (begun.0 + header_bits served)) = (wire.0, wire.1, (wire.2, answered)) in
     let same : new.records ≡ mid.records = ap (λ (st : State). st.records) leaves.2 ∙ records_rekinds c.args.to (changed_kinds c.args.change c.args.kinds) answer _ mid leaves.0 leaves.1 in record {
@@ -64,4 +64,4 @@ returns-clause-carried g c =
 
 pub command_kinds-answer-requires-clause-left : goal.command_kinds-answer-requires-clause-left
 command_kinds-answer-requires-clause-left g c =
-    begun_uncut c.args.self.now.state c.begin_frame.new.self.state c.args.cuts.now c.in-Ok.begun.served c.in-Ok.ensures.begins.0 c.in-Ok.ensures.begins.1 (sym c.cuts_active.ensures ∙ c.if-cuts_active.false)
+    begun_uncut c.args.self.now.state c.begin_frame.new.self.state c.args.cuts.now c.in-Ok.start.served c.in-Ok.ensures.begins.0 c.in-Ok.ensures.begins.1 (sym c.cuts_active.ensures ∙ c.if-cuts_active.false)

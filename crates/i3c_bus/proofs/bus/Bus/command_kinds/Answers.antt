@@ -27,17 +27,17 @@ pub returns-clause-rekinds : goal.returns-clause-rekinds
 returns-clause-rekinds g c =
     let same : HasDevices (seen c.self.inside) c.self.inside.devices c.active-active.result = seen_devices _ _ _ c.self.view_is c.active-active.ensures in
     let done : State = record (seen c.self.inside) { devices = c.hear_kinds-heard.new.devices } in
-    let by : Answer → Type 0 = λ (a : Answer). Rekinds c.args.to (changed_kinds c.args.change c.args.kinds) a (lost_by c.args.cuts.now (c.args.begun + kinds_bits c.args.to a)) (seen c.self.inside) done in (
+    let by : Answer → Type 0 = λ (a : Answer). Rekinds c.args.to (changed_kinds c.args.change c.args.kinds) a (lost_by c.args.cuts.now (c.args.bits_before + kinds_bits c.args.to a)) (seen c.self.inside) done in (
       done,
-      subst (λ (h : Held). Rekinds c.args.to (changed_kinds c.args.change c.args.kinds) c.answer_of-answer.result (lost_by c.args.cuts.now (c.args.begun + kinds_bits c.args.to c.answer_of-answer.result)) h.state done)
+      subst (λ (h : Held). Rekinds c.args.to (changed_kinds c.args.change c.args.kinds) c.answer_of-answer.result (lost_by c.args.cuts.now (c.args.bits_before + kinds_bits c.args.to c.answer_of-answer.result)) h.state done)
           c.self.view_is (subst by (sym c.answer_of-answer.ensures) (c.hear_kinds-heard.ensures.rekinds (seen c.self.inside) same)),
       c.drop_lost.ensures.state
-          ∙ ap (λ (n : ℕ). emptied (lost_by c.args.cuts.now (c.args.begun + n)) done) c.kinds_bits.ensures,
+          ∙ ap (λ (n : ℕ). emptied (lost_by c.args.cuts.now (c.args.bits_before + n)) done) c.kinds_bits.ensures,
     )
 
 pub returns-clause-answered : goal.returns-clause-answered
 returns-clause-answered g c =
     let same : HasDevices (seen c.self.inside) c.self.inside.devices c.active-active.result = seen_devices _ _ _ c.self.view_is c.active-active.ensures in
-    subst (λ (h : Held). IsAnswered h.state c.args.cuts.now c.args.to c.args.begun c.answer_of-answer.result) c.self.view_is
-    (subst (λ (a : Answer). IsAnswered (seen c.self.inside) c.args.cuts.now c.args.to c.args.begun a) (sym c.answer_of-answer.ensures)
-    (answered_by (seen c.self.inside) c.args.cuts.now c.args.to c.args.begun c.hear_kinds-heard.result (λ a e. c.hear_kinds-heard.ensures.answered (seen c.self.inside) a same e)))
+    subst (λ (h : Held). IsAnswered h.state c.args.cuts.now c.args.to c.args.bits_before c.answer_of-answer.result) c.self.view_is
+    (subst (λ (a : Answer). IsAnswered (seen c.self.inside) c.args.cuts.now c.args.to c.args.bits_before a) (sym c.answer_of-answer.ensures)
+    (answered_by (seen c.self.inside) c.args.cuts.now c.args.to c.args.bits_before c.hear_kinds-heard.result (λ a e. c.hear_kinds-heard.ensures.answered (seen c.self.inside) a same e)))

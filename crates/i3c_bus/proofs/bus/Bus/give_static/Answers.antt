@@ -29,7 +29,7 @@ same c = seen_devices _ _ _ c.self.view_is c.active-active.ensures
 heard : (c : goal.After-settle) → AnyUnaddressedAt (seen c.self.inside) c.args.fixed × (c.hear_static-heard.new.devices ≡ each_in (with_static_at c.active-active.result c.args.fixed c.args.new) c.self.inside.devices)
 heard c = subst (λ (r : Result (Unit {0}) NoAnswer). MatchResult r
     (λ u. AnyUnaddressedAt (seen c.self.inside) c.args.fixed × (c.hear_static-heard.new.devices ≡ each_in (with_static_at c.active-active.result c.args.fixed c.args.new) c.self.inside.devices))
-    (λ none. (none.0 ≡ c.args.fixed) × AllUnaddressedLostAt (seen c.self.inside) c.args.fixed (lost_by c.args.cuts.now (c.args.begun + 18)) × (c.hear_static-heard.new.devices ≡ c.self.inside.devices)))
+    (λ none. (none.0 ≡ c.args.fixed) × AllUnaddressedLostAt (seen c.self.inside) c.args.fixed (lost_by c.args.cuts.now (c.args.bits_before + 18)) × (c.hear_static-heard.new.devices ≡ c.self.inside.devices)))
     c.in-Ok.is (c.hear_static-heard.ensures.set (seen c.self.inside) (same c))
 
 pub settle-requires-clause-fixed : goal.settle-requires-clause-fixed
@@ -69,15 +69,15 @@ returns-in-Ok-clause-given c =
 
 pub returns-in-Ok-clause-answered : goal.returns-in-Ok-clause-answered
 returns-in-Ok-clause-answered c =
-    subst (λ (h : Held). true ≡ true ↔ SomeUnaddressedLeftAt h.state c.args.fixed (lost_by c.args.cuts.now (c.args.begun + 18))) c.self.view_is
-    (subst (λ (r : Result (Unit {0}) NoAnswer). IsOk r ↔ SomeUnaddressedLeftAt (seen c.self.inside) c.args.fixed (lost_by c.args.cuts.now (c.args.begun + 18))) c.in-Ok.is
+    subst (λ (h : Held). true ≡ true ↔ SomeUnaddressedLeftAt h.state c.args.fixed (lost_by c.args.cuts.now (c.args.bits_before + 18))) c.self.view_is
+    (subst (λ (r : Result (Unit {0}) NoAnswer). IsOk r ↔ SomeUnaddressedLeftAt (seen c.self.inside) c.args.fixed (lost_by c.args.cuts.now (c.args.bits_before + 18))) c.in-Ok.is
     (c.hear_static-heard.ensures.answered (seen c.self.inside) (same c)))
 
 pub invariant_of-self-in-Err : goal.invariant_of-self-in-Err
 invariant_of-self-in-Err c =
     let m = subst (λ (r : Result (Unit {0}) NoAnswer). MatchResult r
     (λ u. AnyUnaddressedAt (seen c.self.inside) c.args.fixed × (c.hear_static-heard.new.devices ≡ each_in (with_static_at c.active-active.result c.args.fixed c.args.new) c.self.inside.devices))
-    (λ none. (none.0 ≡ c.args.fixed) × AllUnaddressedLostAt (seen c.self.inside) c.args.fixed (lost_by c.args.cuts.now (c.args.begun + 18)) × (c.hear_static-heard.new.devices ≡ c.self.inside.devices)))
+    (λ none. (none.0 ≡ c.args.fixed) × AllUnaddressedLostAt (seen c.self.inside) c.args.fixed (lost_by c.args.cuts.now (c.args.bits_before + 18)) × (c.hear_static-heard.new.devices ≡ c.self.inside.devices)))
     c.in-Err.is (c.hear_static-heard.ensures.set (seen c.self.inside) (seen_devices _ _ _ c.self.view_is c.active-active.ensures)) in
     subst (λ (ds : List (Option Device)). IsWhole (state_of ds c.self.inside.raised c.self.inside.active c.self.inside.table c.self.inside.legacy c.self.inside.in_session c.self.inside.records.items) c.self.inside.table c.self.inside.list)
     (sym m.2) c.self.invariant
@@ -86,15 +86,15 @@ pub returns-in-Err-clause-given : goal.returns-in-Err-clause-given
 returns-in-Err-clause-given c =
     let m = subst (λ (r : Result (Unit {0}) NoAnswer). MatchResult r
     (λ u. AnyUnaddressedAt (seen c.self.inside) c.args.fixed × (c.hear_static-heard.new.devices ≡ each_in (with_static_at c.active-active.result c.args.fixed c.args.new) c.self.inside.devices))
-    (λ none. (none.0 ≡ c.args.fixed) × AllUnaddressedLostAt (seen c.self.inside) c.args.fixed (lost_by c.args.cuts.now (c.args.begun + 18)) × (c.hear_static-heard.new.devices ≡ c.self.inside.devices)))
+    (λ none. (none.0 ≡ c.args.fixed) × AllUnaddressedLostAt (seen c.self.inside) c.args.fixed (lost_by c.args.cuts.now (c.args.bits_before + 18)) × (c.hear_static-heard.new.devices ≡ c.self.inside.devices)))
     c.in-Err.is (c.hear_static-heard.ensures.set (seen c.self.inside) (seen_devices _ _ _ c.self.view_is c.active-active.ensures)) in
     let left : state_of c.hear_static-heard.new.devices c.self.inside.raised c.self.inside.active c.self.inside.table c.self.inside.legacy c.self.inside.in_session c.self.inside.records.items ≡ seen c.self.inside =
     ap (λ (ds : List (Option Device)). state_of ds c.self.inside.raised c.self.inside.active c.self.inside.table c.self.inside.legacy c.self.inside.in_session c.self.inside.records.items) m.2 in
-    subst (λ (h : Held). (c.in-Err.none.0 ≡ c.args.fixed) × AllUnaddressedLostAt h.state c.args.fixed (lost_by c.args.cuts.now (c.args.begun + 18))
+    subst (λ (h : Held). (c.in-Err.none.0 ≡ c.args.fixed) × AllUnaddressedLostAt h.state c.args.fixed (lost_by c.args.cuts.now (c.args.bits_before + 18))
     × (state_of c.hear_static-heard.new.devices c.self.inside.raised c.self.inside.active c.self.inside.table c.self.inside.legacy c.self.inside.in_session c.self.inside.records.items ≡ h.state)) c.self.view_is (m.0, m.1, left)
 
 pub returns-in-Err-clause-answered : goal.returns-in-Err-clause-answered
 returns-in-Err-clause-answered c =
-    subst (λ (h : Held). false ≡ true ↔ SomeUnaddressedLeftAt h.state c.args.fixed (lost_by c.args.cuts.now (c.args.begun + 18))) c.self.view_is
-    (subst (λ (r : Result (Unit {0}) NoAnswer). IsOk r ↔ SomeUnaddressedLeftAt (seen c.self.inside) c.args.fixed (lost_by c.args.cuts.now (c.args.begun + 18))) c.in-Err.is
+    subst (λ (h : Held). false ≡ true ↔ SomeUnaddressedLeftAt h.state c.args.fixed (lost_by c.args.cuts.now (c.args.bits_before + 18))) c.self.view_is
+    (subst (λ (r : Result (Unit {0}) NoAnswer). IsOk r ↔ SomeUnaddressedLeftAt (seen c.self.inside) c.args.fixed (lost_by c.args.cuts.now (c.args.bits_before + 18))) c.in-Err.is
     (c.hear_static-heard.ensures.answered (seen c.self.inside) (seen_devices _ _ _ c.self.view_is c.active-active.ensures)))

@@ -44,14 +44,14 @@ returns-in-Taken-clause-carried g c =
     let bits : c.offer_bits.result ≡ 27 = c.offer_bits.ensures ∙ ap offer_bits c.in-Taken.is in
     subst (λ (s : Served). Carries c.args.self.now c.drop_lost.new.self (Event.HandOver c.args.to c.args.cuts.now) (Reply.Handed s) (Hand.Role c.hand-role.result) (Tells g.T.Tap.note_gives c.args.tap.now c.tell_offer.new.tap))
     (sym c.go_on-served.ensures.served)
-    (handed_carried g.T.Tap.note_gives c.args.tap.now c.begin_refusing-begun.new.tap c.go_on-served.new.tap c.tell_offer.new.tap c.args.self.now c.hand-role.new.self c.drop_lost.new.self c.args.to c.in-Taken.slot c.args.role c.hand-role.result
-    c.args.cuts.now c.begin_refusing-begun.result.served c.begin_refusing-begun.result.bits c.go_on-served.result.bits c.requires.fits c.in_default.ensures
+    (handed_carried g.T.Tap.note_gives c.args.tap.now c.begin_refusing-start.new.tap c.go_on-served.new.tap c.tell_offer.new.tap c.args.self.now c.hand-role.new.self c.drop_lost.new.self c.args.to c.in-Taken.slot c.args.role c.hand-role.result
+    c.args.cuts.now c.begin_refusing-start.result.served c.begin_refusing-start.result.bits c.go_on-served.result.bits c.requires.fits c.in_default.ensures
     (record {
-      serves = c.begin_refusing-begun.ensures.serves;
-      sent = c.begin_refusing-begun.ensures.sent;
-      unrecorded = c.begin_refusing-begun.ensures.unrecorded;
+      serves = c.begin_refusing-start.ensures.serves;
+      sent = c.begin_refusing-start.ensures.sent;
+      unrecorded = c.begin_refusing-start.ensures.unrecorded;
       count = c.go_on-served.ensures.bits;
-      begun = c.begin_refusing-begun.ensures.told;
+      begun = c.begin_refusing-start.ensures.told;
       on = c.go_on-served.ensures.told;
     })
     taken (subst (λ o. Tells g.T.Tap.note_gives c.go_on-served.new.tap c.tell_offer.new.tap (IsOfferWire c.args.to o)) c.in-Taken.is c.tell_offer.ensures)
@@ -65,14 +65,14 @@ returns-in-Nobody g c =
     record {
       carried = subst (λ (s : Served). Carries c.args.self.now c.drop_lost-in-Nobody.new.self (Event.HandOver c.args.to c.args.cuts.now) (Reply.Framed (record { served = s; answer = Answer.NoAnswer c.args.to })) (Hand.Role c.args.role) (Tells g.T.Tap.note_gives c.args.tap.now c.tell_offer.new.tap))
           (sym c.go_on-served.ensures.served)
-          (declined_carried g.T.Tap.note_gives c.args.tap.now c.begin_refusing-begun.new.tap c.go_on-served.new.tap c.tell_offer.new.tap c.args.self.now c.drop_lost-in-Nobody.new.self c.args.to c.args.role c.offer-offer.result
-          c.args.cuts.now c.begin_refusing-begun.result.served c.begin_refusing-begun.result.bits c.go_on-served.result.bits c.requires.fits c.in_default.ensures
+          (declined_carried g.T.Tap.note_gives c.args.tap.now c.begin_refusing-start.new.tap c.go_on-served.new.tap c.tell_offer.new.tap c.args.self.now c.drop_lost-in-Nobody.new.self c.args.to c.args.role c.offer-offer.result
+          c.args.cuts.now c.begin_refusing-start.result.served c.begin_refusing-start.result.bits c.go_on-served.result.bits c.requires.fits c.in_default.ensures
           (record {
-            serves = c.begin_refusing-begun.ensures.serves;
-            sent = c.begin_refusing-begun.ensures.sent;
-            unrecorded = c.begin_refusing-begun.ensures.unrecorded;
+            serves = c.begin_refusing-start.ensures.serves;
+            sent = c.begin_refusing-start.ensures.sent;
+            unrecorded = c.begin_refusing-start.ensures.unrecorded;
             count = c.go_on-served.ensures.bits;
-            begun = c.begin_refusing-begun.ensures.told;
+            begun = c.begin_refusing-start.ensures.told;
             on = c.go_on-served.ensures.told;
           })
           (elim c.in-Nobody.is [ inl e ↦ subst IsUntaken (sym e) tt | inr e ↦ subst IsUntaken (sym e.1) tt ])

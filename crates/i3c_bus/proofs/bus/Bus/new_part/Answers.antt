@@ -13,9 +13,9 @@ pub returns-clause-sets : goal.returns-clause-sets
 returns-clause-sets g c =
     let done : State = c.give_new-heard.new.self.state in (
       done,
-      subst (λ (a : Answer). SetsNew c.args.old c.args.new a (lost_by c.args.cuts.now (c.args.begun + kinds_bits (Some c.args.old) a)) c.args.self.now.state done) (sym c.answer_of-answer.ensures)
-          (new_sets c.args.self.now.state done c.args.old c.args.new c.args.cuts.now c.args.begun c.give_new-heard.result c.give_new-heard.ensures.given),
-      c.drop_lost.ensures.state ∙ ap (λ (n : ℕ). emptied (lost_by c.args.cuts.now (c.args.begun + n)) done) c.kinds_bits.ensures,
+      subst (λ (a : Answer). SetsNew c.args.old c.args.new a (lost_by c.args.cuts.now (c.args.bits_before + kinds_bits (Some c.args.old) a)) c.args.self.now.state done) (sym c.answer_of-answer.ensures)
+          (new_sets c.args.self.now.state done c.args.old c.args.new c.args.cuts.now c.args.bits_before c.give_new-heard.result c.give_new-heard.ensures.given),
+      c.drop_lost.ensures.state ∙ ap (λ (n : ℕ). emptied (lost_by c.args.cuts.now (c.args.bits_before + n)) done) c.kinds_bits.ensures,
     )
 
 pub returns-clause-told : goal.returns-clause-told
@@ -24,5 +24,5 @@ returns-clause-told g c =
     let answered = done_where c.give_new-heard.result c.give_new-heard.ensures.answered in (
       wire.0,
       wire.1,
-      subst (λ (a : Answer). IsNewPart c.args.self.now.state c.args.cuts.now c.args.old c.args.new a c.args.begun wire.0) (sym c.answer_of-answer.ensures) (wire.2, answered),
+      subst (λ (a : Answer). IsNewPart c.args.self.now.state c.args.cuts.now c.args.old c.args.new a c.args.bits_before wire.0) (sym c.answer_of-answer.ensures) (wire.2, answered),
     )

@@ -13,7 +13,7 @@ pub returns-clause-carried : goal.returns-clause-carried
 returns-clause-carried g c =
     subst (λ (s : Served). Carries c.args.self.now c.drop_lost.new.self (Event.OpenDaa c.args.cuts.now) (Reply.Opened s) (Hand.Session c.args.role) (Tells g.T.Tap.note_gives c.args.tap.now c.tell_open.new.tap))
     (sym c.go_on-served.ensures.served)
-    (opening_carried g.T.Tap.note_gives c.args.tap.now c.begin_refusing-begun.new.tap c.go_on-served.new.tap c.tell_open.new.tap c.args.self.now c.open.new.self c.drop_lost.new.self c.args.cuts.now
-    c.begin_refusing-begun.result.served c.begin_refusing-begun.result.bits c.go_on-served.result.bits c.args.role c.requires.fits (sym c.cuts_active.ensures ∙ c.if-cuts_active.false)
-    c.begin_refusing-begun.ensures.serves c.begin_refusing-begun.ensures.sent c.begin_refusing-begun.ensures.unrecorded c.go_on-served.ensures.bits
-    c.begin_refusing-begun.ensures.told c.go_on-served.ensures.told c.tell_open.ensures c.open.ensures.state c.open.ensures.room c.drop_lost.ensures.state c.drop_lost.ensures.room)
+    (opening_carried g.T.Tap.note_gives c.args.tap.now c.begin_refusing-start.new.tap c.go_on-served.new.tap c.tell_open.new.tap c.args.self.now c.open.new.self c.drop_lost.new.self c.args.cuts.now
+    c.begin_refusing-start.result.served c.begin_refusing-start.result.bits c.go_on-served.result.bits c.args.role c.requires.fits (sym c.cuts_active.ensures ∙ c.if-cuts_active.false)
+    c.begin_refusing-start.ensures.serves c.begin_refusing-start.ensures.sent c.begin_refusing-start.ensures.unrecorded c.go_on-served.ensures.bits
+    c.begin_refusing-start.ensures.told c.go_on-served.ensures.told c.tell_open.ensures c.open.ensures.state c.open.ensures.room c.drop_lost.ensures.state c.drop_lost.ensures.room)

@@ -16,25 +16,25 @@ use Rattle.i3c_bus.proofs.bus.Bus.read.Goals as goal
 
 pub read_part-answer-requires-clause-left : goal.read_part-answer-requires-clause-left
 read_part-answer-requires-clause-left g c =
-    begun_uncut c.args.self.now.state c.begin_frame.new.self.state c.args.cuts.now c.in-Ok.begun.served c.in-Ok.ensures.begins.0 c.in-Ok.ensures.begins.1 (sym c.cuts_active.ensures ∙ c.if-cuts_active.false)
+    begun_uncut c.args.self.now.state c.begin_frame.new.self.state c.args.cuts.now c.in-Ok.start.served c.in-Ok.ensures.begins.0 c.in-Ok.ensures.begins.1 (sym c.cuts_active.ensures ∙ c.if-cuts_active.false)
 
 pub returns-clause-carried : goal.returns-clause-carried
 returns-clause-carried g c =
     let old : State = c.args.self.now.state in
     let mid : State = c.begin_frame.new.self.state in
-    let served : Served = c.in-Ok.begun.served in
+    let served : Served = c.in-Ok.start.served in
     let answer : Answer = c.read_part-answer.result in
     let begins = c.in-Ok.ensures.begins in
     let part = c.read_part-answer.ensures.told in
     let count : ℕ = transfer_length old Direction.Read c.args.from in
     let alike : Alike old mid = alike_serves old (given_for served) _ served mid (begins.1.serves 0) in
-    let leaves : LeavesBy c.args.cuts.now (c.in-Ok.begun.bits + read_bits count answer) (Reads c.args.from answer) mid c.read_part-answer.new.self.state =
-    subst (λ (n : ℕ). LeavesBy c.args.cuts.now (c.in-Ok.begun.bits + read_bits n answer) (Reads c.args.from answer) mid c.read_part-answer.new.self.state)
+    let leaves : LeavesBy c.args.cuts.now (c.in-Ok.start.bits + read_bits count answer) (Reads c.args.from answer) mid c.read_part-answer.new.self.state =
+    subst (λ (n : ℕ). LeavesBy c.args.cuts.now (c.in-Ok.start.bits + read_bits n answer) (Reads c.args.from answer) mid c.read_part-answer.new.self.state)
     (alike.length Direction.Read c.args.from) c.read_part-answer.ensures.reads in
-    let told : Tells g.T.Tap.note_gives c.begin_frame.new.tap c.read_part-answer.new.tap (IsReadPart old c.args.cuts.now c.args.from answer c.in-Ok.begun.bits) =
-    (part.0, part.1, read_before old mid c.args.cuts.now c.args.from answer c.in-Ok.begun.bits part.0 alike part.2) in
+    let told : Tells g.T.Tap.note_gives c.begin_frame.new.tap c.read_part-answer.new.tap (IsReadPart old c.args.cuts.now c.args.from answer c.in-Ok.start.bits) =
+    (part.0, part.1, read_before old mid c.args.cuts.now c.args.from answer c.in-Ok.start.bits part.0 alike part.2) in
     transferred g.T.Tap.note_gives c.args.tap.now c.begin_frame.new.tap c.read_part-answer.new.tap c.args.self.now c.begin_frame.new.self c.read_part-answer.new.self
-    (Event.ReadFrom c.args.from (given_for served) c.args.cuts.now) c.args.cuts.now served answer begins.0 c.in-Ok.begun.bits (read_bits count answer) c.args.role.now (Reads c.args.from answer)
+    (Event.ReadFrom c.args.from (given_for served) c.args.cuts.now) c.args.cuts.now served answer begins.0 c.in-Ok.start.bits (read_bits count answer) c.args.role.now (Reads c.args.from answer)
     (IsReadPart old c.args.cuts.now c.args.from answer)
     (read_free old c.args.cuts.now c.args.from c.requires.fits.1 (sym c.cuts_active.ensures ∙ c.if-cuts_active.false) (sym c.is_no_partner.ensures ∙ c.if-is_no_partner.false))
     (λ frame. (record { served = served; answer = answer }, refl, frame)) (λ symbols w. w) (λ lost done h. reads_leave c.args.from answer lost mid done h)

@@ -31,10 +31,10 @@ returns-clause-reads g c =
     let same : HasDevices st c.self.inside.devices c.active-active.result = has_devices _ _ _ c.self.view_is c.active-active.ensures in
     let legacy : st.legacy ≡ c.self.inside.legacy = ap (λ (h : Held). h.state.legacy) (sym c.self.view_is) in
     let count : ℕ = transfer_length st Direction.Read c.args.from in
-    let by : ℕ → Answer → Type 0 = λ (n : ℕ) (a : Answer). Reads c.args.from a (lost_by c.args.cuts.now (c.args.begun + n)) st st in
+    let by : ℕ → Answer → Type 0 = λ (n : ℕ) (a : Answer). Reads c.args.from a (lost_by c.args.cuts.now (c.args.bits_before + n)) st st in
     let bits = c.read-read.ensures.bits st same legacy in (
       st,
       subst (λ (a : Answer). by (read_bits count a) a) (sym c.answer-answer.ensures)
           (subst (λ (n : ℕ). by n (read_answer c.args.from c.read-read.result)) bits (c.read-read.ensures.reads st same legacy)),
-      c.drop_lost.ensures.state ∙ ap (λ (n : ℕ). emptied (lost_by c.args.cuts.now (c.args.begun + n)) st) (c.bits.ensures ∙ (bits ∙ ap (read_bits count) (sym c.answer-answer.ensures))),
+      c.drop_lost.ensures.state ∙ ap (λ (n : ℕ). emptied (lost_by c.args.cuts.now (c.args.bits_before + n)) st) (c.bits.ensures ∙ (bits ∙ ap (read_bits count) (sym c.answer-answer.ensures))),
     )

@@ -21,16 +21,16 @@ use Rattle.i3c_bus.proofs.bus.Bus.set_length.Goals.{in-Some+else-is_no_target, i
 
 pub length_part-answer-requires-clause-left : goal.length_part-answer-requires-clause-left
 length_part-answer-requires-clause-left g c =
-    begun_uncut c.args.self.now.state c.begin_frame.new.self.state c.args.cuts.now c.in-Ok.begun.served c.in-Ok.ensures.begins.0 c.in-Ok.ensures.begins.1 (sym c.cuts_active.ensures ∙ c.if-cuts_active.false)
+    begun_uncut c.args.self.now.state c.begin_frame.new.self.state c.args.cuts.now c.in-Ok.start.served c.in-Ok.ensures.begins.0 c.in-Ok.ensures.begins.1 (sym c.cuts_active.ensures ∙ c.if-cuts_active.false)
 
 pub returns-clause-carried : goal.returns-clause-carried
 returns-clause-carried g c =
     let old : State = c.args.self.now.state in
     let mid : State = c.begin_frame.new.self.state in
     let new : State = c.length_part-answer.new.self.state in
-    let served : Served = c.in-Ok.begun.served in
+    let served : Served = c.in-Ok.start.served in
     let answer : Answer = c.length_part-answer.result in
-    let begun : ℕ = c.in-Ok.begun.bits in
+    let begun : ℕ = c.in-Ok.start.bits in
     let begins = c.in-Ok.ensures.begins in
     let to : c.match-to.to ≡ c.args.to = elim c.match-to.branch [
       | in-Some+else-is_no_target w ↦ w.to-is ∙ sym w.in-Some.is

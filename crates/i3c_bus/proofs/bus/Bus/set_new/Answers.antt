@@ -16,32 +16,32 @@ use Rattle.i3c_bus.proofs.bus.Bus.set_new.Goals as goal
 
 pub new_part-answer-requires-clause-left : goal.new_part-answer-requires-clause-left
 new_part-answer-requires-clause-left g c =
-    begun_uncut c.args.self.now.state c.begin_frame.new.self.state c.args.cuts.now c.in-Ok.begun.served c.in-Ok.ensures.begins.0 c.in-Ok.ensures.begins.1 (sym c.cuts_active.ensures ∙ c.if-cuts_active.false)
+    begun_uncut c.args.self.now.state c.begin_frame.new.self.state c.args.cuts.now c.in-Ok.start.served c.in-Ok.ensures.begins.0 c.in-Ok.ensures.begins.1 (sym c.cuts_active.ensures ∙ c.if-cuts_active.false)
 
 pub new_part-answer-requires-clause-there : goal.new_part-answer-requires-clause-there
 new_part-answer-requires-clause-there g c =
     let settled : IsSettled c.args.self.now.state c.begin_frame.new.self.state =
-    settled_served c.args.self.now.state (given_for c.in-Ok.begun.served) _ c.in-Ok.begun.served c.begin_frame.new.self.state (c.in-Ok.ensures.begins.1.serves 0) in
+    settled_served c.args.self.now.state (given_for c.in-Ok.start.served) _ c.in-Ok.start.served c.begin_frame.new.self.state (c.in-Ok.ensures.begins.1.serves 0) in
     target_same c.args.self.now.state c.begin_frame.new.self.state c.args.old settled (sym c.is_no_target.ensures ∙ c.if-is_no_target.false)
 
 pub new_part-answer-requires-clause-given : goal.new_part-answer-requires-clause-given
 new_part-answer-requires-clause-given g c =
     let settled : IsSettled c.args.self.now.state c.begin_frame.new.self.state =
-    settled_served c.args.self.now.state (given_for c.in-Ok.begun.served) _ c.in-Ok.begun.served c.begin_frame.new.self.state (c.in-Ok.ensures.begins.1.serves 0) in
+    settled_served c.args.self.now.state (given_for c.in-Ok.start.served) _ c.in-Ok.start.served c.begin_frame.new.self.state (c.in-Ok.ensures.begins.1.serves 0) in
     pickable_same c.args.self.now.state c.begin_frame.new.self.state c.args.new settled ∙ (sym c.is_pickable.ensures.same ∙ c.if-not-is_pickable.false)
 
 pub returns-clause-carried : goal.returns-clause-carried
 returns-clause-carried g c =
     let old : State = c.args.self.now.state in
     let mid : State = c.begin_frame.new.self.state in
-    let served : Served = c.in-Ok.begun.served in
+    let served : Served = c.in-Ok.start.served in
     let answer : Answer = c.new_part-answer.result in
     let begins = c.in-Ok.ensures.begins in
     let part = c.new_part-answer.ensures.told in
-    let told : Tells g.T.Tap.note_gives c.begin_frame.new.tap c.new_part-answer.new.tap (IsNewPart old c.args.cuts.now c.args.old c.args.new answer c.in-Ok.begun.bits) =
-    (part.0, part.1, new_before old (given_for served) _ served mid c.args.cuts.now c.args.old c.args.new answer c.in-Ok.begun.bits part.0 (begins.1.serves 0) part.2) in
+    let told : Tells g.T.Tap.note_gives c.begin_frame.new.tap c.new_part-answer.new.tap (IsNewPart old c.args.cuts.now c.args.old c.args.new answer c.in-Ok.start.bits) =
+    (part.0, part.1, new_before old (given_for served) _ served mid c.args.cuts.now c.args.old c.args.new answer c.in-Ok.start.bits part.0 (begins.1.serves 0) part.2) in
     transferred g.T.Tap.note_gives c.args.tap.now c.begin_frame.new.tap c.new_part-answer.new.tap c.args.self.now c.begin_frame.new.self c.new_part-answer.new.self
-    (Event.SetNew c.args.old c.args.new (given_for served) c.args.cuts.now) c.args.cuts.now served answer begins.0 c.in-Ok.begun.bits (kinds_bits (Some c.args.old) answer) c.args.role.now
+    (Event.SetNew c.args.old c.args.new (given_for served) c.args.cuts.now) c.args.cuts.now served answer begins.0 c.in-Ok.start.bits (kinds_bits (Some c.args.old) answer) c.args.role.now
     (SetsNew c.args.old c.args.new answer) (IsNewPart old c.args.cuts.now c.args.old c.args.new answer)
     (new_free old c.args.cuts.now c.args.old c.args.new c.requires.fits.1 (sym c.cuts_active.ensures ∙ c.if-cuts_active.false) (sym c.is_no_target.ensures ∙ c.if-is_no_target.false)
     (sym c.is_pickable.ensures.same ∙ c.if-not-is_pickable.false))

@@ -33,9 +33,9 @@ pub returns-clause-writes : goal.returns-clause-writes
 returns-clause-writes g c =
     let same : HasDevices (seen c.self.inside) c.self.inside.devices c.active-active.result = seen_devices _ _ _ c.self.view_is c.active-active.ensures in
     let done : State = record (seen c.self.inside) { devices = c.write-written.new.devices; legacy = c.write-written.new.legacy } in
-    let by : Answer → Type 0 = λ (a : Answer). Writes c.args.to c.args.bytes.now a (lost_by c.args.cuts.now (c.args.begun + write_bits c.args.bytes.now a)) (seen c.self.inside) done in (
+    let by : Answer → Type 0 = λ (a : Answer). Writes c.args.to c.args.bytes.now a (lost_by c.args.cuts.now (c.args.bits_before + write_bits c.args.bytes.now a)) (seen c.self.inside) done in (
       done,
-      subst (λ (h : Held). Writes c.args.to c.args.bytes.now c.answer-answer.result (lost_by c.args.cuts.now (c.args.begun + write_bits c.args.bytes.now c.answer-answer.result)) h.state done)
+      subst (λ (h : Held). Writes c.args.to c.args.bytes.now c.answer-answer.result (lost_by c.args.cuts.now (c.args.bits_before + write_bits c.args.bytes.now c.answer-answer.result)) h.state done)
           c.self.view_is (subst by (sym c.answer-answer.ensures) (c.write-written.ensures.writes (seen c.self.inside) same refl)),
-      c.drop_lost.ensures.state ∙ ap (λ (n : ℕ). emptied (lost_by c.args.cuts.now (c.args.begun + n)) done) c.write_bits.ensures,
+      c.drop_lost.ensures.state ∙ ap (λ (n : ℕ). emptied (lost_by c.args.cuts.now (c.args.bits_before + n)) done) c.write_bits.ensures,
     )

@@ -6,12 +6,12 @@ use Rattle.i3c_lines.specs.declared.names.Names.{Names}
 use Rattle.i3c_lines.specs.declared.names.Place.{Place}
 use Rattle.i3c_lines.proofs.NameLaws.{IsTested, given_after, given_again, known_after}
 use Rattle.i3c_lines.proofs.names.Names.give_slot.Goals as goal
-use Rattle.i3c_lines.proofs.names.Names.give_slot.Goals.{then-not-is_in+in_ok-empty, else-not-is_in}
+use Rattle.i3c_lines.proofs.names.Names.give_slot.Goals.{then-not-is_in+in_ok-leave_slot, else-not-is_in}
 
 pub returns-clause-known : goal.returns-clause-known
 returns-clause-known c = λ other known. elim c.if-not-is_in.branch [
-  | then-not-is_in+in_ok-empty w ↦
-      known_after _ (Place.Slot c.args.slot) _ _ (c.in_ok-insert.ensures.updates.0 other) (subst (λ (names : Names). IsSome (place_named names other)) (sym w.self-is) (w.empty.ensures.known other known))
+  | then-not-is_in+in_ok-leave_slot w ↦
+      known_after _ (Place.Slot c.args.slot) _ _ (c.in_ok-insert.ensures.updates.0 other) (subst (λ (names : Names). IsSome (place_named names other)) (sym w.self-is) (w.leave_slot.ensures.known other known))
   | else-not-is_in w ↦
       known_after _ (Place.Slot c.args.slot) _ _ (c.in_ok-insert.ensures.updates.0 other) (subst (λ (names : Names). IsSome (place_named names other)) (sym w.self-is) known)
 ]
@@ -20,9 +20,9 @@ pub returns-clause-given : goal.returns-clause-given
 returns-clause-given c =
     let new : Names = record { places = c.insert.new.self; slots = c.if-not-is_in.self.slots; legacies = c.if-not-is_in.self.legacies } in
     elim c.if-not-is_in.branch [
-      | then-not-is_in+in_ok-empty w ↦
-          let emptied : Empties c.args.self.now w.empty.new.self c.args.slot (Place.Slot c.args.slot) =
-          subst (λ place. Empties c.args.self.now w.empty.new.self place (Place.Slot c.args.slot)) c.index-index.ensures.same w.in_ok-empty.ensures.emptied in
+      | then-not-is_in+in_ok-leave_slot w ↦
+          let emptied : Empties c.args.self.now w.leave_slot.new.self c.args.slot (Place.Slot c.args.slot) =
+          subst (λ place. Empties c.args.self.now w.leave_slot.new.self place (Place.Slot c.args.slot)) c.index-index.ensures.same w.in_ok-leave_slot.ensures.emptied in
           given_after c.args.self.now c.if-not-is_in.self new c.args.name.now c.args.slot (subst (λ (names : Names). Empties c.args.self.now names c.args.slot (Place.Slot c.args.slot)) (sym w.self-is) emptied)
           (λ other. c.in_ok-insert.ensures.updates.0 other)
       | else-not-is_in w ↦

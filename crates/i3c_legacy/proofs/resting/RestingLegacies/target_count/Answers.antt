@@ -2,7 +2,7 @@
 use Rattle.std.proofs.Common.{ap, length, sym, ◌∙◌}
 use Rattle.i3c_base.specs.State.{Board}
 use Rattle.i3c_legacy.proofs.LegacyLaws.{address_of, counted}
-use Rattle.i3c_legacy.proofs.resting.RestingLegacies.len.Goals as goal
+use Rattle.i3c_legacy.proofs.resting.RestingLegacies.target_count.Goals as goal
 
 pub returns-clause-count : goal.returns-clause-count
 returns-clause-count c =

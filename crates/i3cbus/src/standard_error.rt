@@ -1,0 +1,24 @@
+use i3c_scenario::Witness;
+use std::str;
+
+/// Standard error, on which the program explains the lines of a watched run.
+#[derive(Drop)]
+pub(crate) struct StandardError<'a, R> {
+    runtime: &'a R,
+}
+
+impl<'a, R> StandardError<'a, R> {
+    /// The standard error of a runtime.
+    pub(crate) fn new(runtime: &'a R) -> StandardError<'a, R> {
+        StandardError { runtime }
+    }
+}
+
+impl<R: Eprint> Witness for StandardError<'_, R> {
+    fn tell(&mut self, line: &[u8]) {
+        if let Ok(text) = str::from_utf8(line) {
+            // what can't be told isn't missed
+            let _ = self.runtime.eprint(text);
+        }
+    }
+}
