@@ -671,7 +671,7 @@ static enum daskreyf_result get_bytes(
     return told_bytes(bus, word + strlen("get"), bytes, least, most, count);
 }
 
-/* The same of a datum that has just so many bytes. */
+/* The same of a datum that has exactly this number of bytes. */
 static enum daskreyf_result get_datum(struct daskreyf *bus, const char *word, uint8_t address, uint8_t *bytes, size_t count)
 {
     size_t had;

@@ -535,11 +535,11 @@ class Bus:
         return self._told("getcaps", address)
 
     def set_mwl(self, length: int, address: int | None = None) -> Served | None:
-        """`setmwl`: the device at the address, or everybody, takes so many bytes in a write at most. [5.1.9.3.5]"""
+        """`setmwl`: the device at the address, or everybody, takes this number of bytes in a write at most. [5.1.9.3.5]"""
         return self._length("setmwl", length, address)
 
     def set_mrl(self, length: int, address: int | None = None) -> Served | None:
-        """`setmrl`: the device at the address, or everybody, gives so many bytes to a read at most. [5.1.9.3.6]"""
+        """`setmrl`: the device at the address, or everybody, gives this number of bytes to a read at most. [5.1.9.3.6]"""
         return self._length("setmrl", length, address)
 
     def _length(self, word: str, length: int, address: int | None) -> Served | None:

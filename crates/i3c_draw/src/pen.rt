@@ -2,10 +2,10 @@ ghost use Rattle.std.specs.Prelude.{◌≡◌, ◌≤◌, ◌++◌, OnOk};
 ghost use Rattle.i3c_draw.specs.Rows.{box_text, boxes_text, class_of};
 
 use crate::driver::{Driver, Turn};
-use crate::traces::{Line, last_level, push_trace, symbol_width};
+use crate::traces::{last_level, push_trace, symbol_width};
 use i3c_frame::Symbol;
 use i3c_text::Text;
-use i3c_wave::Level;
+use i3c_wave::{Level, Line};
 use std::alloc::AllocError;
 
 /// Where a wire begins on the left, and where it ends on the right.

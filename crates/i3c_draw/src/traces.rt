@@ -4,17 +4,8 @@ ghost use Rattle.i3c_wave.specs.Levels.{levels_of};
 
 use i3c_frame::Symbol;
 use i3c_text::Text;
-use i3c_wave::{Level, Levels};
+use i3c_wave::{Level, Levels, Line};
 use std::alloc::AllocError;
-
-/// One of the two lines.
-#[derive(Clone, Copy, Debug, PartialEq, Eq)]
-pub(crate) enum Line {
-    /// The clock.
-    Scl,
-    /// The data.
-    Sda,
-}
 
 /// How far a level of a symbol goes to the right.
 fn level_width(symbol: &Symbol) -> u64

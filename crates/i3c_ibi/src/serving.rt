@@ -28,15 +28,15 @@ pub enum Reading {
     WantsRole(Addr7),
     /// An interrupt was accepted, and this is its record.
     Due(Record),
-    /// The interrupt at this address was accepted, and T after its byte was read as 1: no driver was left to end the byte,
-    /// and this was read of it.
+    /// The interrupt at this address was accepted, but each target that drove it lost power before the T of its byte,
+    /// which was read as 1. The byte is as the controller read it.
     Torn(Addr7, u8),
 }
 
 impl Reading {
     ghost use Rattle.i3c_ibi.specs.Serving.{word_bits};
 
-    /// The bits of the mandatory word that was read (I3C Basic 5.1.6.2).
+    /// How many bits of a mandatory byte and its T were read (I3C Basic 5.1.6.2): 9, or 0 without one.
     pub fn word_bits(&self) -> u16
         ensures { result ≡ word_bits self.now }
     {
@@ -48,7 +48,8 @@ impl Reading {
     }
 }
 
-/// Reads the accepted interrupt at this address, which these slots drive.
+/// Reads the mandatory byte of the accepted interrupt at this address, which these slots drive, and takes the interrupt
+/// out of their queues.
 #[inline(always)]
 fn interrupt(
     devices: &mut Devices,
@@ -98,9 +99,9 @@ fn accept(
     }
 }
 
-/// Serves the first request of a frame, in which these devices are cut. The policy decides on it, unless its address has no
-/// row in the table. Its drivers lose what was accepted, and the mandatory byte is read if the table says that there is one
-/// (I3C Basic 5.1.6.2).
+/// Serves the first request of a frame, in which these devices are cut. The policy decides on it, unless its address has
+/// no row in the table. Its drivers lose what was accepted, and the mandatory byte is read if the table says that there
+/// is one (I3C Basic 5.1.6.2).
 #[inline(always)]
 pub fn serve<P: Policy>(
     devices: &mut Devices,

@@ -5,7 +5,7 @@ use crate::legacy_targets::{LegacyTargets, Placed};
 use std::alloc::{AllocError, Global};
 use std::marker::Model;
 
-/// The legacy I2C targets of a bus as they were at some time. They take room only for those that there are.
+/// A copy of the legacy I2C targets of a bus, without room for others.
 ///
 /// Clauses see a place for each of the 128 addresses.
 #[derive(Drop)]

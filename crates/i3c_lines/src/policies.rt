@@ -114,7 +114,7 @@ fn push_names(tokens: &mut Tokens<'_>, names: &mut ArrayVec<Name, EXCEPTED>) -> 
     push_names(tokens, names)
 }
 
-/// The policy that a token makes alone.
+/// The policy that a single token says, `all` or `none`.
 pub(crate) fn alone(token: &[u8]) -> Option<Fixed>
     ensures { MatchOption result ((policy : Fixed) → IsAlone token.now policy → ⊥) (λ policy. IsAlone token.now policy) }
 {
@@ -138,7 +138,7 @@ fn accept_each(policy: Fixed, tokens: &mut Tokens<'_>) -> Option<Fixed>
     accept_each(next, tokens)
 }
 
-/// A policy that accepts a token's kind as well, which it turned down.
+/// The policy that also accepts a token's kind, unless it did already.
 pub(crate) fn accept(policy: Fixed, token: &[u8]) -> Option<Fixed>
     ensures { MatchOption result ((next : Fixed) → Accepts token.now policy next → ⊥) (λ next. Accepts token.now policy next) }
 {

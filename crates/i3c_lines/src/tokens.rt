@@ -239,7 +239,8 @@ pub(crate) fn length(token: &[u8]) -> Option<Length>
     Length::new(number as u8).ok()
 }
 
-/// Kinds of events: two hex digits. Bit 0 names interrupts, bit 1 role requests and bit 3 Hot-Join; other bits are dropped.
+/// Kinds of events: two hex digits. Bit 0 names interrupts, bit 1 role requests and bit 3 Hot-Join; other bits are
+/// dropped.
 pub(crate) fn kinds(token: &[u8]) -> Option<Kinds>
     ensures form { IsSome result ↔ IsHex BYTE_DIGITS token.now }
     ensures value { IfSome result (λ kinds. kinds.0 ≡ bit_and (digits_value RADIX token.now) KNOWN_KINDS) }
@@ -267,7 +268,7 @@ pub(crate) fn bytes(token: &[u8]) -> Option<ArrayVec<u8, WRITE_KEPT>>
     Some(bytes)
 }
 
-/// Appends the bytes that pairs of hex digits write, as long as there is a place.
+/// Decodes pairs of hex digits, and appends their bytes while there is room. Further pairs are only checked.
 fn push_pairs(digits: &[u8], bytes: &mut ArrayVec<u8, WRITE_KEPT>) -> Option<()>
     ensures form { IsSome result ↔ AreBytes digits.now }
     ensures value { IfSome result (λ _. bytes.new.items ≡ bytes.old.items ++ take (WRITE_KEPT - length bytes.old.items) (pair_values digits.now)) }
@@ -284,7 +285,7 @@ fn push_pairs(digits: &[u8], bytes: &mut ArrayVec<u8, WRITE_KEPT>) -> Option<()>
     push_pairs(rest, bytes)
 }
 
-/// Nothing, if a token is of pairs of hex digits.
+/// Checks that these are pairs of hex digits, and stores nothing.
 #[cold]
 #[inline(never)]
 fn check_pairs(digits: &[u8]) -> Option<()>

@@ -1,4 +1,4 @@
-use crate::device::PlainEntry;
+use crate::plain_entry::PlainEntry;
 use crate::faults::OutOfMemory;
 use crate::plain::{Choice, Plain};
 use i3c_base::{Addr7, Cuts, Identity, RoundReply, Served};
@@ -126,8 +126,8 @@ impl Plain {
             .min()
     }
 
-    // The winner of a round, if it has one: the least identity of the hearers that aren't lost, unless the choice is that a
-    // lost one has beaten it.
+    // The winner of a round, if it has one: the least identity of the hearers that aren't lost, unless the choice is that
+    // a lost one has beaten it.
     fn winner(&self, cuts: &Cuts, choice: Choice) -> Option<Identity>
         ensures lawful { MatchOption result (AllHearersLost self.now (lost_by cuts.now 73) ⊎ IsBeatenByLost self.now (lost_by cuts.now 73)) (IsWinner self.now (lost_by cuts.now 73)) }
         ensures chosen { MatchOption result (¬ (choice ≡ ChoiceValue.Lost) → AllHearersLost self.now (lost_by cuts.now 73)) (λ _. choice ≡ ChoiceValue.Lost → ¬ (AllHearersLost self.now (lost_by cuts.now 73) ⊎ IsBeatenByLost self.now (lost_by cuts.now 73))) }

@@ -17,6 +17,7 @@ mod kinds;
 mod limiting;
 mod local;
 mod plain;
+mod plain_entry;
 mod reading;
 mod refusals;
 mod serving;

@@ -1,4 +1,5 @@
-use crate::device::{PlainDevice, PlainEntry};
+use crate::device::PlainDevice;
+use crate::plain_entry::PlainEntry;
 use crate::faults::OutOfMemory;
 use i3c_base::{Addr7, Change, Identity, LegacyTarget, Record, SLOTS, Slot};
 use i3c_step::{Event, Reply};
@@ -6,8 +7,8 @@ use std::alloc::Global;
 use std::collections::BTreeMap;
 use std::marker::Model;
 
-/// Decides the result of an event where drop-offs leave it open. If the choice isn't possible, the first of the three that is
-/// possible is taken in its place; if nothing is open, the choice has no effect.
+/// Decides the result of an event where drop-offs leave it open. If the choice isn't possible, the first of the three
+/// that is possible is taken in its place; if nothing is open, the choice has no effect.
 #[derive(Clone, Copy, Debug, PartialEq, Eq)]
 pub enum Choice {
     /// The last signal of a lost device was heard: an interrupt is recorded, an identity gets its address, a command or a

@@ -1,4 +1,4 @@
-use crate::device::PlainEntry;
+use crate::plain_entry::PlainEntry;
 use crate::enabling::kinds_bits;
 use crate::faults::OutOfMemory;
 use crate::plain::{Choice, Plain};
@@ -80,8 +80,8 @@ impl Plain {
         Ok(Reply::Framed(Framed { served, answer }))
     }
 
-    // The answer to SETDASA, whose header to the static address ends with this bit. That header isn't acknowledged if nobody
-    // is there, or if that is chosen and nobody is left.
+    // The answer to SETDASA, whose header to the static address ends with this bit. That header isn't acknowledged if
+    // nobody is there, or if that is chosen and nobody is left.
     fn static_answer(&self, fixed: Addr7, cuts: &Cuts, header_end: u16, choice: Choice) -> Answer
         ensures lawful { MayTake self.now fixed (lost_by cuts.now header_end) result }
         ensures chosen { TakesAsChosen self.now fixed (lost_by cuts.now header_end) choice result }

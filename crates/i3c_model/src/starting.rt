@@ -1,4 +1,5 @@
-use crate::device::{PlainDevice, PlainEntry};
+use crate::device::PlainDevice;
+use crate::plain_entry::PlainEntry;
 use crate::faults::PlainFault;
 use crate::plain::Plain;
 use i3c_base::{Addr7, Identity, LegacyTarget, REGISTERS, SLOTS, Setup, Slot};

@@ -69,30 +69,30 @@ impl Decoded {
     }
 }
 
-/// Appends some words and a number.
+/// Appends a prefix and a number.
 #[inline(always)]
-pub(crate) fn push_number(words: &[u8], number: usize, text: &mut Text) -> Result<(), AllocError>
-    ensures { OnOk result (text.new ≡ text.old ++ number_text words.now number) }
+pub(crate) fn push_number(prefix: &[u8], number: usize, text: &mut Text) -> Result<(), AllocError>
+    ensures { OnOk result (text.new ≡ text.old ++ number_text prefix.now number) }
 {
-    text.push(words)?;
+    text.push(prefix)?;
     text.push_decimal(number as u64)
 }
 
-/// Appends some words and a byte.
+/// Appends a prefix and a byte.
 #[inline(always)]
-fn push_byte(words: &[u8], byte: u8, text: &mut Text) -> Result<(), AllocError>
-    ensures { OnOk result (text.new ≡ text.old ++ words_text words.now byte) }
+fn push_byte(prefix: &[u8], byte: u8, text: &mut Text) -> Result<(), AllocError>
+    ensures { OnOk result (text.new ≡ text.old ++ words_text prefix.now byte) }
 {
-    text.push(words)?;
+    text.push(prefix)?;
     text.push_byte(byte)
 }
 
-/// Appends some words and an address.
+/// Appends a prefix and an address.
 #[inline(always)]
-pub(crate) fn push_address(words: &[u8], address: Addr7, text: &mut Text) -> Result<(), AllocError>
-    ensures { OnOk result (text.new ≡ text.old ++ words_text words.now address) }
+pub(crate) fn push_address(prefix: &[u8], address: Addr7, text: &mut Text) -> Result<(), AllocError>
+    ensures { OnOk result (text.new ≡ text.old ++ words_text prefix.now address) }
 {
-    push_byte(words, address.get(), text)
+    push_byte(prefix, address.get(), text)
 }
 
 /// Appends how many entries a list has.
@@ -115,7 +115,7 @@ fn push_request(
     ensures { OnOk result (text.new ≡ text.old ++ (request_text request.now ++ (verdict_text accepted ++ byte_after byte))) }
 {
     push_asked(request, text)?;
-    text.push(verdict_words(accepted))?;
+    text.push(verdict_text(accepted))?;
     push_after(byte, text)
 }
 
@@ -131,9 +131,9 @@ fn push_asked(request: &Request, text: &mut Text) -> Result<(), AllocError>
     }
 }
 
-/// The words for the controller's answer to a request.
+/// The text for the controller's answer to a request.
 #[inline(always)]
-fn verdict_words(accepted: bool) -> &'static [u8]
+fn verdict_text(accepted: bool) -> &'static [u8]
     ensures { result.now ≡ verdict_text accepted }
 {
     if accepted {
@@ -151,12 +151,12 @@ fn push_round(identity: u64, byte: u8, taken: bool, text: &mut Text) -> Result<(
     text.push(b"round ")?;
     text.push_hex(identity)?;
     push_byte(b" ", byte, text)?;
-    text.push(taken_words(taken))
+    text.push(taken_text(taken))
 }
 
-/// The words for whether somebody took the address of a round.
+/// The text for whether somebody took the address of a round.
 #[inline(always)]
-fn taken_words(taken: bool) -> &'static [u8]
+fn taken_text(taken: bool) -> &'static [u8]
     ensures { result.now ≡ taken_text taken }
 {
     if taken { b" taken" } else { b" not taken" }
@@ -176,7 +176,7 @@ fn push_single(
     push_answer(byte, text)
 }
 
-/// The words for a command to single targets.
+/// The text for a command to single targets.
 #[inline(always)]
 fn command_words(command: &Direct) -> &'static [u8]
     ensures { result.now ≡ command_text command.now }
@@ -279,7 +279,7 @@ fn length_name(way: Direction) -> &'static [u8]
     }
 }
 
-/// The words for the direction of a private transfer.
+/// The text for the direction of a private transfer.
 #[inline(always)]
 fn transfer_words(read: bool) -> &'static [u8]
     ensures { result.now ≡ transfer_text read }

@@ -118,7 +118,7 @@ fn short_frame(event: &Event) -> Option<ShortEntry>
     }
 }
 
-/// The reply in short, where no bytes are in it.
+/// The short form of a reply, unless it is about bytes that were read.
 pub(crate) fn short_reply_of(reply: &Reply) -> Option<ShortReply>
     ensures { MatchOption result ⊤ (λ said. reply.now ≡ reply_in said) }
 {
@@ -133,7 +133,7 @@ pub(crate) fn short_reply_of(reply: &Reply) -> Option<ShortReply>
         Reply::Framed(framed) => match framed.answer {
             Answer::Done => Some(ShortReply::Done(framed.served)),
             Answer::NoAnswer(address) => Some(ShortReply::NoAnswer(framed.served, address)),
-            _ => None,
+            Answer::Bytes(_) | Answer::NoEnd => None,
         },
         Reply::Opened(served) => Some(ShortReply::Opened(*served)),
         Reply::Handed(served) => Some(ShortReply::Handed(*served)),

@@ -28,7 +28,7 @@ pub enum StressFault {
     /// There was no memory, or no thread could be started.
     #[error("out of memory")]
     Memory,
-    /// The bus refused what it never refuses without other users, or its counts disagree.
+    /// The bus refused a setup, a slot or a call of this run, as no bus without other users does, or its counts disagree.
     #[error("not balanced")]
     NotBalanced,
 }

@@ -92,7 +92,7 @@ pub(crate) fn begin<L: Ledger, M: Ledger, N: Ledger, R: Threads + Wait + Sync>(
     }
 }
 
-/// Adds a port, or spends it where there is no memory.
+/// Adds a port, or lets it go where there is no memory.
 fn keep(ports: &mut Vec<Port>, port: Port) -> Result<(), StressFault> {
     match ports.push(port) {
         Ok(()) => Ok(()),

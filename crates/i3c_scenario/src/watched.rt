@@ -262,7 +262,8 @@ impl WatchedRun {
         Ok(())
     }
 
-    /// Shows what waits, each line of it with its number, if that is asked for.
+    /// Moves the pending output to `shown`, with the number of the script's line in front of each of its lines if numbers
+    /// are asked for.
     fn number(&mut self, number: u64) -> Result<(), AllocError>
         ensures shown { OnOk result (self.new.shown ≡ numbered_by self.old.watching number self.old.plain) }
         ensures script { self.new.script ≡ self.old.script }
@@ -279,7 +280,7 @@ impl WatchedRun {
         }
     }
 
-    /// Takes the run apart, and tells how many lines were refused, and how many expectations weren't met.
+    /// Ends the run, and answers how many lines were refused and how many expectations weren't met.
     fn retire(self) -> Tally
         ensures refused { result.refused ≡ self.script.refused }
         ensures unmet { result.unmet ≡ self.script.unmet }
@@ -296,7 +297,7 @@ impl WatchedRun {
     }
 }
 
-/// Appends a line's number, and why it has no form.
+/// Appends a line's number, and why it can't be parsed.
 fn push_formless(
     alloc: Global,
     number: u64,
@@ -308,7 +309,7 @@ fn push_formless(
     fault.push(alloc, text)
 }
 
-/// Appends a text, with this start in front of each of its lines.
+/// Appends a text, with this prefix in front of each of its lines.
 fn push_numbered(text: &mut Text, start: &[u8], plain: &[u8]) -> Result<(), AllocError>
     ensures { OnOk result (text.new ≡ text.old ++ numbered start.now true plain.now) }
 {

@@ -5,7 +5,7 @@ use Rattle.i3c_log_laws.specs.Behind.{reply_from}
 use Rattle.i3c_lines.specs.declared.names.Names.{Names}
 use Rattle.i3c_lines.specs.declared.refusals.Refusal.{Refusal}
 use Rattle.i3c_text.specs.declared.stop.Stop.{Stop}
-use Rattle.i3c_script.specs.declared.telling.Subject.{Subject}
+use Rattle.i3c_script.specs.declared.replies.Subject.{Subject}
 use Rattle.i3c_script.specs.Printed.{reply_text}
 use Rattle.i3c_script.specs.Stops.{Ends, reply_refusal}
 

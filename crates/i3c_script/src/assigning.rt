@@ -12,7 +12,7 @@ ghost use Rattle.i3c_script.specs.Ran.{ran_of};
 ghost use Rattle.i3c_script.specs.Telling.{Prints};
 
 use crate::outcomes::outcome_of_round;
-use crate::telling::{show_request, show_round};
+use crate::replies::{show_request, show_round};
 use crate::wires::Wires;
 use i3c_base::{Cuts, RoundReply, SLOTS};
 use i3c_bus::{ActiveStays, Bus, Hand, Refusal as BusRefusal, Session};
@@ -20,8 +20,8 @@ use i3c_lines::Refusal;
 use i3c_text::{Stop, Text};
 use std::alloc::AllocError;
 
-/// `daa`: opens a session, in which these are cut, runs its rounds and ends it. A request at its opening is turned down. It
-/// answers the role or session in hand afterwards, and the line's result.
+/// `daa`: opens a session, in which these are cut, runs its rounds and ends it. A request at its opening is turned down.
+/// It answers the role or session in hand afterwards, and the line's result.
 pub(crate) fn assign(
     hand: Hand,
     bus: &mut Bus,

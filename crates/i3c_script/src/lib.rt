@@ -1,16 +1,17 @@
-//! What the lines of a script do. Each line's command is obeyed on a stage, before the bus or with it, and prints its result.
+//! What the lines of a script do. Each line's command is obeyed on a stage, before the bus or with it, and prints its
+//! result.
 //!
-//! A line of one event takes one path: `stage` hands its command to `running`, which makes the event and has the bus answer
-//! it, and `telling` prints the reply.
+//! A line of one event takes one path: `stage` hands its command to `running`, which makes the event and has the bus
+//! answer it, and `telling` prints the reply.
 //!
 //! * `stage` is where a script is, before its bus and with it. * `settings` is what the script's lines have set. * `running`
-//! makes a command's event. * `telling` prints a reply. * `asking` finds the slots that names mean. * `assigning` plays the
-//! whole session of a `daa`. * `show` prints the bus. * `details` prints all of it. * `tenures` tells the active controllers
-//! of recorded interrupts. * `wires` keeps the last symbols. * `symbols` and `frames` print them. * `outcomes` gives the
-//! result of a line, by the bus's reply. * `laws` says that lines make legal runs.
+//! makes a command's event. * `telling` prints a reply. * `asking` finds the slots that names mean. * `assigning` plays
+//! the whole session of a `daa`. * `show` prints the bus. * `details` prints all of it. * `tenures` tells the active
+//! controllers of recorded interrupts. * `wires` keeps the last symbols. * `symbols` and `frames` print them. *
+//! `outcomes` gives the result of a line, by the bus's reply. * `laws` says that lines make legal runs.
 #![tactic(auto)]
 
-mod asking;
+mod slot_lookup;
 mod assigning;
 mod details;
 mod frames;
@@ -21,11 +22,11 @@ mod settings;
 mod show;
 mod stage;
 mod symbols;
-mod telling;
+mod replies;
 mod tenures;
 mod wires;
 
-pub use asking::entrance_at;
+pub use slot_lookup::entrance_at;
 pub use laws::scripts_are_legal_runs;
 pub use outcomes::outcome_of;
 pub use running::Running;

@@ -2,12 +2,12 @@ ghost use Rattle.std.specs.Prelude.{◌≡◌, Some, None};
 ghost use Rattle.i3c_base.specs.Cutting.{no_cuts};
 ghost use Rattle.i3c_bus.specs.declared.hand.Hand.{Hand as HandValue};
 
-use crate::asking::{entrance, slot_of_device, slots_of_devices};
+use crate::slot_lookup::{entrance, slot_of_device, slots_of_devices};
 use crate::assigning;
 use crate::details::show_all;
 use crate::settings::Settings;
 use crate::show::{show_bus, show_bus_behind};
-use crate::telling::{
+use crate::replies::{
     count_from, subject_of, tell, tell_attached, tell_dropped, tell_frame, tell_join, tell_raised,
     tell_role,
 };
@@ -24,8 +24,8 @@ use std::alloc::{AllocError, Global};
 use std::marker::Model;
 use std::mem;
 
-/// A bus, its role or session, the last symbols of its wire, what its lines have set, the cuts that wait for the next frame,
-/// and its former active controllers.
+/// A bus, its role or session, the last symbols of its wire, what its lines have set, the cuts that wait for the next
+/// frame, and its former active controllers.
 ///
 /// The role is in an `Option`, so that an event can take it from a stage that is lent, and give one back.
 pub struct Running {
@@ -194,8 +194,8 @@ impl Running {
         tell_frame(names, frame, &reply, text)
     }
 
-    // The lines below are kept apart, so that raises and the frames under the role don't pay for the room that they take on
-    // the stack.
+    // The lines below are kept apart, so that raises and the frames under the role don't pay for the room that they take
+    // on the stack.
 
     /// `attach`: a device enters the lowest free slot, and gets its name.
     #[inline(never)]
@@ -360,7 +360,7 @@ impl Running {
         self.settings.forget(&mut self.bus, last);
     }
 
-    /// The cuts that wait; none is left.
+    /// Takes the cuts that wait for the next frame.
     fn take_cuts(&mut self) -> Cuts
         ensures taken { result ≡ self.old.cuts }
         ensures left { self.new ≡ record self.old { cuts = no_cuts } }
@@ -368,7 +368,7 @@ impl Running {
         self.cuts.take()
     }
 
-    /// `daa`: a whole session. The cuts that wait are its opening's.
+    /// `daa`: a whole session. The cuts that wait apply to its opening frame.
     #[inline(never)]
     fn assign(&mut self, text: &mut Text) -> Result<(), Stop<Refusal>>
         ensures { Prints (λ said refused. Assigns self.old said refused self.new) text.old text.new result }
@@ -467,7 +467,8 @@ impl Running {
         }
     }
 
-    /// Copies the last symbols of the wire, the oldest first, at most 256. From now on `copy_later` copies those that come.
+    /// Copies the last symbols of the wire, the oldest first, at most 256. From now on `copy_later` copies those that
+    /// come.
     pub fn copy_wire(&mut self, symbols: &mut Vec<Symbol>) -> Result<(), AllocError>
         ensures same { self.new ≡ self.old }
         ensures copied { OnOk result (symbols.new.items ≡ self.old.wire) }

@@ -35,7 +35,8 @@ pub enum Refusal {
     NoAnswer(Addr7),
     /// The write has more bytes than a transfer may bring.
     TooLong,
-    /// The address that a device would be given may not be picked. SETDASA may give the one that is kept for its identity.
+    /// The address that a device would be given may not be picked. SETDASA may give the one that is kept for its
+    /// identity.
     BadAddress(Addr7),
 }
 
@@ -282,8 +283,7 @@ pub enum WriteFault {
     /// There are more bytes than a transfer may bring.
     #[error("the write is too long")]
     TooLong,
-    /// The address is no legacy target's, and no device of the active controller's table has it, or it is the active
-    /// controller's own.
+    /// The address is the active controller's own, or neither a legacy target nor a device of its table has it.
     #[error("no device answers to the address")]
     NoAnswer(Addr7),
     /// There was no memory for a record.
@@ -327,8 +327,8 @@ pub enum SetFault {
     /// The active controller can't be cut.
     #[error("the active controller stays")]
     ActiveStays,
-    /// No identity is declared at the static address; or no device of the active controller's table has the dynamic
-    /// one, or it is the active controller's own.
+    /// No identity is declared at the static address. Of a dynamic one: it is the active controller's own, or no device
+    /// of its table has it.
     #[error("no device answers to the address")]
     NoAnswer(Addr7),
     /// The new address may not be picked. SETDASA may give the one that is kept for the identity.

@@ -4,7 +4,7 @@ ghost use Rattle.i3c_base.specs.Sets.{is_in};
 ghost use Rattle.i3c_base.specs.State.{is_the};
 ghost use Rattle.i3c_table.specs.Stored.{again_stored, home_stored, kept_at, IsInOrder};
 
-use crate::order::Order;
+use crate::sorted_addresses::SortedAddresses;
 use crate::registers::Registers;
 use i3c_base::{ADDRESSES, Addr7, Addresses, Identity};
 use i3c_legacy::Legacies;
@@ -17,7 +17,7 @@ pub(crate) fn keep_for(
     address: Addr7,
     kept: Addresses,
     numbers: &mut [u64; ADDRESSES],
-    order: &mut Order,
+    order: &mut SortedAddresses,
 ) -> Addresses
     requires ordered { IsInOrder kept.0 numbers.old order.old }
     // an address that is kept already is kept for this identity
@@ -45,7 +45,7 @@ pub(crate) fn keep_homes(
     among: Addresses,
     registers: &[Registers; ADDRESSES],
     numbers: &mut [u64; ADDRESSES],
-    order: &mut Order,
+    order: &mut SortedAddresses,
 ) -> Addresses
     requires { order.old ≡ [] }
     ensures ordered { IsInOrder result.0 numbers.new order.new }

@@ -2,7 +2,7 @@
 #![tactic(auto)]
 
 mod keeping;
-mod order;
+mod sorted_addresses;
 mod registers;
 mod resting;
 mod row;

@@ -3,7 +3,7 @@ ghost use Rattle.std.specs.List.{range_with_len};
 ghost use Rattle.i3c_base.specs.declared.range.TheConstants.{ADDRESSES};
 ghost use Rattle.i3c_base.specs.Sets.{is_in};
 
-use crate::order::Order;
+use crate::sorted_addresses::SortedAddresses;
 use crate::registers::Registers;
 use crate::rows::{Rows, are_same};
 use crate::table::Table;
@@ -12,8 +12,8 @@ use i3c_legacy::RestingLegacies;
 use std::alloc::{AllocError, Global};
 use std::marker::Model;
 
-/// A table as it was at some time. Its rows take room up to the last address that was given, and the targets and identities
-/// that are declared take room for themselves. The order of its identities has room for all 128 addresses.
+/// A table as it was at some time. Its rows take room up to the last address that was given, and the targets and
+/// identities that are declared take room for themselves. The order of its identities has room for all 128 addresses.
 ///
 /// Clauses see a place for each of the 128 addresses.
 #[derive(Drop)]
@@ -27,7 +27,7 @@ pub struct RestingTable {
     pub(crate) numbers: Vec<u64>,
     pub(crate) legacies: RestingLegacies,
     // the addresses that are kept, by their numbers
-    pub(crate) order: Order,
+    pub(crate) order: SortedAddresses,
     pub(crate) listed: bool,
 }
 

@@ -3,7 +3,7 @@ ghost use Rattle.i3c_base.specs.Sets.{is_in};
 ghost use Rattle.i3c_table.specs.Rows.{static_in};
 
 use crate::keeping::{keep_for, keep_homes};
-use crate::order::Order;
+use crate::sorted_addresses::SortedAddresses;
 use crate::registers::Registers;
 use crate::resting::RestingTable;
 use crate::row::Row;
@@ -30,7 +30,7 @@ pub struct Table {
     pub(crate) numbers: [u64; ADDRESSES],
     pub(crate) legacies: Legacies,
     // the addresses that are kept, by their numbers
-    pub(crate) order: Order,
+    pub(crate) order: SortedAddresses,
     pub(crate) listed: bool,
 }
 
@@ -72,7 +72,7 @@ impl Table {
             registers: [nothing; ADDRESSES],
             numbers: [0; ADDRESSES],
             legacies,
-            order: Order::new(),
+            order: SortedAddresses::new(),
             listed: false,
         }
     }
@@ -237,7 +237,7 @@ impl Table {
         self.listed = false;
         self.kept = self.kept.without(address);
         self.registers[address.get() as usize].fixed = None;
-        self.order = Order::of(&self.numbers, self.kept);
+        self.order = SortedAddresses::of(&self.numbers, self.kept);
     }
 
     /// Moves a row to a new address, which may be picked (SETNEWDA, I3C Basic 5.1.9.3.11).
@@ -253,7 +253,7 @@ impl Table {
         let to = new.get() as usize;
         self.registers[to] = self.registers[from];
         self.numbers[to] = self.numbers[from];
-        self.order = Order::of(&self.numbers, self.kept);
+        self.order = SortedAddresses::of(&self.numbers, self.kept);
     }
 
     /// The list of this table was sent: it is current (DEFTGTS, I3C Basic 5.1.9.3.7).

@@ -52,17 +52,17 @@ pub(crate) fn push_decimal(text: &mut Vec<u8>, number: u64) -> Result<(), AllocE
     Ok(())
 }
 
-/// Appends some words and a number in decimal digits to a text, and ends the line.
-// where the words are known, appending them takes two or three writes
+/// Appends a prefix and a number in decimal digits to a text, and ends the line.
+// where the prefix is known, appending it takes two or three writes
 #[inline(always)]
-pub(crate) fn push_numbered(text: &mut Vec<u8>, words: &[u8], number: u64) -> Result<(), AllocError>
-    ensures { OnOk result (text.new.items ≡ text.old.items ++ (words.now ++ (decimal number ++ 10 ∷ []))) }
+pub(crate) fn push_numbered(text: &mut Vec<u8>, prefix: &[u8], number: u64) -> Result<(), AllocError>
+    ensures { OnOk result (text.new.items ≡ text.old.items ++ (prefix.now ++ (decimal number ++ 10 ∷ []))) }
 {
     let room = text.capacity() - text.len();
-    if number >= SEVEN_DIGITS || room < words.len().saturating_add(ENDED_PLACES) {
-        return push_longer_numbered(text, words, number);
+    if number >= SEVEN_DIGITS || room < prefix.len().saturating_add(ENDED_PLACES) {
+        return push_longer_numbered(text, prefix, number);
     }
-    text.extend_from_slice(words)?;
+    text.extend_from_slice(prefix)?;
     push_ended(text, number as u32);
     Ok(())
 }
@@ -78,14 +78,14 @@ fn push_longer(text: &mut Vec<u8>, number: u64) -> Result<(), AllocError>
     text.extend_from_slice(buffer.format(number).as_bytes())
 }
 
-/// Appends some words and a number of any length, and ends the line.
+/// Appends a prefix and a number of any length, and ends the line.
 // kept apart with its calls, so that a short number for which there is room pays for none
 #[cold]
 #[inline(never)]
-fn push_longer_numbered(text: &mut Vec<u8>, words: &[u8], number: u64) -> Result<(), AllocError>
-    ensures { OnOk result (text.new.items ≡ text.old.items ++ (words.now ++ (decimal number ++ 10 ∷ []))) }
+fn push_longer_numbered(text: &mut Vec<u8>, prefix: &[u8], number: u64) -> Result<(), AllocError>
+    ensures { OnOk result (text.new.items ≡ text.old.items ++ (prefix.now ++ (decimal number ++ 10 ∷ []))) }
 {
-    text.extend_from_slice(words)?;
+    text.extend_from_slice(prefix)?;
     push_longer(text, number)?;
     text.extend_from_slice(b"\n")
 }

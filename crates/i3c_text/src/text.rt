@@ -46,12 +46,12 @@ impl Text {
         self.bytes.as_slice()
     }
 
-    /// Appends some words. For want of memory it appends nothing.
-    pub fn push(&mut self, words: &[u8]) -> Result<(), AllocError>
-        ensures appended { OnOk result (self.new ≡ self.old ++ words.now) }
+    /// Appends some text. For want of memory it appends nothing.
+    pub fn push(&mut self, text: &[u8]) -> Result<(), AllocError>
+        ensures appended { OnOk result (self.new ≡ self.old ++ text.now) }
         ensures unchanged { OnErr result (self.new ≡ self.old) }
     {
-        self.bytes.extend_from_slice(words)
+        self.bytes.extend_from_slice(text)
     }
 
     /// Appends a number, in decimal digits.
@@ -61,12 +61,12 @@ impl Text {
         push_decimal(&mut self.bytes, number)
     }
 
-    /// Appends some words and a number in decimal digits, and ends the line.
+    /// Appends a prefix and a number in decimal digits, and ends the line.
     #[inline(always)]
-    pub fn push_numbered(&mut self, words: &[u8], number: u64) -> Result<(), AllocError>
-        ensures { OnOk result (self.new ≡ self.old ++ (words.now ++ (decimal number ++ 10 ∷ []))) }
+    pub fn push_numbered(&mut self, prefix: &[u8], number: u64) -> Result<(), AllocError>
+        ensures { OnOk result (self.new ≡ self.old ++ (prefix.now ++ (decimal number ++ 10 ∷ []))) }
     {
-        push_numbered(&mut self.bytes, words, number)
+        push_numbered(&mut self.bytes, prefix, number)
     }
 
     /// Appends a byte, in two hex digits.

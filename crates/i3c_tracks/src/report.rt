@@ -121,7 +121,7 @@ fn push_like(lines: &[Vec<u8>], runs: &[Run<'_>], text: &mut Text) -> Result<(),
     text.end()
 }
 
-/// Appends the lines of blocks among these, with a stroke between each two.
+/// Appends the lines of blocks among these, separated by ` / `.
 fn push_parted(lines: &[Vec<u8>], runs: &[Run<'_>], text: &mut Text) -> Result<(), AllocError>
     ensures { OnOk result (text.new ≡ text.old ++ parted_text lines.now true runs.now) }
 {
@@ -132,8 +132,7 @@ fn push_parted(lines: &[Vec<u8>], runs: &[Run<'_>], text: &mut Text) -> Result<(
     Ok(())
 }
 
-/// Appends a line if it is one of a block, behind the text that parts it from the line before. Answers whether the next is
-/// the first.
+/// Appends a line behind its separator, if it is one of a block. Answers whether the next such line is the first.
 fn push_parted_run(
     lines: &[Vec<u8>],
     run: &Run<'_>,
@@ -151,7 +150,7 @@ fn push_parted_run(
     Ok(false)
 }
 
-/// The text before a line.
+/// The separator in front of a line.
 fn parting(is_first: bool) -> &'static [u8]
     ensures { result.now ≡ parting is_first }
 {

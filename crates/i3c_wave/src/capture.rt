@@ -18,8 +18,8 @@ pub enum Line {
     Sda,
 }
 
-/// A capture that is being read: its time in units of its timescale, the level of the lines, since when they have it, and what
-/// is heard and read of the levels before.
+/// A capture that is being read: its time in units of its timescale, the level of the lines, since when they have it, and
+/// what is heard and read of the levels before.
 #[derive(Clone, Copy, Debug, Drop)]
 pub(crate) struct Capture {
     time: u64,
@@ -72,8 +72,8 @@ impl Capture {
         true
     }
 
-    /// A line has this level from now on: the symbol that is whole by it. A level of the lines that lasted for less than a setup
-    /// time is left out.
+    /// A line has this level from now on: the symbol that is whole by it. A level of the lines that lasted for less than
+    /// a setup time is left out.
     pub fn change(
         &mut self,
         line: Line,
@@ -144,7 +144,7 @@ impl Capture {
         self.read_as(reading)
     }
 
-    /// What a reading makes of it. Before the first START nothing is a fault.
+    /// Handles a reading: a symbol gets its time. Before the first START nothing is a fault.
     fn read_as(&mut self, reading: Reading) -> Result<Option<Stamped>, CaptureFault>
         ensures { Hears (read_as self.old reading) self.new result }
     {
@@ -173,7 +173,7 @@ fn with_line(level: Level, line: Line, high: bool) -> Level
     }
 }
 
-/// Whether two levels are one.
+/// Whether two levels are equal.
 fn is_same_level(one: Level, other: Level) -> bool
     ensures { result ≡ is_same_level one other }
 {

@@ -24,11 +24,11 @@ const HALF: u64 = 1 << 63;
 #[derive(Clone, Copy, Debug, Drop)]
 pub struct Reader {
     legacies: Addresses,
-    /// What comes next, if a frame is open.
+    /// The awaited symbol, if a frame is open.
     place: Option<Awaited>,
-    /// The bits of it so far, as a number.
+    /// The bits of the awaited symbol that were read, as a number.
     number: u64,
-    /// How many of its bits are still to come.
+    /// How many bits of the awaited symbol are still to come.
     left: u8,
 }
 
@@ -103,7 +103,7 @@ impl Reader {
         }
     }
 
-    /// Waits for the next frame.
+    /// Answers that the frame is misread, and waits for the next START.
     fn misread(&mut self) -> Reading
         ensures reading { result ≡ (misread self.old).reading }
         ensures reader { self.new ≡ (misread self.old).reader }
@@ -112,7 +112,7 @@ impl Reader {
         Reading::Misread
     }
 
-    /// Begins the next awaited thing.
+    /// Begins to read the next awaited symbol.
     fn await_place(&mut self, place: Option<Awaited>)
         ensures { self.new ≡ awaiting self.old.legacies place }
     {

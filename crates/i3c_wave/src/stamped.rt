@@ -5,8 +5,8 @@ use crate::capture_fault::CaptureFault;
 use i3c_frame::Symbol;
 use std::alloc::{AllocError, Global};
 
-/// A symbol of a capture, and the time at which it is whole: where the level begins that ends it, in units of the capture's
-/// timescale. A START is whole where SDA falls.
+/// A symbol of a capture, and the time of the level change that completes it, in units of the capture's timescale. A
+/// START is complete where SDA falls.
 #[derive(Clone, Copy, Debug, Drop)]
 pub struct Stamped {
     pub symbol: Symbol,
@@ -38,7 +38,7 @@ fn keep_start(stamped: Stamped, times: &mut Vec<u64>) -> Result<(), AllocError>
 }
 
 /// Keeps a symbol, if there is one.
-// in line, since most words of a dump complete none
+// in line, since most tokens of a dump complete none
 #[inline(always)]
 pub(crate) fn keep_symbol(
     symbol: Option<Stamped>,

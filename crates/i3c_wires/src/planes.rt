@@ -15,7 +15,7 @@ pub struct Planes {
     any: u64,
 }
 
-/// What a contest read, and the slots that won it.
+/// What was read in an arbitration, and the slots that won it.
 #[derive(Clone, Copy)]
 pub struct Won {
     /// The number that was read, which is the least one.
@@ -38,7 +38,7 @@ impl Planes {
         }
     }
 
-    /// A slot's number is this from now on.
+    /// Sets a slot's number.
     pub fn set(&mut self, slot: Slot, number: u64)
         ensures set { self.new.numbers ≡ slice_set self.old.numbers slot number }
         ensures turned { AreTurned self.old → AreTurned self.new }
@@ -54,7 +54,8 @@ impl Planes {
         self.numbers[index] = number;
     }
 
-    /// The contest of these slots, each a bit of the word, the most significant bit first (I3C Basic 5.1.4). Nobody is cut.
+    /// Arbitrates between these slots, each a bit of the word, by the most significant bit first (I3C Basic 5.1.4). No
+    /// device loses power. What the lines read is the least number.
     pub fn contest(&self, among: u64) -> Option<Won>
         requires { AreTurned self.now }
         ensures { MatchOption result (IsNobody among) (IsWon self.now.numbers among) }

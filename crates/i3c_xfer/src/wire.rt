@@ -67,8 +67,8 @@ fn tell_unanswered<T: Tap>(tap: &mut T, to: Addr7, read: bool)
     tap.note(Symbol::Stop);
 }
 
-/// Tells a read that is acknowledged, up to STOP. Each word but the last has a T of 1 or an ACK; the last has this T, or
-/// an ACK where it is true.
+/// Tells a read that is acknowledged, up to STOP. `last` is the ninth bit of the last word, and all others have a 1
+/// there: of a device it is T, of a legacy target whether the controller acknowledges.
 fn tell_answered<T: Tap>(tap: &mut T, to: Addr7, side: &Side, bytes: &[u8], last: bool)
     ensures { Tells T.note_gives tap.old tap.new (λ wire. wire ≡ answered_wire to true (read_words side.now last bytes.now)) }
 {
@@ -82,7 +82,7 @@ fn tell_answered<T: Tap>(tap: &mut T, to: Addr7, side: &Side, bytes: &[u8], last
     tap.note(Symbol::Stop);
 }
 
-/// Tells the words of a read, the last with this T, or an ACK where it is true.
+/// Tells the words of a read. `last` is the ninth bit of the last one, and all others have a 1 there.
 fn tell_words<T: Tap>(tap: &mut T, side: &Side, bytes: &[u8], last: bool)
     ensures { Tells T.note_gives tap.old tap.new (λ wire. wire ≡ read_words side.now last bytes.now) }
 {
@@ -111,7 +111,7 @@ fn tell_written<T: Tap>(tap: &mut T, to: Addr7, side: &Side, bytes: &[u8])
     tap.note(Symbol::Stop);
 }
 
-/// A byte that is read, with its ninth bit: this T, or an ACK where it is true.
+/// A byte that is read, with its ninth bit: T of a device, or whether the controller acknowledges a legacy target.
 fn word_of(side: &Side, byte: u8, ninth: bool) -> Symbol
     ensures { result ≡ word_of side.now ninth byte }
 {

@@ -9,14 +9,14 @@ use i3c_base::{SLOTS, Slot};
 use i3c_bus::{Bus, Refusal as BusRefusal};
 use i3c_lines::{EXCEPTED, Name, Names, Place, Refusal};
 
-/// The slot that a device with this name enters: the lowest free one, if the name isn't taken.
+/// The slot for a new device with this name: the lowest free one, if the name isn't taken.
 pub(crate) fn entrance(bus: &Bus, names: &Names, name: &Name) -> Result<Slot, Refusal>
     ensures { IsEntrance bus.now.state (place_named names.now name.now) result }
 {
     entrance_at(bus, names.place_of(name))
 }
 
-/// The slot that a device enters whose name stands for this place: the lowest free one, if the name isn't taken.
+/// The slot for a new device whose name stands for this place: the lowest free one, if the name isn't taken.
 pub fn entrance_at(bus: &Bus, place: Option<Place>) -> Result<Slot, Refusal>
     ensures { IsEntrance bus.now.state place result }
 {
@@ -41,7 +41,8 @@ pub(crate) fn slot_of_device(bus: &Bus, names: &Names, name: &Name) -> Result<Sl
     }
 }
 
-/// Puts the slots of the present devices that names stand for behind these. It answers why the first is refused that has none.
+/// Appends the slots of the devices with these names. It answers the refusal of the first name that no present device
+/// has.
 pub(crate) fn slots_of_devices(
     bus: &Bus,
     names: &Names,

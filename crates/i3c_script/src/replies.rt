@@ -3,7 +3,7 @@ ghost use Rattle.std.specs.Fmt.{decimal};
 ghost use Rattle.i3c_script.specs.Printed.{assigned_text, attached_text, field_text, frame_subject, framed_text, handed_text, identity_text, opened_text, raised_text, read_token, reply_text, request_text, round_text, served_text, subject_of};
 ghost use Rattle.i3c_step.specs.Replies.{attached_reply, dropped_reply, joins_reply, raised_reply, role_reply};
 ghost use Rattle.i3c_lines.specs.declared.names.Names.{Names as NamesValue};
-ghost use Rattle.i3c_script.specs.declared.telling.Subject.{Subject as SubjectValue};
+ghost use Rattle.i3c_script.specs.declared.replies.Subject.{Subject as SubjectValue};
 ghost use Rattle.i3c_script.specs.Telling.{Counts, IsTold, Prints};
 ghost use Rattle.i3c_log_laws.specs.Behind.{counted_from, reply_from};
 
@@ -60,8 +60,8 @@ pub(crate) fn frame_subject(frame: &Frame) -> Subject
     }
 }
 
-/// Prints the bus's reply to a frame under the role, as `tell` does. Where nobody asked, and the frame's own part was done,
-/// it looks no further.
+/// Prints the bus's reply to a frame under the role, as `tell` does. Where nobody asked, and the frame's own part was
+/// done, it looks no further.
 #[inline(always)]
 pub(crate) fn tell_frame(
     names: &Names,
@@ -257,18 +257,10 @@ fn show_reply(
 fn show_raised(number: u64, text: &mut Text) -> Result<(), AllocError>
     ensures { OnOk result (text.new ≡ text.old ++ raised_text number) }
 {
-    show_number(b"raised ", number, text)
+    text.push_numbered(b"raised ", number)
 }
 
-/// Prints a line of some tokens and a number.
-#[inline(always)]
-fn show_number(tokens: &[u8], number: u64, text: &mut Text) -> Result<(), AllocError>
-    ensures { OnOk result (text.new ≡ text.old ++ (tokens.now ++ (decimal number ++ 10 ∷ []))) }
-{
-    text.push_numbered(tokens, number)
-}
-
-/// Prints the name and the slot of a device that was attached.
+/// Prints the name and the slot of a device that was attached, and nothing of another subject.
 fn show_attached(names: &Names, subject: Subject, text: &mut Text) -> Result<(), AllocError>
     ensures { OnOk result (text.new ≡ text.old ++ attached_text names.now subject) }
 {
@@ -278,7 +270,7 @@ fn show_attached(names: &Names, subject: Subject, text: &mut Text) -> Result<(),
     match names.in_slot(slot) {
         Some(name) => {
             text.push(name.as_bytes())?;
-            show_number(b" slot ", slot.index() as u64, text)
+            text.push_numbered(b" slot ", slot.index() as u64)
         }
         None => Ok(()),
     }
@@ -290,7 +282,7 @@ fn show_served(served: &Served, text: &mut Text) -> Result<(), AllocError>
 {
     match served {
         Served::Quiet => text.push(b"quiet\n"),
-        Served::Recorded(place) => show_number(b"recorded ", *place as u64, text),
+        Served::Recorded(place) => text.push_numbered(b"recorded ", *place as u64),
         Served::Refused => text.push(b"turned down\n"),
         Served::Torn => text.push(b"torn\n"),
         Served::Joining => text.push(b"joining\n"),
@@ -349,7 +341,8 @@ fn show_opened(served: &Served, text: &mut Text) -> Result<(), AllocError>
     text.push(b"open\n")
 }
 
-/// Prints what was served while the role was handed over, and the address of its holder.
+/// Prints what was served while the role was handed over, and the address of its holder. Of another subject it prints
+/// nothing.
 fn show_handed(subject: Subject, served: &Served, text: &mut Text) -> Result<(), AllocError>
     ensures { OnOk result (text.new ≡ text.old ++ handed_text subject served.now) }
 {

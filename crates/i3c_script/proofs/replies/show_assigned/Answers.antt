@@ -2,7 +2,7 @@ use Rattle.std.proofs.Common.{◌∙◌, ◌++◌, ap, codes}
 use Rattle.i3c_text.specs.Hex.{byte_text}
 use Rattle.i3c_script.specs.Printed.{identity_text}
 use Rattle.i3c_script.proofs.Texts.{four, on_ok}
-use Rattle.i3c_script.proofs.telling.show_assigned.Goals as goal
+use Rattle.i3c_script.proofs.replies.show_assigned.Goals as goal
 
 pub returns : goal.returns
 returns c =

@@ -2,7 +2,7 @@ use Rattle.std.proofs.Common.{◌≡◌, ◌∙◌, true, rules, subst, sym, ari
 use Rattle.std.proofs.lemmas.Grind.{common_steps}
 use Rattle.i3c_base.specs.State.{IsPresent, device_at}
 use Rattle.i3c_script.proofs.Presence.{there}
-use Rattle.i3c_script.proofs.asking.free_slot.Goals as goal
+use Rattle.i3c_script.proofs.slot_lookup.free_slot.Goals as goal
 
 pub loop-number-preserved : goal.loop-number-preserved
 loop-number-preserved c =

@@ -3,7 +3,7 @@ use Rattle.std.proofs.Common.{◌≡◌, ◌∙◌, ◌++◌, Ok, Err, List, ℕ
 use Rattle.std.specs.Prelude.{MatchResult}
 use Rattle.i3c_script.specs.Asking.{slot_of_device, slots_named, with_others}
 use Rattle.i3c_script.proofs.Gathering.{gathered}
-use Rattle.i3c_script.proofs.asking.+slots_of_devices.Goals as goal
+use Rattle.i3c_script.proofs.slot_lookup.+slots_of_devices.Goals as goal
 
 pub returns-in-Ok : goal.returns-in-Ok
 returns-in-Ok t c =
