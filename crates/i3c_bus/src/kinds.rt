@@ -112,7 +112,15 @@ impl Bus {
         ensures room { self.new.room ≡ self.old.room }
     {
         let active = self.active();
-        let heard = hear_kinds(&mut self.devices, active, to, change, kinds, cuts, bits_before);
+        let heard = hear_kinds(
+            &mut self.devices,
+            active,
+            to,
+            change,
+            kinds,
+            cuts,
+            bits_before,
+        );
         tell_kinds(tap, change, &to, kinds, &heard);
         let answer = answer_of(&heard);
         self.drop_lost(cuts, bits_before + kinds_bits(&to, &answer));

@@ -190,7 +190,13 @@ impl Bus {
     }
 
     /// If the old address is acknowledged, its devices have the new one, and the table's row moves there.
-    fn give_new(&mut self, old: Addr7, new: Addr7, cuts: &Cuts, bits_before: u16) -> Result<(), NoAnswer>
+    fn give_new(
+        &mut self,
+        old: Addr7,
+        new: Addr7,
+        cuts: &Cuts,
+        bits_before: u16,
+    ) -> Result<(), NoAnswer>
         requires few { bits_before ≤ 18 }
         requires there { is_no_target self.old.state old ≡ false }
         requires given { is_pickable self.old.state new ≡ true }

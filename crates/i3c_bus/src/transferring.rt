@@ -115,7 +115,13 @@ impl Bus {
 
     /// The own part of a read, with `bits_before` bits of the frame before it: the bytes are read, and cut devices are
     /// gone.
-    fn read_part<T: Tap>(&mut self, from: Addr7, tap: &mut T, cuts: &Cuts, bits_before: u16) -> Answer
+    fn read_part<T: Tap>(
+        &mut self,
+        from: Addr7,
+        tap: &mut T,
+        cuts: &Cuts,
+        bits_before: u16,
+    ) -> Answer
         requires few { bits_before ≤ 18 }
         requires left { cuts_active self.old.state cuts.now ≡ false }
         ensures reads { LeavesBy cuts.now (bits_before + read_bits (transfer_length self.old.state DirectionValue.Read from) result) (Reads from result) self.old.state self.new.state }

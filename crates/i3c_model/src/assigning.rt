@@ -1,6 +1,6 @@
-use crate::plain_entry::PlainEntry;
 use crate::faults::OutOfMemory;
 use crate::plain::{Choice, Plain};
+use crate::plain_entry::PlainEntry;
 use i3c_base::{Addr7, Cuts, Identity, RoundReply, Served};
 
 impl Plain {

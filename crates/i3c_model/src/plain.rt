@@ -1,6 +1,6 @@
 use crate::device::PlainDevice;
-use crate::plain_entry::PlainEntry;
 use crate::faults::OutOfMemory;
+use crate::plain_entry::PlainEntry;
 use i3c_base::{Addr7, Change, Identity, LegacyTarget, Record, SLOTS, Slot};
 use i3c_step::{Event, Reply};
 use std::alloc::Global;

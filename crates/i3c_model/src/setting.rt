@@ -1,7 +1,7 @@
-use crate::plain_entry::PlainEntry;
 use crate::enabling::kinds_bits;
 use crate::faults::OutOfMemory;
 use crate::plain::{Choice, Plain};
+use crate::plain_entry::PlainEntry;
 use i3c_base::{Addr7, Answer, Cuts, Fixed, Identity};
 use i3c_step::{Framed, Reply};
 use std::alloc::Global;

@@ -1,7 +1,7 @@
 use crate::device::PlainDevice;
-use crate::plain_entry::PlainEntry;
 use crate::faults::PlainFault;
 use crate::plain::Plain;
+use crate::plain_entry::PlainEntry;
 use i3c_base::{Addr7, Identity, LegacyTarget, REGISTERS, SLOTS, Setup, Slot};
 use i3c_legacy::Legacies;
 use std::alloc::Global;

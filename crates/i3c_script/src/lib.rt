@@ -11,25 +11,25 @@
 //! `outcomes` gives the result of a line, by the bus's reply. * `laws` says that lines make legal runs.
 #![tactic(auto)]
 
-mod slot_lookup;
 mod assigning;
 mod details;
 mod frames;
 mod laws;
 mod outcomes;
+mod replies;
 mod running;
 mod settings;
 mod show;
+mod slot_lookup;
 mod stage;
 mod symbols;
-mod replies;
 mod tenures;
 mod wires;
 
-pub use slot_lookup::entrance_at;
 pub use laws::scripts_are_legal_runs;
 pub use outcomes::outcome_of;
 pub use running::Running;
 pub use settings::{Settings, sum_of};
 pub use show::{show_askers, show_bus, show_records_behind};
+pub use slot_lookup::entrance_at;
 pub use stage::Stage;

@@ -2,15 +2,15 @@ ghost use Rattle.std.specs.Prelude.{◌≡◌, Some, None};
 ghost use Rattle.i3c_base.specs.Cutting.{no_cuts};
 ghost use Rattle.i3c_bus.specs.declared.hand.Hand.{Hand as HandValue};
 
-use crate::slot_lookup::{entrance, slot_of_device, slots_of_devices};
 use crate::assigning;
 use crate::details::show_all;
-use crate::settings::Settings;
-use crate::show::{show_bus, show_bus_behind};
 use crate::replies::{
     count_from, subject_of, tell, tell_attached, tell_dropped, tell_frame, tell_join, tell_raised,
     tell_role,
 };
+use crate::settings::Settings;
+use crate::show::{show_bus, show_bus_behind};
+use crate::slot_lookup::{entrance, slot_of_device, slots_of_devices};
 use crate::tenures::{Tenure, end_tenure};
 use crate::wires::Wires;
 use arrayvec::ArrayVec;

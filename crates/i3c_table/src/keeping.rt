@@ -4,8 +4,8 @@ ghost use Rattle.i3c_base.specs.Sets.{is_in};
 ghost use Rattle.i3c_base.specs.State.{is_the};
 ghost use Rattle.i3c_table.specs.Stored.{again_stored, home_stored, kept_at, IsInOrder};
 
-use crate::sorted_addresses::SortedAddresses;
 use crate::registers::Registers;
+use crate::sorted_addresses::SortedAddresses;
 use i3c_base::{ADDRESSES, Addr7, Addresses, Identity};
 use i3c_legacy::Legacies;
 

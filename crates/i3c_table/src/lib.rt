@@ -2,11 +2,11 @@
 #![tactic(auto)]
 
 mod keeping;
-mod sorted_addresses;
 mod registers;
 mod resting;
 mod row;
 mod rows;
+mod sorted_addresses;
 mod table;
 
 pub use i3c_legacy::Legacies;

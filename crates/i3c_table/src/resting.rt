@@ -3,9 +3,9 @@ ghost use Rattle.std.specs.List.{range_with_len};
 ghost use Rattle.i3c_base.specs.declared.range.TheConstants.{ADDRESSES};
 ghost use Rattle.i3c_base.specs.Sets.{is_in};
 
-use crate::sorted_addresses::SortedAddresses;
 use crate::registers::Registers;
 use crate::rows::{Rows, are_same};
+use crate::sorted_addresses::SortedAddresses;
 use crate::table::Table;
 use i3c_base::Addresses;
 use i3c_legacy::RestingLegacies;

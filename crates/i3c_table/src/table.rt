@@ -3,11 +3,11 @@ ghost use Rattle.i3c_base.specs.Sets.{is_in};
 ghost use Rattle.i3c_table.specs.Rows.{static_in};
 
 use crate::keeping::{keep_for, keep_homes};
-use crate::sorted_addresses::SortedAddresses;
 use crate::registers::Registers;
 use crate::resting::RestingTable;
 use crate::row::Row;
 use crate::rows::Rows;
+use crate::sorted_addresses::SortedAddresses;
 use i3c_base::{ADDRESSES, Addr7, Addresses, Bcr, Dcr, Identity};
 use i3c_legacy::{Legacies, is_static};
 use std::marker::Model;

@@ -55,7 +55,11 @@ pub(crate) fn push_decimal(text: &mut Vec<u8>, number: u64) -> Result<(), AllocE
 /// Appends a prefix and a number in decimal digits to a text, and ends the line.
 // where the prefix is known, appending it takes two or three writes
 #[inline(always)]
-pub(crate) fn push_numbered(text: &mut Vec<u8>, prefix: &[u8], number: u64) -> Result<(), AllocError>
+pub(crate) fn push_numbered(
+    text: &mut Vec<u8>,
+    prefix: &[u8],
+    number: u64,
+) -> Result<(), AllocError>
     ensures { OnOk result (text.new.items ≡ text.old.items ++ (prefix.now ++ (decimal number ++ 10 ∷ []))) }
 {
     let room = text.capacity() - text.len();
