@@ -15,6 +15,7 @@ pub mod SameLaws
 pub mod AnsweringLaws
 pub mod LeastLaws
 pub mod KeepLaws
+pub mod HeldLaws
 mod LengthLaws
 mod RegisterLaws
 pub mod ByteFieldLaws

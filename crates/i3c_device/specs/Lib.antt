@@ -15,3 +15,4 @@ pub mod Least
 pub mod Keeping
 pub mod Lengths
 pub mod ByteFields
+pub mod Queues

@@ -11,6 +11,8 @@ mod driven;
 mod enabled;
 mod flag;
 mod kept;
+mod kept_device;
+mod kept_place;
 mod kinds;
 mod marks;
 mod occupants;
@@ -18,6 +20,7 @@ mod own_kinds;
 mod places;
 mod queues;
 mod resting;
+mod resting_device;
 mod slot_set;
 mod slot_update;
 

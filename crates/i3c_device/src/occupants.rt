@@ -1,5 +1,6 @@
 use crate::attached::Attached;
 use crate::kept::Kept;
+use crate::kept_device::KeptDevice;
 use crate::marks::Marks;
 use crate::places::{byte_from, is_here, length_in, pull_low, raise, requeue, wishes_interrupt};
 use crate::slot_set::SlotSet;
@@ -43,7 +44,7 @@ impl Occupants {
     ghost use Rattle.i3c_device.specs.Lengths.{IsLeastLength};
     ghost use Rattle.i3c_device.specs.Sets.{has};
     ghost use Rattle.i3c_device.specs.Walks.{AreTakers, AreReached};
-    ghost use Rattle.std.specs.Prelude.{◌≡◌, ◌<◌, ◌&&◌, ℕ, All, IsTrue, false, is_some, length, suc, true, Some, None, option_copied, option_map, slice_index, slice_index_or, slice_set, MatchOption, MatchResult, OnOk, OnErr};
+    ghost use Rattle.std.specs.Prelude.{◌≡◌, ◌<◌, ◌&&◌, ℕ, All, IsTrue, false, is_some, length, suc, true, Some, None, option_map, slice_index, slice_index_or, slice_set, MatchOption, MatchResult, OnOk, OnErr};
 
     /// Empty slots.
     #[inline(always)]
@@ -68,18 +69,18 @@ impl Occupants {
     }
 
     /// This device, or none, is in a slot from now on.
-    pub fn wake_at(&mut self, slot: Slot, device: Option<&Attached>)
-        ensures put { self.new ≡ slice_set self.old slot (option_copied device.entry) }
+    pub fn wake_at(&mut self, slot: Slot, device: Option<KeptDevice<'_>>)
+        ensures put { self.new ≡ slice_set self.old slot device.entry }
         ensures slots { length self.old ≡ SLOT_COUNT }
     {
         match device {
-            Some(device) => self.wake_device(slot, device),
+            Some(device) => self.wake_device(slot, &device),
             None => self.put(slot, None),
         }
     }
 
     /// This device is in a slot from now on.
-    fn wake_device(&mut self, slot: Slot, device: &Attached)
+    fn wake_device(&mut self, slot: Slot, device: &KeptDevice<'_>)
         ensures put { self.new ≡ slice_set self.old slot (Some device.now) }
         ensures slots { length self.old ≡ SLOT_COUNT }
     {
@@ -89,11 +90,11 @@ impl Occupants {
         if self.requeue(slot, device) {
             return;
         }
-        self.put(slot, Some(device.copied()));
+        self.put(slot, Some(device.woken()));
     }
 
     /// This device is in a slot from now on, if it and the one there differ only in what waits. Answers whether it is.
-    fn requeue(&mut self, slot: Slot, device: &Attached) -> bool
+    fn requeue(&mut self, slot: Slot, device: &KeptDevice<'_>) -> bool
         ensures put { IsTrue result → self.new ≡ slice_set self.old slot (Some device.now) }
         ensures kept { result ≡ false → self.new ≡ self.old }
     {

@@ -1,11 +1,13 @@
-ghost use Rattle.std.specs.Prelude.{◌≡◌, ◌↔◌, IsTrue};
+ghost use Rattle.std.specs.Prelude.{◌≡◌, ◌≤◌, ◌↔◌, IsTrue, length};
+ghost use Rattle.i3c_base.specs.declared.device.TheConstants.{WAITING as MOST_WAITING};
 
 use arrayvec::ArrayVec;
 use i3c_base::{WAITING, Waiting};
 
 /// The same interrupts once more, in their order.
-pub(crate) fn copied(waiting: &ArrayVec<Waiting, WAITING>) -> ArrayVec<Waiting, WAITING>
-    ensures { result.items ≡ waiting.now.items }
+pub(crate) fn copied(waiting: &[Waiting]) -> ArrayVec<Waiting, WAITING>
+    requires { length waiting.now ≤ MOST_WAITING }
+    ensures { result.items ≡ waiting.now }
 {
     let mut queue: ArrayVec<Waiting, WAITING> = ArrayVec::new();
     for interrupt in waiting.iter() {
@@ -14,13 +16,11 @@ pub(crate) fn copied(waiting: &ArrayVec<Waiting, WAITING>) -> ArrayVec<Waiting, 
     queue
 }
 
-/// The same interrupts wait as in another one, in their order.
+/// The same interrupts wait as these, in their order.
 #[inline(always)]
-pub(crate) fn copy_from(
-    waiting: &mut ArrayVec<Waiting, WAITING>,
-    others: &ArrayVec<Waiting, WAITING>,
-)
-    ensures { waiting.new.items ≡ others.now.items }
+pub(crate) fn copy_from(waiting: &mut ArrayVec<Waiting, WAITING>, others: &[Waiting])
+    requires { length others.now ≤ MOST_WAITING }
+    ensures { waiting.new.items ≡ others.now }
 {
     if !others.is_empty() || !waiting.is_empty() {
         copy_some(waiting, others);
@@ -30,22 +30,20 @@ pub(crate) fn copy_from(
 /// The same where some wait.
 // kept apart, since few devices have an interrupt that waits
 #[inline(never)]
-fn copy_some(waiting: &mut ArrayVec<Waiting, WAITING>, others: &ArrayVec<Waiting, WAITING>)
-    ensures { waiting.new.items ≡ others.now.items }
+fn copy_some(waiting: &mut ArrayVec<Waiting, WAITING>, others: &[Waiting])
+    requires { length others.now ≤ MOST_WAITING }
+    ensures { waiting.new.items ≡ others.now }
 {
     waiting.clear();
-    let Ok(()) = waiting.try_extend_from_slice(others.as_slice()) else {
+    let Ok(()) = waiting.try_extend_from_slice(others) else {
         unreachable!()
     };
 }
 
-/// Whether the same interrupts wait in both, in the same order.
+/// Whether both are the same interrupts, in the same order.
 #[inline(always)]
-pub(crate) fn are_same(
-    waiting: &ArrayVec<Waiting, WAITING>,
-    others: &ArrayVec<Waiting, WAITING>,
-) -> bool
-    ensures { IsTrue result ↔ (waiting.now.items ≡ others.now.items) }
+pub(crate) fn are_same(waiting: &[Waiting], others: &[Waiting]) -> bool
+    ensures { IsTrue result ↔ (waiting.now ≡ others.now) }
 {
     if others.is_empty() {
         waiting.is_empty()
@@ -57,11 +55,8 @@ pub(crate) fn are_same(
 /// The same where some wait.
 // kept apart, since few devices have an interrupt that waits
 #[inline(never)]
-fn have_same_items(
-    waiting: &ArrayVec<Waiting, WAITING>,
-    others: &ArrayVec<Waiting, WAITING>,
-) -> bool
-    ensures { IsTrue result ↔ (waiting.now.items ≡ others.now.items) }
+fn have_same_items(waiting: &[Waiting], others: &[Waiting]) -> bool
+    ensures { IsTrue result ↔ (waiting.now ≡ others.now) }
 {
-    waiting.as_slice() == others.as_slice()
+    waiting == others
 }
