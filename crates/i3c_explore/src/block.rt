@@ -11,7 +11,7 @@ ghost use Rattle.i3c_explore.specs.Orders.{IsOrder, IsPrefix, Leads};
 ghost use Rattle.i3c_explore.specs.Parts.{HasLine, whole};
 ghost use Rattle.i3c_explore.specs.Splits.{IsInPart};
 
-use crate::layer::Layer;
+use crate::layer::{Handed, Layer};
 use crate::limits::Limits;
 use crate::machine::Machine;
 use crate::node::Node;
@@ -71,7 +71,7 @@ pub(crate) fn explore_block<
         &[Vec<M::Line>],
         Part,
         &mut M::Runner,
-        Vec<Node<M>>,
+        Handed<M>,
     ) -> Result<Layer<M>, Stop>,
 >(
     alloc: Global,
@@ -102,11 +102,14 @@ pub(crate) fn explore_block<
 {
     let mut layer = starts;
     restart_all(alloc, &mut layer.nodes, tracks.len())?;
+    layer.codes.clear();
     for ran in 0..u64::MAX {
         let spares = mem::replace(&mut layer.spares, Vec::new(alloc));
         let opening = part.only_if(ran == 0);
         let limits = layer.limits;
-        let mut next = match next_layer(&layer.nodes, limits, tracks, opening, runner, spares) {
+        let codes = mem::replace(&mut layer.codes, Vec::new(alloc));
+        let handed = Handed { spares, codes };
+        let mut next = match next_layer(&layer.nodes, limits, tracks, opening, runner, handed) {
             Ok(next) => next,
             Err(stop) => return Err(stop),
         };

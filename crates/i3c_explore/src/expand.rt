@@ -190,6 +190,7 @@ pub(crate) fn expand_turns<M: Machine, W: Watch>(
 {
     let mut next = Layer::new(alloc, limits);
     next.spares = spares;
+    next.weights = owners.weights(alloc, tracks.len())?;
     for index in 0..layer.len() {
         match expand(
             alloc,

@@ -18,6 +18,8 @@ pub(crate) struct Gathered<M> {
     pub spans: Vec<JobSpan>,
     /// The rank of each node: its place in the order in which one thread finds them.
     pub ranks: Vec<usize>,
+    /// The numbers of their places.
+    pub codes: Vec<u64>,
     /// Nodes whose room is free to be taken.
     pub spares: Vec<Node<M>>,
     /// What is left of the limits.
@@ -35,6 +37,7 @@ impl<M: Machine> Gathered<M> {
             mut spares,
             index,
             mut ranks,
+            mut codes,
         } = layer.taken_apart();
         let steps = limits.steps.saturating_sub(left.steps);
         let Some(left) = self.limits.steps.checked_sub(steps) else {
@@ -44,6 +47,7 @@ impl<M: Machine> Gathered<M> {
         let first = self.nodes.len();
         self.nodes.append(&mut nodes)?;
         self.ranks.append(&mut ranks)?;
+        self.codes.append(&mut codes)?;
         self.spares.append(&mut spares)?;
         match self.spans.push(JobSpan { first, index }) {
             Ok(()) => Ok(()),
@@ -72,6 +76,7 @@ fn room_for<M: Machine>(
         nodes: Vec::with_capacity(alloc, nodes)?,
         spans: Vec::new(alloc),
         ranks: Vec::with_capacity(alloc, nodes)?,
+        codes: Vec::with_capacity(alloc, nodes)?,
         spares: Vec::with_capacity(alloc, spares)?,
         limits,
     })

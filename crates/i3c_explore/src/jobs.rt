@@ -1,4 +1,6 @@
-ghost use Rattle.std.specs.Prelude.{◌≡◌, ◌<◌, IfErr, IfOk, length};
+ghost use Rattle.std.specs.Prelude.{◌≡◌, ◌<◌, IfErr, IfOk, length, vec_len};
+ghost use Rattle.std.specs.Fork.{AcceptsJobs, GivesJobs};
+ghost use denote.Param.Send.{IsSend, IsSync};
 ghost use Rattle.std.specs.Global.{Vec as VecValue};
 ghost use Rattle.i3c_explore.specs.declared.stop.Stop.{Stop as StopValue};
 ghost use Rattle.i3c_explore.specs.declared.turn.Turn.{Turn as TurnValue};
@@ -8,7 +10,7 @@ ghost use Rattle.i3c_explore.specs.Jobs.{AreJobs};
 ghost use Rattle.i3c_explore.specs.Owners.{own};
 
 use crate::expand::{expand_all, expand_turns};
-use crate::layer::Layer;
+use crate::layer::{Handed, Layer};
 use crate::limits::Limits;
 use crate::machine::Machine;
 use crate::merged::joined_by_jobs;
@@ -19,10 +21,21 @@ use crate::stop::Stop;
 use crate::watch::{Unwatched, View, Watch};
 use std::alloc::{AllocError, Global};
 use std::mem;
-use std::thread::{Threads, map_vec};
+use std::thread::{Threads, join, map_vec};
 
 /// How few nodes are worth a thread of their own.
 const FEW: usize = 16;
+
+/// How many words of room a job asks for, before it makes nodes.
+const ROOM: usize = 1024 * 1024;
+
+/// How many words of room are asked for before all jobs. The C library then keeps room up to twice as large for later.
+const MOST: usize = 4_000_000;
+
+/// Asks for room at once, and lets go of it. The C library keeps it, and needn't ask the system for a page at a time.
+fn ask_for_room(alloc: Global, words: usize) {
+    let _room: Result<Vec<u64>, AllocError> = Vec::with_capacity(alloc, words);
+}
 
 /// One of the jobs that make a layer.
 #[derive(Drop)]
@@ -75,6 +88,7 @@ fn expand_job<M: Machine>(
     ensures { IfOk result (λ next. IsNextOf M.steps tracks.now (opening part tracks.now) (own owners.now.jobs.items (length tracks.now) job.number (opening part tracks.now)) layer.now 0 (length layer.now) next.nodes.items) }
 {
     let Job { number, spares } = job;
+    ask_for_room(alloc, ROOM);
     let Some(node) = layer.first() else {
         return Err(Stop::Most);
     };
@@ -96,13 +110,37 @@ fn expand_job<M: Machine>(
         spares,
         &view,
     ) {
-        Ok(mut next) => {
-            // no more room is kept than the next layer can take, so that each job frees its part
-            next.spares.truncate(next.nodes.len());
-            Ok(next)
-        }
+        Ok(next) => Ok(next),
         Err(stop) => Err(stop),
     }
+}
+
+/// Calls a function at each job, each on a thread of its own. Meanwhile this thread lets go of a value, and then waits.
+fn map_apart<R: Threads + Sync, J: Send + Drop, X: Send + Drop, L: Drop, F: Fn(J) -> X + Sync>(
+    rt: &R,
+    jobs: Vec<J>,
+    left: L,
+    f: &F,
+) -> Result<Vec<X>, AllocError>
+    requires { AcceptsJobs F.Fn f.now jobs.items }
+    ensures len { IfOk result (λ v. vec_len v ≡ vec_len jobs) }
+    ensures each { IfOk result (λ v. GivesJobs F.Fn f.now jobs.items v.items) }
+{
+    let run = move || -> Result<Vec<X>, AllocError>
+        requires { IsSync R.row × IsSync F.row × IsSend J.row × IsSend X.row × AcceptsJobs F.Fn f.now jobs.items }
+        ensures len { IfOk result (λ v. vec_len v ≡ vec_len jobs) }
+        ensures each { IfOk result (λ v. GivesJobs F.Fn f.entry.now jobs.items v.items) }
+    { map_vec(rt, jobs, f) };
+    let (made, ()) = join(rt, run, move || drop(left));
+    made
+}
+
+/// The nodes behind as many as a layer can take the room of.
+fn surplus_of<M: Machine>(
+    spares: &mut Vec<Node<M>>,
+    layer: &[Node<M>],
+) -> Result<Vec<Node<M>>, AllocError> {
+    spares.split_off(layer.len().min(spares.len()))
 }
 
 /// The layer that follows all nodes of a layer. Each job runs the lines that it owns, on a thread of its own.
@@ -114,7 +152,7 @@ fn by_owners<R: Threads + Sync, M: Machine + Send + Sync>(
     limits: Limits,
     tracks: &[Vec<M::Line>],
     part: Part,
-    spares: Vec<Node<M>>,
+    handed: Handed<M>,
 ) -> Result<Layer<M>, Stop>
 where
     M::Line: Sync,
@@ -123,13 +161,16 @@ where
     requires sized { ArePlaced layer.now tracks.now }
     ensures { IfOk result (λ next. FollowsAll M.steps tracks.now part layer.now next.nodes.items) }
 {
-    let owners = owners_of(alloc, layer, tracks, part, jobs)?;
+    ask_for_room(alloc, MOST);
+    let Handed { mut spares, codes } = handed;
+    let owners = owners_of(alloc, layer, codes, tracks, part, jobs)?;
+    let surplus = surplus_of(&mut spares, layer)?;
     let all = jobs_of(alloc, jobs, spares)?;
     let expand = |job: Job<M>| -> Result<Layer<M>, Stop>
         requires { ArePlaced layer.now tracks.now }
         ensures { IfOk result (λ next. IsNextOf M.steps tracks.entry.now (opening part tracks.entry.now) (own owners.jobs.items (length tracks.entry.now) job.number (opening part tracks.entry.now)) layer.entry.now 0 (length layer.entry.now) next.nodes.items) }
     { expand_job(alloc, layer, &owners, job, limits, tracks, part) };
-    let layers = map_vec(rt, all, &expand)?;
+    let layers = map_apart(rt, all, surplus, &expand)?;
     match joined_by_jobs(rt, alloc, layers, owners.overlap, limits) {
         Ok(next) => Ok(next),
         Err(stop) => Err(stop),
@@ -147,7 +188,7 @@ pub(crate) fn next_by_jobs<R: Threads + Sync, M: Machine + Send + Sync, W: Watch
     tracks: &[Vec<M::Line>],
     part: Part,
     runner: &mut M::Runner,
-    mut spares: Vec<Node<M>>,
+    mut handed: Handed<M>,
     view: &View<'_, W>,
 ) -> Result<Layer<M>, Stop>
 where
@@ -159,12 +200,17 @@ where
 {
     let useful = jobs.min(layer.len() / FEW);
     if useful > 1 {
-        let lent = mem::replace(&mut spares, Vec::new(alloc));
+        let none = Handed {
+            spares: Vec::new(alloc),
+            codes: Vec::new(alloc),
+        };
+        let lent = mem::replace(&mut handed, none);
         if let Ok(next) = by_owners(rt, alloc, useful, layer, limits, tracks, part, lent) {
             view.tell(layer, &next.nodes, next.limits);
             return Ok(next);
         }
     }
+    let Handed { spares, codes: _ } = handed;
     match expand_all(alloc, layer, limits, tracks, part, runner, spares, view) {
         Ok(next) => Ok(next),
         Err(stop) => Err(stop),

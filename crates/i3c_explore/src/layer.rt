@@ -3,6 +3,7 @@ ghost use Rattle.i3c_explore.specs.declared.node.Node.{Node as NodeValue};
 ghost use Rattle.i3c_explore.specs.Layers.{by_way, IsAlikeAt, IsMerged, IsPutBehind};
 ghost use Rattle.i3c_explore.specs.Stops.{IsShort};
 
+use crate::codes::code_of;
 use crate::index::Index;
 use crate::limits::Limits;
 use crate::machine::Machine;
@@ -27,6 +28,19 @@ pub(crate) struct Layer<M> {
     /// The rank of each node among those of all jobs.
     pub ranks: Vec<usize>,
     rank: usize,
+    /// What one more line of each track adds to the number of places, or none where nobody asks for these numbers.
+    pub weights: Vec<u64>,
+    /// The numbers of the nodes' places, or none.
+    pub codes: Vec<u64>,
+}
+
+/// What a layer hands on to the next one.
+#[derive(Drop)]
+pub(crate) struct Handed<M> {
+    /// Nodes whose room is free to be taken.
+    pub spares: Vec<Node<M>>,
+    /// The numbers of the layer's places, or none.
+    pub codes: Vec<u64>,
 }
 
 /// What a job found.
@@ -42,6 +56,8 @@ pub(crate) struct Found<M> {
     pub index: Index,
     /// The rank of each node among those of all jobs.
     pub ranks: Vec<usize>,
+    /// The numbers of the nodes' places.
+    pub codes: Vec<u64>,
 }
 
 /// The hash of places and of the state that a runner is in.
@@ -122,6 +138,8 @@ impl<M: Machine> Layer<M> {
             index: Index::new(alloc),
             ranks: Vec::new(alloc),
             rank: 0,
+            weights: Vec::new(alloc),
+            codes: Vec::new(alloc),
         }
     }
 
@@ -157,12 +175,24 @@ impl<M: Machine> Layer<M> {
         }
     }
 
+    /// Notes the rank and the number of places of the next node, where they are asked for.
+    fn note(&mut self, places: &Vec<usize>) -> Result<(), AllocError>
+        ensures { OnOk result (self.new.nodes ≡ self.old.nodes) }
+    {
+        if self.weights.is_empty() {
+            return Ok(());
+        }
+        self.ranks.push(self.rank)?;
+        self.codes.push(code_of(places, &self.weights))?;
+        Ok(())
+    }
+
     /// Adds a node behind the others.
     fn push(&mut self, alloc: Global, key: u64, node: Node<M>) -> Result<(), AllocError>
         ensures { OnOk result (self.new.nodes.items ≡ self.old.nodes.items ++ node ∷ []) }
     {
         self.index.add(alloc, key)?;
-        self.ranks.push(self.rank)?;
+        self.note(&node.places)?;
         self.nodes.push(node)?;
         Ok(())
     }
@@ -210,6 +240,8 @@ impl<M: Machine> Layer<M> {
             index,
             ranks,
             rank: _,
+            weights: _,
+            codes,
         } = self;
         Found {
             nodes,
@@ -217,6 +249,7 @@ impl<M: Machine> Layer<M> {
             spares,
             index,
             ranks,
+            codes,
         }
     }
 }

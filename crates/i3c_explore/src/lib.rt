@@ -24,11 +24,14 @@
 #![tactic(auto)]
 
 mod block;
+mod boundary;
+mod codes;
 mod expand;
 mod fork;
 mod gathered;
 mod index;
 mod jobs;
+mod known_places;
 mod layer;
 mod limits;
 mod machine;

@@ -135,7 +135,7 @@ where
         Ok(layer) => layer,
         Err(stop) => return Err(stop),
     };
-    order(alloc, &mut layer.nodes, &layer.ranks)?;
+    order(alloc, &mut layer.nodes, &mut layer.codes, &layer.ranks)?;
     Ok(layer)
 }
 
@@ -166,6 +166,7 @@ fn all_at_once<M: Machine>(alloc: Global, all: Gathered<M>) -> Result<Layer<M>, 
         nodes,
         spans: _,
         ranks,
+        codes,
         spares,
         limits,
     } = all;
@@ -175,6 +176,7 @@ fn all_at_once<M: Machine>(alloc: Global, all: Gathered<M>) -> Result<Layer<M>, 
     let mut layer = Layer::new(alloc, limits);
     layer.nodes = nodes;
     layer.ranks = ranks;
+    layer.codes = codes;
     layer.spares = spares;
     Ok(layer)
 }
@@ -194,6 +196,7 @@ where
         nodes,
         spans,
         ranks,
+        codes: _,
         spares,
         limits,
     } = all;

@@ -15,7 +15,7 @@ use crate::block::explore_block;
 use crate::expand::expand_all;
 use crate::fork::fork;
 use crate::jobs::next_by_jobs;
-use crate::layer::Layer;
+use crate::layer::{Handed, Layer};
 use crate::limits::Limits;
 use crate::machine::Machine;
 use crate::node::{Node, sum};
@@ -153,11 +153,12 @@ pub fn explore_part<M: Machine>(
     };
     let next_layer = |layer: &[Node<M>], limits: Limits, tracks: &[Vec<
         M::Line,
-    >], opening: Part, runner: &mut M::Runner, spares: Vec<Node<M>>| -> Result<Layer<M>, Stop>
+    >], opening: Part, runner: &mut M::Runner, handed: Handed<M>| -> Result<Layer<M>, Stop>
         requires { ArePlaced layer.now tracks.now }
         ensures next { IfOk result (λ next. FollowsAll M.steps tracks.now opening layer.now next.nodes.items) }
         ensures broken { IfErr result (λ stop. (order : VecValue TurnValue) → stop ≡ StopValue.Breaks order → BreaksNext M.breaks tracks.now opening layer.now order.items) }
     {
+        let Handed { spares, codes: _ } = handed;
         match expand_all(alloc, layer, limits, tracks, opening, runner, spares, &view) {
             Ok(next) => Ok(next),
             Err(stop) => Err(stop),
@@ -216,13 +217,13 @@ where
     };
     let next_layer = |layer: &[Node<M>], limits: Limits, tracks: &[Vec<
         M::Line,
-    >], opening: Part, runner: &mut M::Runner, spares: Vec<Node<M>>| -> Result<Layer<M>, Stop>
+    >], opening: Part, runner: &mut M::Runner, handed: Handed<M>| -> Result<Layer<M>, Stop>
         requires { ArePlaced layer.now tracks.now }
         ensures next { IfOk result (λ next. FollowsAll M.steps tracks.now opening layer.now next.nodes.items) }
         ensures broken { IfErr result (λ stop. (order : VecValue TurnValue) → stop ≡ StopValue.Breaks order → BreaksNext M.breaks tracks.now opening layer.now order.items) }
     {
         match next_by_jobs(
-            rt, alloc, jobs, layer, limits, tracks, opening, runner, spares, &view,
+            rt, alloc, jobs, layer, limits, tracks, opening, runner, handed, &view,
         ) {
             Ok(next) => Ok(next),
             Err(stop) => Err(stop),
@@ -245,7 +246,7 @@ fn explore_by<
         &[Vec<M::Line>],
         Part,
         &mut M::Runner,
-        Vec<Node<M>>,
+        Handed<M>,
     ) -> Result<Layer<M>, Stop>,
 >(
     alloc: Global,
