@@ -9,7 +9,8 @@ use i3c_base::{ADDRESSES, Addr7, SLOTS};
 /// In the place of an address where there is none.
 pub(crate) const NOWHERE: u8 = 0xFF;
 
-/// The address of each slot, or `NOWHERE`, and the slots of each address, so that a frame finds its devices without a walk.
+/// The address of each slot, or `NOWHERE`, and the slots of each address, so that a frame finds its devices without a
+/// walk.
 #[derive(Clone, Copy)]
 pub(crate) struct Answering {
     addresses: [u8; SLOTS],

@@ -211,7 +211,7 @@ impl Attached {
         &self.registers
     }
 
-    /// What it tells of a datum, the most significant byte first, with 00 behind it (I3C Basic 5.1.9.3).
+    /// The bytes of a datum that it tells, the most significant first, filled up with 00 (I3C Basic 5.1.9.3).
     pub fn told(&self, what: Datum) -> [u8; LONGEST]
         ensures { result ≡ filled_up MOST_TOLD (told_bytes what self.now) }
     {
@@ -307,8 +307,8 @@ impl Attached {
         }
     }
 
-    /// The key of the request that it drives when it drives one: of a join without an address, else of the role request or
-    /// the interrupt (I3C Basic 5.1.2.2.1).
+    /// The key of the request that it drives when it drives one: of a join without an address, else of the role request
+    /// or the interrupt (I3C Basic 5.1.2.2.1).
     pub(crate) fn key(&self) -> u8
         ensures key { result ≡ key_of self.now.address self.now.role_wish }
         ensures dynamic { IsDynamic self.now.address }
@@ -341,8 +341,8 @@ impl Attached {
         self.join_wish = Flag::of(false);
     }
 
-    /// It has this dynamic address from now on, and nothing else of it changes (SETNEWDA, I3C Basic 5.1.9.3.11). No dynamic
-    /// address is below `08`.
+    /// It has this dynamic address from now on, and nothing else of it changes (SETNEWDA, I3C Basic 5.1.9.3.11). No
+    /// dynamic address is below `08`.
     pub fn readdress(&mut self, address: Addr7)
         requires { 8 ≤ address }
         ensures { self.new ≡ readdressed address self.old }

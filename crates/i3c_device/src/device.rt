@@ -59,8 +59,8 @@ impl Device {
     }
 
     /// It hears a command and its words (I3C Basic 5.1.9.3): ENEC and DISEC enable and disable the kinds of their byte,
-    /// ENTDAA opens a session, and RSTDAA takes its address and its wish for the role. Other codes change nothing of it: what
-    /// SETDASA gives it, it takes by `take_address`.
+    /// ENTDAA opens a session, and RSTDAA takes its address and its wish for the role. Other codes change nothing of it:
+    /// what SETDASA gives it, it takes by `take_address`.
     pub fn hear(&mut self, code: Code, words: &[Word])
         ensures { self.new ≡ heard code words.now self.old }
     {

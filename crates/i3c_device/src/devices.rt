@@ -1,6 +1,6 @@
 use crate::attached::LONGEST;
 use crate::device::Device;
-use crate::driven::{enter_requests, slots_with};
+use crate::driven_requests::{enter_requests, slots_with};
 use crate::enabled::Enabled;
 use crate::kinds::named;
 use crate::occupants::Occupants;
@@ -246,8 +246,8 @@ impl Devices {
         self.occupants.raise(slot, raised, byte, enabled)
     }
 
-    /// The request that wins the header into which the devices drive theirs at once, and the slots that drive it (I3C Basic
-    /// 5.1.2.2.1). The active controller drives none.
+    /// The request that wins the header into which the devices drive theirs at once, and the slots that drive it (I3C
+    /// Basic 5.1.2.2.1). The active controller drives none.
     // in line, since as a rule nobody asks
     #[inline(always)]
     pub fn first_request(&self, active: Slot) -> Option<(Request, SlotSet)>
@@ -479,8 +479,8 @@ impl Devices {
         self.occupants.marks().hearing
     }
 
-    /// The contest of those who hear the open session, on the lines, where nobody is cut (I3C Basic 5.1.4.2): the identity
-    /// that is read, as a number, and the slots of those who have it; `None` where nobody hears.
+    /// The contest of those who hear the open session, on the lines, where nobody is cut (I3C Basic 5.1.4.2): the
+    /// identity that is read, as a number, and the slots of those who have it; `None` where nobody hears.
     pub fn least_heard(&self) -> Option<(u64, SlotSet)>
         ensures least { MatchOption result (NobodyHears self.now) (IsLeastHeard self.now) }
         ensures slots { length self.now ≡ SLOT_COUNT }

@@ -72,7 +72,7 @@ pub(crate) fn gathered(
     Ok(all)
 }
 
-/// How many interrupts wait at the devices in some places. It is no more than a hint how much room they take.
+/// How many interrupts wait at the devices in some places: a hint how much room they take, of which nothing is proved.
 fn count_all(places: &[Option<Attached>]) -> usize {
     let mut count = 0usize;
     for place in places {
@@ -81,7 +81,7 @@ fn count_all(places: &[Option<Attached>]) -> usize {
     count
 }
 
-/// The interrupts that wait at the devices in some places come behind these, one device's after another's.
+/// Appends the interrupts that wait at the devices in some places, one device's after another's.
 fn gather(all: &mut Vec<Waiting>, places: &[Option<Attached>]) -> Result<(), AllocError>
     ensures all { OnOk result (all.new.items ≡ all.old.items ++ queues places.now) }
     ensures few { OnOk result (length (queues places.now) ≤ MOST_WAITING * length places.now) }
@@ -93,7 +93,7 @@ fn gather(all: &mut Vec<Waiting>, places: &[Option<Attached>]) -> Result<(), All
     gather(all, rest)
 }
 
-/// The interrupts that wait at the device in a place come behind these.
+/// Appends the interrupts that wait at the device in a place.
 #[inline(always)]
 fn gather_one(all: &mut Vec<Waiting>, place: &Option<Attached>) -> Result<(), AllocError>
     ensures all { OnOk result (all.new.items ≡ all.old.items ++ queue_in place.now) }
@@ -116,7 +116,7 @@ fn count_in(place: &Option<Attached>) -> u16
     }
 }
 
-/// What is kept of a place, where so many interrupts of other devices come first.
+/// What is kept of a place. `first` interrupts of other devices come before its own.
 #[inline(always)]
 fn kept(place: &Option<Attached>, first: u16) -> Option<KeptPlace>
     ensures held { (front more : List WaitingValue) → length front ≡ first → held (front ++ (queue_in place.now ++ more)) result ≡ place.now }
@@ -132,7 +132,7 @@ fn kept(place: &Option<Attached>, first: u16) -> Option<KeptPlace>
     }
 }
 
-/// Each of some places is kept, where so many interrupts of other devices come before theirs.
+/// Keeps each of some places. `first` interrupts of other devices come before theirs.
 pub(crate) fn keep_all(places: &mut [Option<KeptPlace>], others: &[Option<Attached>], first: u16)
     requires { (length places.old ≡ length others.now) × (first + length (queues others.now) < 2 ^ 16) }
     ensures held { (front : List WaitingValue) → length front ≡ first → all_held (front ++ queues others.now) places.new ≡ others.now }

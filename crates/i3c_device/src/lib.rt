@@ -7,7 +7,7 @@ mod attached;
 mod byte_address;
 mod device;
 mod devices;
-mod driven;
+mod driven_requests;
 mod enabled;
 mod flag;
 mod kept;

@@ -68,7 +68,7 @@ impl Occupants {
         }
     }
 
-    /// This device, or none, is in a slot from now on.
+    /// Puts a device into a slot, or none.
     pub fn wake_at(&mut self, slot: Slot, device: Option<KeptDevice<'_>>)
         ensures put { self.new ≡ slice_set self.old slot device.entry }
         ensures slots { length self.old ≡ SLOT_COUNT }
@@ -79,7 +79,7 @@ impl Occupants {
         }
     }
 
-    /// This device is in a slot from now on.
+    /// Puts a device into a slot. Where it is there already, nothing is written.
     fn wake_device(&mut self, slot: Slot, device: &KeptDevice<'_>)
         ensures put { self.new ≡ slice_set self.old slot (Some device.now) }
         ensures slots { length self.old ≡ SLOT_COUNT }
@@ -93,7 +93,8 @@ impl Occupants {
         self.put(slot, Some(device.woken()));
     }
 
-    /// This device is in a slot from now on, if it and the one there differ only in what waits. Answers whether it is.
+    /// Copies only the queue of a device into a slot, if the device there differs in nothing else. Answers whether it
+    /// did.
     fn requeue(&mut self, slot: Slot, device: &KeptDevice<'_>) -> bool
         ensures put { IsTrue result → self.new ≡ slice_set self.old slot (Some device.now) }
         ensures kept { result ≡ false → self.new ≡ self.old }
@@ -217,8 +218,8 @@ impl Occupants {
         there.and(self.marks.unaddressed).but(active)
     }
 
-    /// The contest of those who hear the open session, on the lines, where nobody is cut (I3C Basic 5.1.4.2): the identity
-    /// that is read, as a number, and the slots of those who have it; `None` where nobody hears.
+    /// The contest of those who hear the open session, on the lines, where nobody is cut (I3C Basic 5.1.4.2): the
+    /// identity that is read, as a number, and the slots of those who have it; `None` where nobody hears.
     pub fn least_heard(&self) -> Option<(u64, SlotSet)>
         ensures least { MatchOption result (NobodyHears self.now) (IsLeastHeard self.now) }
         ensures slots { length self.now ≡ SLOT_COUNT }

@@ -4,7 +4,7 @@ ghost use Rattle.i3c_base.specs.declared.device.TheConstants.{WAITING as MOST_WA
 use arrayvec::ArrayVec;
 use i3c_base::{WAITING, Waiting};
 
-/// The same interrupts once more, in their order.
+/// A copy of some interrupts, in their order.
 pub(crate) fn copied(waiting: &[Waiting]) -> ArrayVec<Waiting, WAITING>
     requires { length waiting.now ≤ MOST_WAITING }
     ensures { result.items ≡ waiting.now }
@@ -16,7 +16,7 @@ pub(crate) fn copied(waiting: &[Waiting]) -> ArrayVec<Waiting, WAITING>
     queue
 }
 
-/// The same interrupts wait as these, in their order.
+/// Copies some interrupts into a queue, in their order.
 #[inline(always)]
 pub(crate) fn copy_from(waiting: &mut ArrayVec<Waiting, WAITING>, others: &[Waiting])
     requires { length others.now ≤ MOST_WAITING }

@@ -50,19 +50,21 @@ fn together<M: Machine>(one: Vec<Node<M>>, other: Vec<Node<M>>) -> Vec<Node<M>> 
     more
 }
 
-/// Whether a layer ends a block after `ran` lines: none follows it. A part that begins with no line has an empty layer behind
-/// the first line.
+/// Whether a layer ends a block after `ran` lines: none follows it. A part that begins with no line has an empty layer
+/// behind the first line.
 fn is_over<M>(next: &Vec<Node<M>>, part: Part, ran: u64) -> bool
     ensures { IsTrue result ↔ ((length next.now.items ≡ 0) × ((0 < ran) ⊎ (part ≡ whole))) }
 {
     next.is_empty() && (ran > 0 || part.is_whole())
 }
 
-/// Tries a part's orders of the tracks' lines from each state of a layer, each line in every way. Answers what they lead to.
+/// Tries a part's orders of the tracks' lines from each state of a layer, each line in every way. Answers what they lead
+/// to.
 ///
 /// # Errors
 ///
-/// `Breaks` has an order that breaks an expectation, of the shortest ones. After `Memory` and `Most` nothing is known of orders.
+/// `Breaks` has an order that breaks an expectation, of the shortest ones. After `Memory` and `Most` nothing is known of
+/// orders.
 pub(crate) fn explore_block<
     M: Machine,
     F: Fn(
@@ -97,7 +99,8 @@ pub(crate) fn explore_block<
         (s : NodeValue M) × Contains starts.nodes.items s × ((turns : List TurnValue) × IsOrder tracks.now turns × IsInPart part.index part.of turns × (n.order.items ≡ s.order.items ++ reverse turns) × Leads M.steps tracks.now s.state turns n.state)) }
     // each interleaving's order in the part with each line in way 0 is counted at one of the ends, to which it leads
     ensures counted { IfOk result (λ ends. (past : ℕ → List (List (List ℕ))) → IsShared starts.nodes.items past → AreShared M.steps part tracks.now starts.nodes.items ends.nodes.items past) }
-    // an order of the part that is answered in place of them breaks an expectation at its last line, and no shorter one does
+    // an order of the part that is answered in place of them breaks an expectation at its last line, and no shorter one
+    // does
     ensures broken { IfErr result (λ stop. (order : VecValue TurnValue) → stop ≡ StopValue.Breaks order → IsFirstBreak M.steps M.breaks part tracks.now starts.nodes.items order.items) }
 {
     let mut layer = starts;

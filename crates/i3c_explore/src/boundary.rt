@@ -185,8 +185,8 @@ fn target_at(samples: &[Sample], track: u32, place: usize) -> u64 {
     }
 }
 
-/// Sorts the lines of a piece by the track whose places are farthest apart, and finds where the later half of its jobs begins:
-/// the place in the piece, and the boundary.
+/// Sorts the lines of a piece by the track whose places are farthest apart, and finds where the later half of its jobs
+/// begins: the place in the piece, and the boundary.
 fn cut(samples: &mut Vec<Sample>, tracks: usize, jobs: usize) -> (usize, Boundary) {
     let track = widest(samples, tracks);
     samples.sort_unstable_by_key(|sample| (seen_from(sample.target, track), sample.node));
@@ -237,8 +237,8 @@ fn share_out(
     Ok(())
 }
 
-/// The boundaries by which some lines are shared out among jobs. In a range of jobs, that at the middle one says which lines are of
-/// it and of the jobs behind it.
+/// The boundaries by which some lines are shared out among jobs. In a range of jobs, that at the middle one says which
+/// lines are of it and of the jobs behind it.
 pub(crate) fn boundaries_of(
     alloc: Global,
     samples: Vec<Sample>,

@@ -1,8 +1,8 @@
 use crate::node::Node;
 use std::alloc::{AllocError, Global};
 
-/// The bits that a track's place has in the number of places. Where a track has more lines than these hold, different places can
-/// have the same number, and the lines are shared out less evenly.
+/// The bits that a track's place has in the number of places. Where a track has more lines than these hold, different
+/// places can have the same number, and the lines are shared out less evenly.
 pub(crate) const BITS: u32 = 8;
 
 /// A number for places. The first track's place is in its highest bits.

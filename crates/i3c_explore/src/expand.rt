@@ -68,8 +68,8 @@ fn next_line<L>(tracks: &[Vec<L>], part: Part, track: usize, place: usize) -> Op
     tracks[track].get(place)
 }
 
-/// Runs a track's next line from a node in each way, if orders of a part begin with it. It is told whether the runner ran a
-/// line from this node last, and answers that in its turn.
+/// Runs a track's next line from a node in each way, if orders of a part begin with it. It is told whether the runner ran
+/// a line from this node last, and answers that in its turn.
 fn run_track<M: Machine>(
     alloc: Global,
     node: &Node<M>,
@@ -105,7 +105,8 @@ fn run_track<M: Machine>(
     Ok(near)
 }
 
-/// Runs the next line of a track from a node of a layer, if a job takes it.
+/// Runs the next line of a track from a node of a layer, if a job takes it. `again` says that the runner's last line
+/// began at this node too. Answers whether the runner's last line did.
 fn take_turn<M: Machine>(
     alloc: Global,
     node: &Node<M>,
@@ -139,7 +140,8 @@ fn take_turn<M: Machine>(
     }
 }
 
-/// Runs the next line of each track from a node of a layer, of those that a job takes and by which orders of a part begin.
+/// Runs the next line of each track from a node of a layer, if a job takes it and orders of the part begin with the
+/// track.
 fn expand<M: Machine>(
     alloc: Global,
     node: &Node<M>,
@@ -170,8 +172,8 @@ fn expand<M: Machine>(
     Ok(())
 }
 
-/// What a job finds behind a layer: what each node leads to by one more line of those that the job takes and by which orders of a
-/// part begin. A watcher is told after each node.
+/// What a job finds behind a layer: what each node leads to by each line that the job takes, if orders of the part begin
+/// with its track. A watcher is told after each node.
 pub(crate) fn expand_turns<M: Machine, W: Watch>(
     alloc: Global,
     layer: &[Node<M>],

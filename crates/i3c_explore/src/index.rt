@@ -29,8 +29,8 @@ impl Index {
         }
     }
 
-    /// The node that the slot at a distance behind the key's own leads to: none if that slot is free, and else whether the
-    /// node has the key, and its index.
+    /// The node that the slot at a distance behind the key's own leads to: none if that slot is free, and else whether
+    /// the node has the key, and its index.
     pub(crate) fn at(&self, key: u64, distance: usize) -> Option<(bool, usize)> {
         let slot = slot_of(key, distance, self.slots.len());
         let index = self.slots.get(slot)?.checked_sub(1)?;

@@ -57,7 +57,7 @@ fn share_of<M: Machine>(
     }
 }
 
-/// So many jobs, in their order.
+/// The jobs by their numbers, each with its share of the spare nodes.
 fn jobs_of<M: Machine>(
     alloc: Global,
     jobs: usize,
@@ -177,8 +177,8 @@ where
     }
 }
 
-/// The layer that follows all nodes of a layer, by up to so many jobs. Where one of them finds a break or reaches a limit, one
-/// thread makes the layer again from its first node, so that each number of jobs answers the same.
+/// The layer that follows all nodes of a layer, by up to `jobs` jobs. Where one of them finds a break or reaches a limit,
+/// one thread makes the layer again from its first node, so that each number of jobs answers the same.
 pub(crate) fn next_by_jobs<R: Threads + Sync, M: Machine + Send + Sync, W: Watch>(
     rt: &R,
     alloc: Global,

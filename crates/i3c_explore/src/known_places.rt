@@ -11,8 +11,8 @@ struct Noted {
     first: usize,
 }
 
-/// The places that were noted last, each at its hash. All nodes at a place have the same jobs, unless jobs share a place. Then
-/// nothing is known.
+/// The places that were noted last, each at its hash. All nodes at a place have the same jobs, unless jobs share a place.
+/// Then nothing is known.
 #[derive(Drop)]
 pub(crate) struct KnownPlaces {
     slots: Vec<Option<Noted>>,

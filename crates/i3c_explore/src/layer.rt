@@ -96,8 +96,8 @@ fn room_of<M: Machine>(
     }
 }
 
-/// The node that one more turn leads to, with the state that a runner is in. It takes the room of a spare node, if there is
-/// one.
+/// The node that one more turn leads to, with the state that a runner is in. It takes the room of a spare node, if there
+/// is one.
 fn successor<M: Machine>(
     alloc: Global,
     node: &Node<M>,
@@ -197,8 +197,8 @@ impl<M: Machine> Layer<M> {
         Ok(())
     }
 
-    /// Puts the state that a runner is in, to which one more turn of a node leads: as a node, or merged with a node that is
-    /// alike.
+    /// Puts the state that a runner is in, to which one more turn of a node leads: as a node, or merged with a node that
+    /// is alike.
     pub(crate) fn put(
         &mut self,
         alloc: Global,

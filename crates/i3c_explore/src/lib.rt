@@ -1,26 +1,27 @@
 //! Every order in which the lines of some tracks can run, tried on a machine and proved tried.
 //!
-//! A block has tracks of lines. Each track's lines keep their order, and the tracks interleave in every possible way. Blocks
-//! run one after another. A line can go several ways, and goes each of them.
+//! A block has tracks of lines. Each track's lines keep their order, and the tracks interleave in every possible way.
+//! Blocks run one after another. A line can go several ways, and goes each of them.
 //!
 //! [`explore`] answers the ends that orders lead to, or an order that breaks an expectation. Its contract is about every
-//! order, and knows none of what follows. The states after so many lines are kept in a layer, each with the number of its
-//! orders and the first of them. Two equal states at the same places of all tracks are one.
+//! order, and knows none of what follows. The states after the same number of lines are kept in a layer, each with the
+//! number of its orders and the first of them. Two equal states at the same places of all tracks are one.
 //!
-//! Lines run on one runner ([`Machine::Runner`]), which comes to the state of a node and then to that which the line leads to.
-//! That is kept if it is new, in the room of a node that is done with. So a step makes no state that it doesn't keep.
+//! Lines run on one runner ([`Machine::Runner`]), which comes to the state of a node and then to that which the line
+//! leads to. That is kept if it is new, in the room of a node that is done with. So a step makes no state that it doesn't
+//! keep.
 //!
-//! [`explore_part`] tries the orders of one [`Part`] alone. Each order is in exactly one part, and the parts' numbers of orders
-//! add up ([`parts_share_all`]).
+//! [`explore_part`] tries the orders of one [`Part`] alone. Each order is in exactly one part, and the parts' numbers of
+//! orders add up ([`parts_share_all`]).
 //!
-//! [`explore_on`] does so by several jobs, each on a thread of its own. Each line that runs from a node of a layer is of one job, by the
-//! places that it leads to. So equal states are found by one job, which keeps them once. Only where many lines lead to the same
-//! places, several jobs share these, and states that two of them found are merged. Then the nodes are brought into the order in which one
-//! thread finds them. Where a job breaks an expectation or reaches a limit, one thread makes the layer again, so that each number of
-//! jobs stops at the same place. A [`Watch`] is told how far it is.
+//! [`explore_on`] does so by several jobs, each on a thread of its own. Each line that runs from a node of a layer is of
+//! one job, by the places that it leads to. So equal states are found by one job, which keeps them once. Only where many
+//! lines lead to the same places, several jobs share these, and states that two of them found are merged. Then the nodes
+//! are brought into the order in which one thread finds them. Where a job breaks an expectation or reaches a limit, one
+//! thread makes the layer again, so that each number of jobs stops at the same place. A [`Watch`] is told how far it is.
 //!
-//! Not claimed: that there is memory enough, that the limits are, or how much time it takes. Where a machine's steps are not
-//! determined, what its `run` doesn't choose is not tried.
+//! Not claimed: that there is memory enough, that the limits are, or how much time it takes. Where a machine's steps are
+//! not determined, what its `run` doesn't choose is not tried.
 #![tactic(auto)]
 
 mod block;

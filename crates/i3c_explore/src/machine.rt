@@ -19,8 +19,8 @@ pub trait Machine: Sized + Drop {
     /// A line breaks an expectation, in a way.
     ghost breaks: { Self → Self.Line → ℕ → Type 0 };
 
-    /// What a runner remembers of its last line is true of this state, from which that line was run. A machine whose runners
-    /// remember nothing has ⊤.
+    /// What a runner remembers of its last line is true of this state, from which that line was run. A machine whose
+    /// runners remember nothing has ⊤.
     ghost near: { Self.Runner → Self → Type 0 };
 
     /// The last way to try, below 65,536: each later one can lead to whatever this one leads to.
@@ -59,7 +59,7 @@ pub trait Machine: Sized + Drop {
     fn is_same(&self, other: &Self) -> bool
         ensures { IsTrue result → self.now ≡ other.now };
 
-    /// A hash of the state that a runner is in. Equal states with different hashes are explored separately, which costs time
-    /// and can tell one end as two.
+    /// A hash of the state that a runner is in. Equal states with different hashes are explored separately, which costs
+    /// time and can tell one end as two.
     fn hash(runner: &Self::Runner) -> u64;
 }

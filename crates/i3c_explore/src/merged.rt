@@ -58,7 +58,8 @@ fn rank_of(ranks: &[usize], node: usize) -> usize {
     }
 }
 
-/// Puts a node that a job found: behind the others, or merged with the one at a place, which is alike. Answers where it is.
+/// Puts a node that a job found: behind the others, or merged with the one at a place, which is alike. Answers where it
+/// is.
 fn put_at<M: Machine>(
     layer: &mut Layer<M>,
     node: Node<M>,
@@ -113,8 +114,8 @@ fn merged<M: Machine>(
     Ok(layer)
 }
 
-/// The layers of all jobs as one, in the order in which one thread finds the nodes. Where jobs' layers overlap, they can have found the
-/// same node, which then is one.
+/// The layers of all jobs as one, in the order in which one thread finds the nodes. Where jobs' layers overlap, they can
+/// have found the same node, which then is one.
 pub(crate) fn joined_by_jobs<R: Threads + Sync, M: Machine + Send + Sync>(
     rt: &R,
     alloc: Global,

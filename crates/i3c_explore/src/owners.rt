@@ -11,7 +11,8 @@ use std::alloc::{AllocError, Global};
 
 /// The job that runs the next line of a track from a node of a layer.
 ///
-/// Whoever runs it, the same states are found. So it is proved that each line is of one job, and nothing of which job that is.
+/// Whoever runs it, the same states are found. So it is proved that each line is of one job, and nothing of which job
+/// that is.
 #[derive(Drop)]
 pub(crate) struct Owners {
     // the jobs of the tracks of each node, one node's behind the other's
@@ -135,8 +136,9 @@ fn note_at(
     }
 }
 
-/// Shares out the lines that run from a layer's nodes among so many jobs, by the places that they lead to. One job then finds equal
-/// states, unless `overlap` says that some are shared. The jobs run about as many lines, each counted in all its ways.
+/// Shares out the lines that run from a layer's nodes among `jobs` jobs, by the places that they lead to. One job then
+/// finds equal states, unless `overlap` says that some are shared. The jobs run about as many lines, each counted in all
+/// its ways.
 pub(crate) fn owners_of<M: Machine>(
     alloc: Global,
     layer: &[Node<M>],

@@ -8,8 +8,8 @@ ghost use Rattle.i3c_explore.specs.Sums.{IsOfOnePart, PartsAddUp};
 
 use crate::machine::Machine;
 
-/// Laws of a block's orders by their first turns: those that begin with a track's first line are the orders of a block of that
-/// line, before a block of the lines that are left.
+/// Laws of a block's orders by their first turns: those that begin with a track's first line are the orders of a block of
+/// that line, before a block of the lines that are left.
 pub fn first_turns_split<M: Machine>()
     // the orders that begin with a track's first line are that line and the orders of the lines that are left
     ensures orders { (tracks : List (VecValue M.Line)) → OrdersSplit tracks }

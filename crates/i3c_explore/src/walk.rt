@@ -143,7 +143,8 @@ pub fn explore_part<M: Machine>(
     ensures counted { IfOk result (λ found. PartIsCounted M.steps part blocks.now start found.ends.items found.orders) }
     // no more lines were run than the limits allow
     ensures within { IfOk result (λ found. found.steps ≤ limits.steps) }
-    // an order of the part that is answered in place of them breaks an expectation at its last line, and no shorter one of the part does
+    // an order of the part that is answered in place of them breaks an expectation at its last line, and no shorter one
+    // of the part does
     ensures broken { IfErr result (λ stop. (order : VecValue TurnValue) → stop ≡ StopValue.Breaks order → IsShortestInPart M.steps M.breaks part blocks.now start order.items) }
 {
     let view = View {
@@ -170,7 +171,7 @@ pub fn explore_part<M: Machine>(
     }
 }
 
-/// Tries every order of a part by so many jobs, each on a thread of its own. The answer is that of [`explore_part`], with
+/// Tries every order of a part by `jobs` jobs, each on a thread of its own. The answer is that of [`explore_part`], with
 /// the same nodes, orders and numbers. A watcher is told how far it is, and when it is over.
 ///
 /// # Errors
@@ -207,7 +208,8 @@ where
     ensures counted { IfOk result (λ found. PartIsCounted M.steps part blocks.now start found.ends.items found.orders) }
     // no more lines were run than the limits allow
     ensures within { IfOk result (λ found. found.steps ≤ limits.steps) }
-    // an order of the part that is answered in place of them breaks an expectation at its last line, and no shorter one of the part does
+    // an order of the part that is answered in place of them breaks an expectation at its last line, and no shorter one
+    // of the part does
     ensures broken { IfErr result (λ stop. (order : VecValue TurnValue) → stop ≡ StopValue.Breaks order → IsShortestInPart M.steps M.breaks part blocks.now start order.items) }
 {
     let view = View {
@@ -278,7 +280,8 @@ fn explore_by<
     ensures counted { IfOk result (λ found. PartIsCounted M.steps part blocks.now start found.ends.items found.orders) }
     // no more lines were run than the limits allow
     ensures within { IfOk result (λ found. found.steps ≤ limits.steps) }
-    // an order of the part that is answered in place of them breaks an expectation at its last line, and no shorter one of the part does
+    // an order of the part that is answered in place of them breaks an expectation at its last line, and no shorter one
+    // of the part does
     ensures broken { IfErr result (λ stop. (order : VecValue TurnValue) → stop ≡ StopValue.Breaks order → IsShortestInPart M.steps M.breaks part blocks.now start order.items) }
 {
     let split = fork(blocks);

@@ -45,7 +45,8 @@ pub(crate) struct View<'a, W> {
 }
 
 impl<W: Watch> View<'_, W> {
-    /// Tells that one more line runs behind the nodes of a layer, which so far led to some nodes, and what is left of the limits.
+    /// Tells how far the exploration is: a next line runs from the nodes of a layer, and has led to the nodes `next` so
+    /// far. `left` is left of the limits.
     pub(crate) fn tell<M>(&self, layer: &[Node<M>], next: &[Node<M>], left: Limits) {
         // behind the last line of a block no line runs
         if next.is_empty() {

@@ -1,6 +1,6 @@
 use Rattle.std.proofs.Common.{◌==◌, slice_index}
 use Rattle.i3c_device.proofs.FindLaws.{ChosenSoFar}
-use Rattle.i3c_device.proofs.driven.slots_with.Given as goal
+use Rattle.i3c_device.proofs.driven_requests.slots_with.Given as goal
 
 -- those of the slots so far that have the key
 abbrev pub invariant-loop-index : goal.invariant-loop-index

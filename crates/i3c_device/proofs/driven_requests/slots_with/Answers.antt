@@ -2,7 +2,7 @@
 use Rattle.std.proofs.Common.{◌∙◌, ◌&&◌, ◌==◌, ap, slice_index}
 use Rattle.i3c_device.specs.Sets.{has}
 use Rattle.i3c_device.proofs.FindLaws.{chosen_all, chosen_more, chosen_none}
-use Rattle.i3c_device.proofs.driven.slots_with.Goals as goal
+use Rattle.i3c_device.proofs.driven_requests.slots_with.Goals as goal
 
 pub loop-index-init : goal.loop-index-init
 loop-index-init c = chosen_none (λ s. slice_index c.args.keys.now s == c.key-driven.result) c.args.among c.none-slots.result c.none-slots.ensures

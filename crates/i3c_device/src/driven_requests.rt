@@ -12,7 +12,7 @@ use i3c_base::{Addr7, Request, SLOTS};
 use i3c_header::key;
 
 /// Enters the requests of these slots' keys into an empty list, in the order of the slots.
-// the list is the caller's, since it is large to hand back
+// filled in place, since the list is large to return by value
 pub(crate) fn enter_requests(
     requests: &mut ArrayVec<Request, SLOTS>,
     among: SlotSet,
@@ -23,11 +23,12 @@ pub(crate) fn enter_requests(
     ensures complete { (s : ℕ) → s < SLOT_COUNT → has among s ≡ true → Contains requests.new.items (request_of (slice_index keys.now s)) }
     ensures short { length requests.new.items ≤ SLOT_COUNT }
 {
-    let mut first = 0;
+    // for the loop's invariant alone
+    let mut passed = 0;
     let mut left = among;
     while let Some(index) = left.take_lowest() {
         requests.push(request_of(keys[index]));
-        first = index + 1;
+        passed = index + 1;
     }
 }
 
