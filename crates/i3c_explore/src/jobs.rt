@@ -110,7 +110,11 @@ fn expand_job<M: Machine>(
         spares,
         &view,
     ) {
-        Ok(next) => Ok(next),
+        Ok(mut next) => {
+            // no more room is kept than the next layer can take, so that each job frees its part
+            next.spares.truncate(next.nodes.len());
+            Ok(next)
+        }
         Err(stop) => Err(stop),
     }
 }
@@ -135,12 +139,14 @@ fn map_apart<R: Threads + Sync, J: Send + Drop, X: Send + Drop, L: Drop, F: Fn(J
     made
 }
 
-/// The nodes behind as many as a layer can take the room of.
+/// Takes off nodes whose room isn't needed behind a layer, but no more than one thread frees while the jobs run.
 fn surplus_of<M: Machine>(
     spares: &mut Vec<Node<M>>,
     layer: &[Node<M>],
 ) -> Result<Vec<Node<M>>, AllocError> {
-    spares.split_off(layer.len().min(spares.len()))
+    let some = spares.len().saturating_sub(layer.len() / 2);
+    let kept = some.max(layer.len()).min(spares.len());
+    spares.split_off(kept)
 }
 
 /// The layer that follows all nodes of a layer. Each job runs the lines that it owns, on a thread of its own.
