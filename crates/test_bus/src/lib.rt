@@ -2,9 +2,9 @@
 //! these have a crate of their own.
 //!
 //! `calls` has typed calls of the bus, and what a refused growth leaves; lists of events with their replies, wires and
-//! records are scripts, in `tests/scripts`. `plain` has the plain machine's own refusal; the other tests of it are in
-//! `tests/choices` and `tests/agreement`. `sizes` has the sizes of values that are kept by the million. `checks` has what
-//! they assert.
+//! records are scripts, in `tests/scripts`. `resting` has a bus at rest. `plain` has the plain machine's own refusal; the
+//! other tests of it are in `tests/choices` and `tests/agreement`. `sizes` has the sizes of values that are kept by the
+//! million. `setting` has the devices and the bus that tests share, and `checks` what they assert.
 #![tactic(auto)]
 
 #[cfg(test)]
@@ -13,5 +13,9 @@ mod calls;
 mod checks;
 #[cfg(test)]
 mod plain;
+#[cfg(test)]
+mod resting;
+#[cfg(test)]
+mod setting;
 #[cfg(test)]
 mod sizes;
