@@ -24,8 +24,8 @@ impl Bus {
     ghost use Rattle.i3c_bus.specs.declared.hand.Hand.{Hand};
 
     /// Enables kinds of events (ENEC, I3C Basic 5.1.9.3.1): of the devices at an address, or without one of all but the
-    /// active controller. Before its own part it serves the first request. It answers `NoAnswer`, without a frame, if the table has no
-    /// row at the address or it is the active controller's own.
+    /// active controller. Before its own part it serves the first request. It answers `NoAnswer`, without a frame, if the
+    /// table has no row at the address or it is the active controller's own.
     pub fn enec<P: Policy, T: Tap>(
         &mut self,
         role: &Role,
@@ -94,7 +94,7 @@ impl Bus {
     }
 
     /// The own part of ENEC and DISEC, with `bits_before` bits of the frame before it: each device that it reaches hears
-    /// it, and cut devices are gone.
+    /// it, and devices cut by its last bit are gone.
     fn command_kinds<T: Tap>(
         &mut self,
         change: Change,

@@ -23,8 +23,9 @@ impl Bus {
     ghost use Rattle.i3c_bus.specs.declared.hand.Hand.{Hand};
 
     /// Sets the maximum length of writes (SETMWL, I3C Basic 5.1.9.3.5) or of reads (SETMRL, I3C Basic 5.1.9.3.6): of the
-    /// devices at an address, or without one of all but the active controller. Before its own part it serves the first request. It
-    /// answers `NoAnswer`, without a frame, if the table has no row at the address or it is the active controller's own.
+    /// devices at an address, or without one of all but the active controller. Before its own part it serves the first
+    /// request. It answers `NoAnswer`, without a frame, if the table has no row at the address or it is the active
+    /// controller's own.
     #[inline(always)]
     pub fn set_length<P: Policy, T: Tap>(
         &mut self,
@@ -58,8 +59,8 @@ impl Bus {
         })
     }
 
-    /// The own part of SETMWL and SETMRL, with `bits_before` bits of the frame before it: each device that it reaches has
-    /// the maximum length, and cut devices are gone.
+    /// The own part of SETMWL and SETMRL, with `bits_before` bits of the frame before it: each device that it reaches
+    /// keeps `most` as its maximum length, and devices that are cut by its last bit are gone.
     fn length_part<T: Tap>(
         &mut self,
         way: Direction,

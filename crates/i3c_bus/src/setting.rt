@@ -30,9 +30,9 @@ impl Bus {
     ghost use Rattle.i3c_bus.specs.declared.hand.Hand.{Hand};
 
     /// Gives the device at a static address, while it has no dynamic one, this dynamic address (SETDASA, I3C Basic
-    /// 5.1.9.3.10). Before its own part it serves the first request. It sends no frame and answers `NoAnswer` if no identity is
-    /// declared at the static address, and `BadAddress` if the new one may not be picked and isn't kept for that
-    /// identity.
+    /// 5.1.9.3.10). Before its own part it serves the first request. It sends no frame and answers `NoAnswer` if no
+    /// identity is declared at the static address, and `BadAddress` if the new one may not be picked and isn't kept for
+    /// that identity.
     #[inline(always)]
     pub fn set_static<P: Policy, T: Tap>(
         &mut self,
@@ -103,7 +103,7 @@ impl Bus {
     }
 
     /// The own part of SETDASA, with `bits_before` bits of the frame before it: the devices that take it have the new
-    /// address, and cut devices are gone.
+    /// address, and devices cut by its last bit are gone.
     #[inline(always)]
     fn static_part<T: Tap>(
         &mut self,
@@ -164,7 +164,7 @@ impl Bus {
     }
 
     /// The own part of SETNEWDA, with `bits_before` bits of the frame before it: the devices that acknowledge have the
-    /// new address, and cut devices are gone.
+    /// new address, and devices cut by its last bit are gone.
     fn new_part<T: Tap>(
         &mut self,
         old: Addr7,

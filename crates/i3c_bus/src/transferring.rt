@@ -58,8 +58,8 @@ impl Bus {
     }
 
     /// Writes bytes into the first registers of the devices, as many as their maximum lengths allow, or up to sixteen of
-    /// the legacy target, at an address (private write, I3C Basic 5.1.2.2, 5.1.9.3.5). Before its own part it serves the first request.
-    /// It answers `TooLong` for more bytes, and `NoAnswer` as `read` does.
+    /// the legacy target, at an address (private write, I3C Basic 5.1.2.2, 5.1.9.3.5). Before its own part it serves the
+    /// first request. It answers `TooLong` for more bytes, and `NoAnswer` as `read` does.
     pub fn write<P: Policy, T: Tap>(
         &mut self,
         role: &Role,
@@ -113,8 +113,8 @@ impl Bus {
         *reply = Reply::from(self.write(role, to, bytes.as_slice(), policy, tap, cuts));
     }
 
-    /// The own part of a read, with `bits_before` bits of the frame before it: the bytes are read, and cut devices are
-    /// gone.
+    /// The own part of a read, with `bits_before` bits of the frame before it: the bytes are read, and devices cut by its
+    /// last bit are gone.
     fn read_part<T: Tap>(
         &mut self,
         from: Addr7,
@@ -137,7 +137,7 @@ impl Bus {
     }
 
     /// The own part of a write, with `bits_before` bits of the frame before it: each party that acknowledges takes the
-    /// bytes, and cut devices are gone.
+    /// bytes, and devices cut by its last bit are gone.
     fn write_part<T: Tap>(
         &mut self,
         to: Addr7,

@@ -14,7 +14,7 @@ use crate::slot_set::SlotSet;
 use i3c_base::{SLOTS, Slot};
 use i3c_wires::Planes;
 
-/// In which slots a walk may find something.
+/// What a search over the devices needs of their slots, so that it skips all others.
 #[derive(Clone, Copy)]
 pub(crate) struct Marks {
     /// The slots that hold a device.

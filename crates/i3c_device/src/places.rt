@@ -221,7 +221,8 @@ fn driven_from(own: u8, cut: Option<u16>, at: u16) -> u8
     }
 }
 
-/// A byte that the device in this slot drives, from this bit of a frame on: all ones without a device.
+/// The byte with this index of those that a slot's device drives, as it is on the wire from bit `at` of a frame on: ones
+/// from the device's cut on, and all ones without a device.
 pub(crate) fn byte_from<D: Driven>(
     driven: &D,
     place: &Option<Attached>,

@@ -12,10 +12,10 @@ const NO_ANSWER: &[u8] = b"NoAnswer";
 
 const BAD_ADDRESS: &[u8] = b"BadAddress";
 
-/// How many refusals are printed as one token.
+/// How many tokens say a refusal by themselves.
 const REASONS: usize = 25;
 
-/// The refusals that are printed as one token: of two that are printed as the same, one.
+/// The refusals whose text is one token. Of two with the same token only the first is here.
 fn plain_reasons() -> [Refusal; REASONS]
     ensures { result ≡ plain_reasons }
 {

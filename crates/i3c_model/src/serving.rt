@@ -100,8 +100,8 @@ impl Plain {
         Ok(self.records.len())
     }
 
-    // The interrupt at this address, which comes first, was accepted: it is recorded, or torn where that is chosen and
-    // nobody is left to end its mandatory byte.
+    // Carries out the first request, an interrupt at this address that was accepted: it is recorded, or torn where that
+    // is chosen and nobody is left to end its mandatory byte.
     fn take(
         &mut self,
         at: Addr7,
@@ -123,7 +123,8 @@ impl Plain {
         Ok(Served::Recorded(self.record(at)?))
     }
 
-    // This request, which comes first, was accepted.
+    // Carries out the first request, which the policy accepted, and answers what it came to. `last` is the frame's last
+    // bit.
     fn accept(
         &mut self,
         request: &Request,

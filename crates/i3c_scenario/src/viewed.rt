@@ -23,7 +23,8 @@ pub trait Viewer {
     /// What a viewer may be where it fails at a line.
     ghost view_fails: { Self → List ℕ → List ℕ → List SymbolValue → FaultValue → Self → Type 0 };
 
-    /// Is shown the next line, without its line feed, with what it printed and the symbols that it sent. With a fault the run ends.
+    /// Is shown the next line, without its line feed, with what it printed and the symbols that it sent. With a fault the
+    /// run ends.
     fn view(&mut self, line: &[u8], printed: &[u8], wire: &[Symbol]) -> Result<(), ScriptFault>
         ensures { MatchResult result (λ _. view_gives self.old line.now printed.now wire.now self.new) (λ fault. view_fails self.old line.now printed.now wire.now fault self.new) };
 }
@@ -36,9 +37,9 @@ pub fn run_viewed<R: Read, V: Viewer>(
 ) -> Result<Tally, ScriptFault>
     ensures whole { OnOk result (IsAtEnd (R.remaining reader.new)) }
     ensures fits { OnOk result (IfSome (R.remaining reader.old) (λ bytes. length bytes ≤ MOST_BYTES)) }
-    // each line of the script was run, its last one too, and shown, in their order. The tally counts the refused ones and the
-    // expectations that weren't met. A fault comes after the first lines, which were run and shown, or the viewer failed at the
-    // last one that was run
+    // each line of the script was run, its last one too, and shown, in their order. The tally counts the refused ones and
+    // the expectations that weren't met. A fault comes after the first lines, which were run and shown, or the viewer
+    // failed at the last one that was run
     ensures lines { ViewedGoes V.view_gives V.view_fails (R.remaining reader.old) viewer.old viewer.new result }
 {
     let mut run = ViewedRun::new(alloc);
@@ -57,7 +58,8 @@ pub fn run_viewed<R: Read, V: Viewer>(
 /// Names the run of a script that is viewed.
 struct Viewed;
 
-/// A viewed run: its script, and of the line in hand the wire before it, the symbols that it sent, and the wire behind it.
+/// The state of a viewed run: the script, the wire that was kept before the current line, the symbols that this line
+/// sent, and the wire that is kept after it.
 struct ViewedRun {
     script: Script,
     before: Vec<Symbol>,
@@ -127,7 +129,7 @@ impl ViewedRun {
         }
     }
 
-    /// Obeys a line. What it printed and what it sent waits.
+    /// Runs a line. Its output is in `script.text` then, and its symbols are in `wire`.
     fn obey(&mut self, line: &[u8]) -> Result<(), ScriptFault>
         ensures { OnOk result (LineRan line.now self.new.script.text self.new.wire.items (progress self.old.script) (progress self.new.script)) }
     {
@@ -143,7 +145,7 @@ impl ViewedRun {
         }
     }
 
-    /// Takes the symbols that the line sent behind the wire before it.
+    /// Copies the symbols that the line sent. What is kept after it is the end of the wire before it with these symbols.
     fn take_sent(&mut self) -> Result<(), ScriptFault>
         ensures sent { OnOk result (wire_on self.old.script.stage ≡ kept (self.old.before.items ++ self.new.wire.items)) }
         ensures state { progress self.new.script ≡ progress self.old.script }
@@ -164,12 +166,12 @@ impl ViewedRun {
         if are_same(&self.behind, last_of(&self.before)) {
             Ok(())
         } else {
-            // a line sends fewer symbols than wait to be kept
+            // not reached, since a line sends fewer symbols than are kept; no clause says how many it sends
             Err(ScriptFault::TooLarge)
         }
     }
 
-    /// Takes the run apart, and tells how many lines were refused, and how many expectations weren't met.
+    /// Ends the run, and answers how many lines were refused and how many expectations weren't met.
     fn retire(self) -> Tally
         ensures refused { result.refused ≡ self.script.refused }
         ensures unmet { result.unmet ≡ self.script.unmet }

@@ -279,8 +279,8 @@ impl Intake {
         take_in(&mut self.rings, slot);
     }
 
-    /// Takes posts up for the last time, and takes the bus apart. With all ports in hand whose rings are here, all posts are
-    /// taken up. Without memory it comes back whole.
+    /// Takes posts up for the last time, and takes the bus apart. With all ports in hand whose rings are here, all posts
+    /// are taken up. Without memory it comes back whole.
     pub(crate) fn retire(self, ports: &mut Vec<Port>) -> Result<Closed, Intake>
         ensures ports { SamePorts ports.old.items ports.new.items }
         ensures closed { IfOk result (λ c. (seen : Seen) × (end : Log) × AllLooked self.log.rings seen × TakesUp self.log seen end × (c.run.entries ≡ end.run) × (c.records ≡ end.state.records) × AreWaiting c.waiting end.state × IsLegalTo end.run end.state) }
@@ -470,7 +470,7 @@ fn drain_known(recorder: &mut Recorder, slot: Slot, ring: &mut Consumer<Option<u
     }
 }
 
-/// The same, of a slot's ring if its port is out.
+/// The same for a slot. Without a ring no port was handed out for it, and nothing happens.
 fn drain_one(recorder: &mut Recorder, slot: Slot, ring: &mut Option<Consumer<Option<u8>>>)
     requires room { recorder.old.room ≡ true }
     requires spare { length (known_of ring.old) ≤ recorder.old.spare }

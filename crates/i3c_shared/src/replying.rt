@@ -9,7 +9,7 @@ use crate::faults::{DropFault, HandOverFault, Left};
 use i3c_base::{Answer, RoundReply, Served};
 use i3c_step::{Refusal, Reply, SlotTaken};
 
-/// The answer that a reply to an attachment is.
+/// Turns the reply to an attachment into the call's result.
 pub(crate) fn attached(reply: Reply) -> Result<(), SlotTaken>
     requires { is_attach_reply reply ≡ true }
     ensures { MatchResult result (λ _. reply ≡ ReplyValue.Attached) (λ _. reply ≡ ReplyValue.Refused RefusalValue.SlotTaken) }
@@ -21,7 +21,7 @@ pub(crate) fn attached(reply: Reply) -> Result<(), SlotTaken>
     }
 }
 
-/// The answer that a reply to a drop-off is.
+/// Turns the reply to a drop-off into the call's result.
 pub(crate) fn dropped(reply: Reply) -> Result<Left, DropFault>
     requires { is_drop_reply reply ≡ true }
     ensures { MatchResult result (λ left. reply ≡ left_reply left) (λ why. (why ≡ DropFaultValue.ActiveStays) × (reply ≡ ReplyValue.Refused RefusalValue.ActiveStays)) }
@@ -34,7 +34,7 @@ pub(crate) fn dropped(reply: Reply) -> Result<Left, DropFault>
     }
 }
 
-/// The answer that a reply to a wish is.
+/// Turns the reply to a wish into the call's result.
 pub(crate) fn asked(reply: Reply) -> Result<(), Refusal>
     requires { is_ask_reply reply ≡ true }
     ensures { MatchResult result (λ _. reply ≡ ReplyValue.Asked) (λ why. reply ≡ ReplyValue.Refused why) }
@@ -46,7 +46,7 @@ pub(crate) fn asked(reply: Reply) -> Result<(), Refusal>
     }
 }
 
-/// The answer that a reply to the opening of a session is.
+/// Turns the reply to the opening of a session into the call's result.
 pub(crate) fn opened(reply: Reply) -> Result<Served, Refusal>
     requires { is_open_reply reply ≡ true }
     ensures { MatchResult result (λ served. reply ≡ ReplyValue.Opened served) (λ why. reply ≡ ReplyValue.Refused why) }
@@ -58,7 +58,7 @@ pub(crate) fn opened(reply: Reply) -> Result<Served, Refusal>
     }
 }
 
-/// The answer that a reply to a round is.
+/// Turns the reply to a round into the call's result.
 pub(crate) fn rounded(reply: Reply) -> Result<RoundReply, Refusal>
     requires { is_round_reply reply ≡ true }
     ensures { MatchResult result (λ answer. reply ≡ ReplyValue.Round answer) (λ why. reply ≡ ReplyValue.Refused why) }
@@ -70,7 +70,7 @@ pub(crate) fn rounded(reply: Reply) -> Result<RoundReply, Refusal>
     }
 }
 
-/// The answer that a reply to the end of a session is.
+/// Turns the reply to the end of a session into the call's result.
 pub(crate) fn ended(reply: Reply) -> Result<(), Refusal>
     requires { is_end_reply reply ≡ true }
     ensures { MatchResult result (λ _. reply ≡ ReplyValue.Ended) (λ why. reply ≡ ReplyValue.Refused why) }
@@ -82,7 +82,7 @@ pub(crate) fn ended(reply: Reply) -> Result<(), Refusal>
     }
 }
 
-/// The answer that a reply to a handover is.
+/// Turns the reply to a handover into the call's result.
 pub(crate) fn handed(reply: Reply) -> Result<Served, HandOverFault>
     requires { is_hand_reply reply ≡ true }
     ensures { MatchResult result (λ served. reply ≡ ReplyValue.Handed served) (λ why. IsUnhanded why reply) }

@@ -248,7 +248,7 @@ impl Body {
         }
     }
 
-    /// `anywhere`: this device may lose power in each frame of the block.
+    /// `anywhere`: this device may lose power in any frame of the block.
     fn set_risk(&mut self, name: Name)
         requires { refuses_mark_there self.old.block (MarkValue.Anywhere name) ≡ None }
         ensures { (number : ℕ) → ReadsOn self.old (number, FileLineValue.Marks (MarkValue.Anywhere name)) self.new }

@@ -11,7 +11,7 @@ use crate::answer::Answer;
 use crate::broken::push_broken;
 use crate::plan::{Plan, PlanFault, read_plan};
 use crate::refusal::{Reason, Refusal};
-use crate::report::push_ends;
+use crate::report::push_report;
 use i3c_explore::{Limits, Part, Stop, Watch, explore_on};
 use i3c_scenario::{ScriptFault, ScriptLines, write_out};
 use i3c_text::Text;
@@ -25,8 +25,8 @@ const CHUNK: usize = 8192;
 /// Explores every order of a part of a file's orders. It prints the ends that they lead to, or an order that breaks an
 /// expectation, or why the file is refused.
 ///
-/// The file is read whole before anything runs. Up to `jobs` threads run lines, and each number of jobs prints the same. A
-/// watcher is told the progress while lines run in many orders, and the end before anything is printed.
+/// The file is read whole before anything runs. Up to `jobs` threads run lines, and each number of jobs prints the same.
+/// A watcher is told the progress while lines run in many orders, and the end before anything is printed.
 pub fn run_explore<T: Threads + Sync, R: Read, W: Write, V: Watch>(
     rt: &T,
     alloc: Global,
@@ -41,11 +41,12 @@ pub fn run_explore<T: Threads + Sync, R: Read, W: Write, V: Watch>(
     ensures whole { OnOk result (IsAtEnd (R.remaining reader.new)) }
     ensures fits { OnOk result (IfSome (R.remaining reader.old) (λ bytes. length bytes ≤ 1048576)) }
     ensures large { result ≡ Err ScriptFault.TooLarge → IfSome (R.remaining reader.old) (λ bytes. 1048576 < length bytes) }
-    // Every order of the part, by the plan that the file's lines have, leads on and breaks no expectation; or one breaks one,
-    // and no shorter one of the part does.
+    // Every order of the part, by the plan that the file's lines have, leads on and breaks no expectation; or one breaks
+    // one, and no shorter one of the part does.
     ensures answer { IfOk result (λ answer. (lines : List (VecValue ℕ)) × AreLines (R.remaining reader.old) lines × IsExplored lines part answer) }
-    // What went out is one of three. It is a refusal. Or it is an order that breaks an expectation, as a script of the file's
-    // lines. Or it has the ends to which all orders of the part lead, each with an order that leads there, and how many orders do.
+    // What went out is one of three. It is a refusal. Or it is an order that breaks an expectation, as a script of the
+    // file's lines. Or it has the ends to which all orders of the part lead, each with an order that leads there, and how
+    // many orders do.
     ensures printed { IfOk result (λ answer. (lines : List (VecValue ℕ)) × (said : List ℕ) × AreLines (R.remaining reader.old) lines × IsPrinted lines part answer [] said × Appends (W.contents writer.old) (W.contents writer.new) said) }
 {
     let lines = match read_lines(alloc, reader) {
@@ -153,7 +154,7 @@ fn explore_plan<T: Threads + Sync, V: Watch>(
     let start = plan.start.copied(alloc)?;
     match explore_on(rt, alloc, start, &plan.blocks, limits, part, jobs, watch) {
         Ok(found) => {
-            push_ends(alloc, lines, plan, &found, text)?;
+            push_report(alloc, lines, plan, &found, text)?;
             Ok(Answer::Holds)
         }
         Err(Stop::Breaks(order)) => {

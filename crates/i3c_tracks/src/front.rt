@@ -8,7 +8,7 @@ use i3c_scene::{Named, Scene, place_in};
 use std::alloc::{AllocError, Global};
 use std::mem;
 
-/// What the lines before the bus come to: what has a static address, and the names that were given.
+/// What the lines in front of `main` declare: what has a static address, and the names that were given.
 #[derive(Drop)]
 pub(crate) struct Front {
     alloc: Global,
@@ -41,7 +41,8 @@ impl Front {
         }
     }
 
-    /// Obeys a command as a script does, and answers the bus if the command makes one. A command that is refused does nothing.
+    /// Obeys a command as a script does, and answers the bus if the command makes one. A command that is refused does
+    /// nothing.
     pub(crate) fn obey(&mut self, command: &Command) -> Result<Option<Scene>, AllocError>
         ensures { IfOk result (λ made. MatchOption made (Declares self.old command.now self.new) (λ start. Begins self.old command.now start)) }
     {

@@ -19,7 +19,7 @@ const MOST_LINES: usize = 64;
 /// A block that isn't closed yet.
 #[derive(Drop)]
 pub(crate) struct OpenBlock {
-    /// The device that may lose power in each frame.
+    /// The device that may lose power, in any frame of the block.
     pub risk: Option<Name>,
     /// What has to hold after each line.
     always: Vec<Expectation>,

@@ -13,8 +13,8 @@ use std::alloc::{AllocError, Global};
 /// What is told of more than 64 bits.
 const OVER: &[u8] = b"over 18446744073709551615";
 
-/// Appends what all orders lead to.
-pub(crate) fn push_ends(
+/// Appends the whole report: the numbers, and then the ends.
+pub(crate) fn push_report(
     alloc: Global,
     lines: &[Vec<u8>],
     plan: &Plan,
@@ -25,7 +25,7 @@ pub(crate) fn push_ends(
 {
     let steps = found.steps.saturating_add(plan.before.len() as u64);
     push_numbers(found.orders, steps, found.ends.len() as u64, text)?;
-    push_each(alloc, lines, plan, &found.ends, text)
+    push_ends(alloc, lines, plan, &found.ends, text)
 }
 
 /// Appends the numbers of orders, of lines that were run, and of ends.
@@ -45,7 +45,7 @@ fn push_numbers(
 }
 
 /// Appends the ends, one after another.
-fn push_each(
+fn push_ends(
     alloc: Global,
     lines: &[Vec<u8>],
     plan: &Plan,

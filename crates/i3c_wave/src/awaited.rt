@@ -80,7 +80,7 @@ fn was_assigning(awaited: Awaited) -> bool
     }
 }
 
-/// What comes next behind a symbol of bits.
+/// What is awaited behind a symbol that is neither START nor STOP. `None` says that the symbol isn't allowed there.
 fn next_awaited(legacies: Addresses, awaited: Awaited, symbol: &Symbol) -> Option<Awaited>
     ensures { result ≡ next_awaited legacies.0 awaited symbol.now }
 {
@@ -99,7 +99,7 @@ fn next_awaited(legacies: Addresses, awaited: Awaited, symbol: &Symbol) -> Optio
     }
 }
 
-/// What comes next behind a header.
+/// What is awaited behind a header.
 fn awaited_behind(
     legacies: Addresses,
     assigning: bool,

@@ -14,7 +14,7 @@ pub enum Mark {
     Bit(bool),
 }
 
-/// A watcher of the lines: their level, and the bit that SDA has kept since SCL rose.
+/// A watcher of the lines' edges: the level of the lines, and the bit that SDA has kept since SCL rose, if it has.
 #[derive(Clone, Copy, Debug, Drop)]
 pub struct Edges {
     pub level: Level,

@@ -90,12 +90,13 @@ pub(crate) fn slots_at(keys: &[(Slot, u64)], places: Mask) -> ArrayVec<Slot, SLO
     ensures { (p : ℕ × ℕ → Bool) → places ≡ mask_of p keys.now → result.items ≡ map (λ e. e.0) (filter p keys.now) }
 {
     let mut slots = ArrayVec::new();
-    let mut first = 0;
+    // for the loop's invariant alone
+    let mut passed = 0;
     let mut rest = places;
     while rest != 0 {
         let place = rest.trailing_zeros();
         slots.push(keys[place as usize].0);
-        first = place + 1;
+        passed = place + 1;
         rest -= 1 << place;
     }
     slots

@@ -83,7 +83,8 @@ impl Reading {
     }
 }
 
-/// A line before the bus: a legacy target, a declared identity, or the start. A declaration that is refused changes nothing.
+/// A line before the bus: a legacy target, a declared identity, or the start. A declaration that is refused changes
+/// nothing.
 fn begin(
     alloc: Global,
     names: &mut Names,
@@ -202,10 +203,11 @@ impl Running {
         Ok(())
     }
 
-    // Adds an event to the script, with the choice that a comment says for it, if one does.
+    // Runs an event on the plain machine, with the choice that a comment says for it, if one does, and adds the event and
+    // its reply to the script. Answers what became of the session.
     fn add_event(&mut self, event: Event) -> Result<Session, Fault> {
         let _ = KNOWN;
-        let (is_said, choice) = self.said();
+        let (is_said, choice) = self.take_choice();
         let reply = self.plain.step(&event, choice)?;
         self.script.events.push(event)?;
         let session = Session::after(&reply);
@@ -214,8 +216,8 @@ impl Running {
         Ok(session)
     }
 
-    // Whether a choice was said for the next event, and which. The event after it has none.
-    fn said(&mut self) -> (bool, Choice) {
+    // Whether a choice was said for the next event, and which. It is taken: the event after that has none.
+    fn take_choice(&mut self) -> (bool, Choice) {
         match mem::replace(&mut self.choice, None) {
             Some(choice) => (true, choice),
             None => (false, Choice::Heard),
@@ -245,7 +247,8 @@ impl Running {
     }
 
     // Shows wishes, enabled kinds, kept addresses and static ones, which no other event tells: requests are served, each
-    // device comes again, is assigned, and interrupts. Then addresses are reset, and each static one is made a dynamic one.
+    // device comes again, is assigned, and interrupts. Then addresses are reset, and each static one is made a dynamic
+    // one.
     fn ask_on(&mut self, alloc: Global) -> Result<(), Fault> {
         self.script.own = self.script.events.len();
         let came = self.script.attached(alloc)?;
@@ -357,8 +360,8 @@ impl Running {
         }
     }
 
-    // The slot that a device enters: the lowest free one. Where one of its name is there still, it is that one's slot, and
-    // the bus refuses it, unless a cut has made room.
+    // The slot that a device enters: the lowest free one. Where one of its name is there still, it is that one's slot,
+    // and the bus refuses it, unless a cut has made room.
     fn seat(&self, names: &Names, name: &Name) -> Option<Slot> {
         let Some(place) = names.place_of(name) else {
             return self.free_slot();

@@ -7,8 +7,8 @@ use i3c_bus::{Event, Framed, Refusal, Reply};
 use i3c_legacy::Legacies;
 use std::alloc::Global;
 
-/// A script as what happens to a bus: its main device, what has a static address, and its events. Those after its own show
-/// what is seen no other way.
+/// A script as what happens to a bus: its main device, what has a static address, and its events. Those after its own
+/// show what is seen no other way.
 #[derive(Drop)]
 pub(crate) struct Script {
     pub main: Setup,
@@ -67,4 +67,5 @@ pub(crate) type Known = (
     Slot,
 );
 
+// what a function names so that the prover knows the types inside a reply
 pub(crate) const KNOWN: Option<Known> = None;

@@ -10,8 +10,8 @@ use Rattle.i3c_scene.specs.Trying.{LineBreaks, LineSteps}
 use Rattle.i3c_tracks.specs.Courses.{LeadsTo}
 use Rattle.i3c_tracks.proofs.exploring.explore_plan.Goals as goal
 
-pub returns-in_ok-push_ends-in-Ok-clause-answer : goal.returns-in_ok-push_ends-in-Ok-clause-answer
-returns-in_ok-push_ends-in-Ok-clause-answer g c =
+pub returns-in_ok-push_report-in-Ok-clause-answer : goal.returns-in_ok-push_report-in-Ok-clause-answer
+returns-in_ok-push_report-in-Ok-clause-answer g c =
     subst (λ (s : Seen). (course : List (List Turn)) → IsBegun c.args.plan.now.blocks.items course → IsOfPart c.args.part c.args.plan.now.blocks.items course → (end : Seen) × LeadsOn LineSteps c.args.plan.now.blocks.items s course end) c.in_ok-start.ensures
     (subst (λ (bs : List (Vec (Vec Line))). (course : List (List Turn)) → IsBegun bs course → IsOfPart c.args.part bs course → (end : Seen) × LeadsOn LineSteps bs c.in_ok-start.start course end) c.deref.ensures.value c.in-Ok.ensures.all)
 
@@ -23,9 +23,9 @@ returns-in_ok-push_broken-in-Err-Breaks-clause-answer g c =
           (subst (λ (bs : List (Vec (Vec Line))). IsShortestInPart LineSteps LineBreaks c.args.part bs c.in_ok-start.start order.items) c.deref.ensures.value (c.in-Err-Breaks.ensures.broken order c.in-Err-Breaks.field-0-is)),
     )
 
-pub returns-in_ok-push_ends-in-Ok-clause-printed : goal.returns-in_ok-push_ends-in-Ok-clause-printed
-returns-in_ok-push_ends-in-Ok-clause-printed g c plan =
-    let (said, report, put) = c.in_ok-push_ends-in-Ok.ensures in
+pub returns-in_ok-push_report-in-Ok-clause-printed : goal.returns-in_ok-push_report-in-Ok-clause-printed
+returns-in_ok-push_report-in-Ok-clause-printed g c plan =
+    let (said, report, put) = c.in_ok-push_report-in-Ok.ensures in
     let ends = c.in-Ok.found.ends.items in
     let found : LeadsTo c.in_ok-start.start c.deref.result.now c.args.part ends c.in-Ok.found.orders = record {
       led = c.in-Ok.ensures.ends;

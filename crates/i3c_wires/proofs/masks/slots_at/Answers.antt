@@ -7,8 +7,8 @@ use Rattle.i3c_wires.proofs.masks.slots_at.Goals as goal
 use Rattle.i3c_wires.proofs.masks.slots_at.Goals.{In-loop-rest}
 
 -- the place that is looked at holds a contender
-inside : (c : In-loop-rest) → (c.loop-rest.first ≤ trailing_zeros mask_width c.loop-rest.rest) × (bit_at c.args.places (trailing_zeros mask_width c.loop-rest.rest) ≡ 1) × (trailing_zeros mask_width c.loop-rest.rest < length c.args.keys.now)
-inside c = slots_place c.requires.places.0 c.args.keys.now c.args.places c.loop-rest.first c.loop-rest.rest c.loop-rest.slots.items c.requires.places.1 (omega (arith, c.loop-rest-test.true)) (omega arith) c.loop-rest.invariant
+inside : (c : In-loop-rest) → (c.loop-rest.passed ≤ trailing_zeros mask_width c.loop-rest.rest) × (bit_at c.args.places (trailing_zeros mask_width c.loop-rest.rest) ≡ 1) × (trailing_zeros mask_width c.loop-rest.rest < length c.args.keys.now)
+inside c = slots_place c.requires.places.0 c.args.keys.now c.args.places c.loop-rest.passed c.loop-rest.rest c.loop-rest.slots.items c.requires.places.1 (omega (arith, c.loop-rest-test.true)) (omega arith) c.loop-rest.invariant
 
 pub loop-rest-init : goal.loop-rest-init
 loop-rest-init c = slots_none c.args.keys.now c.args.places c.new-slots.result.items c.new-slots.ensures
@@ -31,7 +31,7 @@ loop-rest-preserved c =
     let low = inside (goal.at.loop-rest-preserved c).In-loop-rest in
     let at : x ≡ get_or keys place x = sym (get_or_default keys place x c.index-keys-place.result low.2) in
     rw (subtracted c.loop-rest.rest some (omega arith))
-    (slots_next c.requires.places.0 keys c.args.places c.loop-rest.first c.loop-rest.rest c.loop-rest.slots.items c.push.new.self.items x c.requires.places.1 some (omega arith) c.loop-rest.invariant at c.push.ensures.items)
+    (slots_next c.requires.places.0 keys c.args.places c.loop-rest.passed c.loop-rest.rest c.loop-rest.slots.items c.push.new.self.items x c.requires.places.1 some (omega arith) c.loop-rest.invariant at c.push.ensures.items)
 
 pub loop-rest-smaller : goal.loop-rest-smaller
 loop-rest-smaller c = let some : 0 < c.loop-rest.rest = omega (arith, c.loop-rest-test.true) in rw (subtracted c.loop-rest.rest some (omega arith)) (lowest_less c.loop-rest.rest some (omega arith))
@@ -41,5 +41,5 @@ overflow_sub-rest c = omega (arith, lowest_off c.loop-rest.rest (omega (arith, c
 
 pub returns : goal.returns
 returns c =
-    slots_all c.args.keys.now c.args.places c.loop-rest.first c.loop-rest.slots.items (omega (arith, c.requires.few))
-    (subst (λ rest. SlotsLeft c.args.keys.now c.args.places c.loop-rest.first rest c.loop-rest.slots.items) c.loop-rest-test.false c.loop-rest.invariant)
+    slots_all c.args.keys.now c.args.places c.loop-rest.passed c.loop-rest.slots.items (omega (arith, c.requires.few))
+    (subst (λ rest. SlotsLeft c.args.keys.now c.args.places c.loop-rest.passed rest c.loop-rest.slots.items) c.loop-rest-test.false c.loop-rest.invariant)

@@ -1,6 +1,6 @@
 use Rattle.std.proofs.Common.{◌≡◌, ◌++◌, ℕ, List, not}
 use Rattle.i3c_tracks.specs.Ends.{AreEndTexts}
-use Rattle.i3c_tracks.proofs.report.push_each.Given as goal
+use Rattle.i3c_tracks.proofs.report.push_ends.Given as goal
 
 abbrev pub invariant-loop-index : goal.invariant-loop-index
 invariant-loop-index l =

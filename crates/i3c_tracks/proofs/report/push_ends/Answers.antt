@@ -2,7 +2,7 @@
 use Rattle.std.proofs.Common.{length, not, refl}
 use Rattle.std.proofs.lemmas.Option.{slice_get_read}
 use Rattle.i3c_tracks.proofs.EndLaws.{ends_more}
-use Rattle.i3c_tracks.proofs.report.push_each.Goals as goal
+use Rattle.i3c_tracks.proofs.report.push_ends.Goals as goal
 
 pub loop-index-preserved : goal.loop-index-preserved
 loop-index-preserved c =
