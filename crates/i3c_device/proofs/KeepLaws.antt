@@ -38,20 +38,20 @@ pub unpacked-alike : (kept more : List (Option Device)) → ((s : ℕ) → s < S
 unpacked-alike kept more each = unpacks kept (unpacked more) (length-unpacked more) (λ s l. each s l ∙ sym (unpacked_at more s l))
 
 -- what is read at an index
-pub read_at : {X : Type 0} (places : List (Option X)) (i : ℕ) (place : Option X) → i < length places → place ≡ get_or places i place → place ≡ get_or places i None
+pub read_at : (places : List (Option Device)) (i : ℕ) (place : Option Device) → i < length places → place ≡ get_or places i place → place ≡ get_or places i None
 read_at places i place l e = e ∙ get_or_default places i place None l
 
 -- nobody is kept beyond what is kept
-pub beyond : {X : Type 0} (places : List (Option X)) (i : ℕ) → length places ≤ i → get_or places i None ≡ None
+pub beyond : (places : List (Option Device)) (i : ℕ) → length places ≤ i → get_or places i None ≡ None
 beyond [] i l = refl
 beyond (x ∷ xs) zero l = absurd (omega (arith, l))
 beyond (x ∷ xs) (suc i) l = beyond xs i (omega (arith, l))
 
 -- an empty place more
-pub longer-at : {X : Type 0} (places more : List (Option X)) → more ≡ places ++ None ∷ [] → (s : ℕ) → get_or more s None ≡ get_or places s None
-longer-at {X} places more is s = ap (λ xs. get_or xs s None) is ∙ go places s
+pub longer-at : (places more : List (Option Device)) → more ≡ places ++ None ∷ [] → (s : ℕ) → get_or more s None ≡ get_or places s None
+longer-at places more is s = ap (λ xs. get_or xs s None) is ∙ go places s
   where
-    go : (xs : List (Option X)) (s : ℕ) → get_or (xs ++ None ∷ []) s None ≡ get_or xs s None
+    go : (xs : List (Option Device)) (s : ℕ) → get_or (xs ++ None ∷ []) s None ≡ get_or xs s None
     go [] zero = refl
     go [] (suc s) = refl
     go (x ∷ xs) zero = refl

@@ -15,7 +15,6 @@ pub mod SameLaws
 pub mod AnsweringLaws
 pub mod LeastLaws
 pub mod KeepLaws
-pub mod HeldLaws
 mod LengthLaws
 mod RegisterLaws
 pub mod ByteFieldLaws

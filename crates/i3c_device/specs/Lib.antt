@@ -15,4 +15,3 @@ pub mod Least
 pub mod Keeping
 pub mod Lengths
 pub mod ByteFields
-pub mod Queues

@@ -2,12 +2,12 @@ ghost use Rattle.std.specs.Prelude.{◌≡◌, ◌≤◌, ◌+◌, ◌↔◌, Is
 ghost use Rattle.std.specs.Int.{from_le_bytes, w64};
 ghost use Rattle.i3c_base.specs.declared.device.TheConstants.{REGISTERS as REGISTER_COUNT};
 ghost use Rattle.i3c_base.specs.Frames.{pid_bytes};
-ghost use Rattle.i3c_device.specs.ByteFields.{FitBytes, field_bytes};
+ghost use Rattle.i3c_device.specs.ByteFields.{HaveSameByteFields, FitBytes, field_bytes};
 
 use crate::answering::NOWHERE;
 use crate::byte_address::ByteAddress;
 use crate::flag::Flag;
-use crate::queues::{copied, copy_from};
+use crate::queues::{are_same, copied, copy_from};
 use arrayvec::ArrayVec;
 use i3c_base::{
     Addr7, Datum, Direction, Identity, Length, REGISTERS, RaiseRefusal, Request, Setup, WAITING,
@@ -22,18 +22,18 @@ pub(crate) const LONGEST: usize = 6;
 /// An attached device, without its enabled kinds of events: clauses see it with all of them.
 #[derive(Drop)]
 pub(crate) struct Attached {
-    pub(crate) identity: Identity,
+    identity: Identity,
     // the next eight have a byte each, so that two devices compare them as one number
-    pub(crate) fixed: ByteAddress,
-    pub(crate) address: ByteAddress,
-    pub(crate) willing: Flag,
-    pub(crate) join_wish: Flag,
-    pub(crate) role_wish: Flag,
-    pub(crate) hearing: Flag,
-    pub(crate) most_written: Length,
-    pub(crate) most_read: Length,
-    pub(crate) registers: [u8; REGISTERS],
-    pub(crate) waiting: ArrayVec<Waiting, WAITING>,
+    fixed: ByteAddress,
+    address: ByteAddress,
+    willing: Flag,
+    join_wish: Flag,
+    role_wish: Flag,
+    hearing: Flag,
+    most_written: Length,
+    most_read: Length,
+    registers: [u8; REGISTERS],
+    waiting: ArrayVec<Waiting, WAITING>,
 }
 
 impl Model for Attached {
@@ -62,7 +62,7 @@ impl Model for Attached {
 
 impl Attached {
     ghost use Rattle.std.specs.Prelude.{◌≡◌, ◌≤◌, ◌↔◌, IsTrue, is_none, suc, length, slice_get, MatchOption, MatchResult, OnErr, OnOk, Some, None, true};
-    ghost use Rattle.i3c_base.specs.declared.device.TheConstants.{REGISTERS as REGISTER_COUNT, WAITING as MOST_WAITING};
+    ghost use Rattle.i3c_base.specs.declared.device.TheConstants.{REGISTERS as REGISTER_COUNT};
     ghost use Rattle.i3c_base.specs.Filling.{filled_up};
     ghost use Rattle.i3c_base.specs.Frames.{length_of, limited, overwritten, pending, readdressed, told_bytes, unaddressed_device};
     ghost use Rattle.i3c_device.specs.declared.attached.TheConstants.{LONGEST as MOST_TOLD};
@@ -73,7 +73,6 @@ impl Attached {
     ghost use Rattle.i3c_device.specs.Addressing.{IsDynamic};
     ghost use Rattle.i3c_device.specs.Marks.{answer_of};
     ghost use Rattle.i3c_device.specs.Wishing.{choice_of, key_of, wishes_interrupt, wishes_join, wishes_role};
-    ghost use Rattle.i3c_device.specs.Queues.{with_waiting};
     ghost use Rattle.i3c_device.specs.Raising.{front_byte, interrupting_if, next_fault, raise_fault};
 
     /// A device that was just attached, with this static address: its registers are `00`.
@@ -110,20 +109,72 @@ impl Attached {
             most_written: self.most_written,
             most_read: self.most_read,
             registers: self.registers,
-            waiting: copied(self.queue()),
+            waiting: copied(&self.waiting),
         }
     }
 
-    /// These interrupts wait at it from now on, and no others.
-    pub fn requeue(&mut self, waiting: &[Waiting])
-        requires { length waiting.now ≤ MOST_WAITING }
-        ensures { self.new ≡ with_waiting waiting.now self.old }
+    /// The device becomes the same as another one.
+    pub fn copy_from(&mut self, other: &Attached)
+        ensures { self.new ≡ other.now }
     {
-        copy_from(&mut self.waiting, waiting);
+        // all that has a byte is read before any of it is written, so that the compiler moves the bytes as one word
+        let fixed = other.fixed.copied();
+        let address = other.address.copied();
+        let willing = other.willing.copied();
+        let join_wish = other.join_wish.copied();
+        let role_wish = other.role_wish.copied();
+        let hearing = other.hearing.copied();
+        let most_written = other.most_written;
+        let most_read = other.most_read;
+        self.identity = other.identity;
+        self.fixed = fixed;
+        self.address = address;
+        self.willing = willing;
+        self.join_wish = join_wish;
+        self.role_wish = role_wish;
+        self.hearing = hearing;
+        self.most_written = most_written;
+        self.most_read = most_read;
+        self.registers = other.registers;
+        copy_from(&mut self.waiting, &other.waiting);
+    }
+
+    /// The same interrupts wait at it as at another one.
+    pub fn copy_waiting(&mut self, other: &Attached)
+        ensures { self.new ≡ record self.old { waiting = other.now.waiting } }
+    {
+        copy_from(&mut self.waiting, &other.waiting);
+    }
+
+    /// Whether the other device is the same: clauses see no difference between the two.
+    #[inline(always)]
+    pub fn is_same(&self, other: &Attached) -> bool
+        ensures same { IsTrue result ↔ (self.now ≡ other.now) }
+        ensures kinds { self.now.kinds ≡ other.now.kinds }
+    {
+        self.is_same_but_for_waiting(other) && are_same(&self.waiting, &other.waiting)
+    }
+
+    /// Whether the other device is the same, whatever waits at both.
+    #[inline(always)]
+    pub fn is_same_but_for_waiting(&self, other: &Attached) -> bool
+        ensures { IsTrue result ↔ (record self.now { waiting = other.now.waiting } ≡ other.now) }
+    {
+        self.identity == other.identity
+            && self.has_same_byte_fields(other)
+            && are_same_registers(&self.registers, &other.registers)
+    }
+
+    /// Whether the other device has the same in each field of one byte.
+    #[inline(always)]
+    fn has_same_byte_fields(&self, other: &Attached) -> bool
+        ensures { IsTrue result ↔ HaveSameByteFields self.now other.now }
+    {
+        self.byte_fields() == other.byte_fields()
     }
 
     /// Its addresses, its willingness, its wishes, whether it hears the open session, and its lengths, as one number.
-    pub(crate) fn byte_fields(&self) -> u64
+    fn byte_fields(&self) -> u64
         ensures number { result ≡ from_le_bytes w64 (field_bytes self.now) }
         ensures ranged { FitBytes self.now }
     {
@@ -183,18 +234,9 @@ impl Attached {
 
     /// How many of its interrupts wait.
     pub fn waiting(&self) -> usize
-        ensures waiting { result ≡ length self.now.waiting }
-        ensures few { result ≤ MOST_WAITING }
+        ensures { result ≡ length self.now.waiting }
     {
         self.waiting.len()
-    }
-
-    /// The interrupts that wait at it.
-    pub fn queue(&self) -> &[Waiting]
-        ensures waiting { result.now ≡ self.now.waiting }
-        ensures few { length result.now ≤ MOST_WAITING }
-    {
-        self.waiting.as_slice()
     }
 
     /// Whether it takes the controller role when it is offered.
@@ -489,4 +531,16 @@ fn pid_bytes(pid: u64) -> [u8; LONGEST]
         (pid / 0x100 % 256) as u8,
         (pid % 256) as u8,
     ]
+}
+
+/// Whether both are the same registers. All are compared, which is faster than to stop at the first that differs.
+#[inline(always)]
+fn are_same_registers(registers: &[u8; REGISTERS], others: &[u8; REGISTERS]) -> bool
+    ensures { IsTrue result ↔ (registers.now ≡ others.now) }
+{
+    let mut same = true;
+    for index in 0..REGISTERS {
+        same = same & (registers[index] == others[index]);
+    }
+    same
 }

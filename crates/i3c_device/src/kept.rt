@@ -1,11 +1,11 @@
 ghost use Rattle.std.specs.Prelude.{◌≡◌, ◌<◌, ◌≤◌, ℕ, length, None, OnErr, OnOk, slice_index_or};
 ghost use Rattle.i3c_base.specs.declared.range.TheConstants.{SLOTS as SLOT_COUNT};
 
-use crate::kept_device::KeptDevice;
-use crate::kept_place::{KeptPlace, device_in, gathered, keep_all};
+use crate::attached::Attached;
 use crate::occupants::Occupants;
+use crate::places::copy_all;
 use crate::slot_set::SlotSet;
-use i3c_base::{Slot, Waiting};
+use i3c_base::Slot;
 use std::alloc::{AllocError, Global};
 use std::marker::Model;
 
@@ -14,27 +14,25 @@ use std::marker::Model;
 #[derive(Drop)]
 pub(crate) struct Kept {
     present: SlotSet,
-    places: Vec<Option<KeptPlace>>,
-    // the interrupts that wait at all devices, those of a lower slot first: as a rule there are none
-    waiting: Vec<Waiting>,
+    places: Vec<Option<Attached>>,
 }
 
 impl Model for Kept {
     ghost use Rattle.std.specs.Prelude.{◌≡◌, ◌<◌, ◌≤◌, ℕ, is_some, length, List, None, Option, slice_index_or};
     ghost use Rattle.i3c_base.specs.declared.range.TheConstants.{SLOTS as SLOT_COUNT};
     ghost use Rattle.i3c_base.specs.State.{Device as DeviceState};
-    ghost use Rattle.i3c_device.specs.Keeping.{AreInside, all_held, unpacked};
+    ghost use Rattle.i3c_device.specs.Keeping.{unpacked};
     ghost use Rattle.i3c_device.specs.Sets.{has};
 
     ghost Value = { List (Option DeviceState) };
 
-    ghost view = { λ k. unpacked (all_held k.waiting.items k.places.items) };
+    ghost view = { λ k. unpacked k.places.items };
 
-    ghost invariant = { λ k. (length k.places.items ≤ SLOT_COUNT) × ((s : ℕ) → s < SLOT_COUNT → has k.present s ≡ is_some (slice_index_or k.places.items s None)) × AreInside k.waiting.items k.places.items };
+    ghost invariant = { λ k. (length k.places.items ≤ SLOT_COUNT) × ((s : ℕ) → s < SLOT_COUNT → has k.present s ≡ is_some (slice_index_or k.places.items s None)) };
 }
 
 impl Kept {
-    ghost use Rattle.std.specs.Prelude.{◌≡◌, ◌<◌, ℕ, OnErr, OnOk, Some, None, true, is_some, length, slice_index_or};
+    ghost use Rattle.std.specs.Prelude.{◌≡◌, ◌<◌, ℕ, OnErr, OnOk, Some, None, true, is_some, length, option_copied, slice_index_or};
     ghost use Rattle.i3c_base.specs.declared.range.TheConstants.{SLOTS as SLOT_COUNT};
     ghost use Rattle.i3c_base.specs.State.{no_devices};
     ghost use Rattle.i3c_device.specs.Sets.{has};
@@ -46,7 +44,6 @@ impl Kept {
         Kept {
             present: SlotSet::none(),
             places: Vec::new(alloc),
-            waiting: Vec::new(alloc),
         }
     }
 
@@ -58,10 +55,7 @@ impl Kept {
         let present = occupants.marks().present;
         lengthen(&mut self.places, present.span())?;
         let count = self.places.len();
-        let others = &occupants.places()[..count];
-        let waiting = gathered(*self.waiting.allocator(), others)?;
-        keep_all(&mut self.places, others, 0);
-        self.waiting = waiting;
+        copy_all(&mut self.places, &occupants.places()[..count]);
         self.present = present;
         Ok(())
     }
@@ -75,31 +69,31 @@ impl Kept {
     }
 
     /// The device in a slot.
-    pub fn at(&self, slot: Slot) -> Option<KeptDevice<'_>>
-        ensures place { result ≡ slice_index_or self.now slot None }
+    pub fn at(&self, slot: Slot) -> Option<&Attached>
+        ensures place { option_copied result ≡ slice_index_or self.now slot None }
         ensures slots { length self.now ≡ SLOT_COUNT }
     {
         match self.places.get(slot.index()) {
-            Some(place) => device_in(place, &self.waiting),
+            Some(place) => place.as_ref(),
             None => None,
         }
     }
 
     /// The device in a slot that holds one.
     #[inline(always)]
-    pub fn device(&self, index: usize) -> KeptDevice<'_>
+    pub fn device(&self, index: usize) -> &Attached
         requires { (index < SLOT_COUNT) × (is_some (slice_index_or self.now index None) ≡ true) }
-        ensures { slice_index_or self.now index None ≡ Some result }
+        ensures { slice_index_or self.now index None ≡ Some result.now }
     {
         match &self.places[index] {
-            Some(place) => place.device(&self.waiting),
+            Some(device) => device,
             None => unreachable!(),
         }
     }
 }
 
 /// There are at least `count` places; the new ones are empty.
-fn lengthen(places: &mut Vec<Option<KeptPlace>>, count: usize) -> Result<(), AllocError>
+fn lengthen(places: &mut Vec<Option<Attached>>, count: usize) -> Result<(), AllocError>
     requires { (length places.old.items ≤ SLOT_COUNT) × (count ≤ SLOT_COUNT) }
     ensures same { (s : ℕ) → slice_index_or places.new.items s None ≡ slice_index_or places.old.items s None }
     ensures long { OnOk result (count ≤ length places.new.items) }

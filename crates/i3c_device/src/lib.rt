@@ -11,8 +11,6 @@ mod driven_requests;
 mod enabled;
 mod flag;
 mod kept;
-mod kept_device;
-mod kept_place;
 mod kinds;
 mod marks;
 mod occupants;
@@ -20,7 +18,6 @@ mod own_kinds;
 mod places;
 mod queues;
 mod resting;
-mod resting_device;
 mod slot_set;
 mod slot_update;
 

@@ -1,6 +1,5 @@
 use crate::attached::Attached;
 use crate::kept::Kept;
-use crate::kept_device::KeptDevice;
 use crate::marks::Marks;
 use crate::places::{byte_from, is_here, length_in, pull_low, raise, requeue, wishes_interrupt};
 use crate::slot_set::SlotSet;
@@ -44,7 +43,7 @@ impl Occupants {
     ghost use Rattle.i3c_device.specs.Lengths.{IsLeastLength};
     ghost use Rattle.i3c_device.specs.Sets.{has};
     ghost use Rattle.i3c_device.specs.Walks.{AreTakers, AreReached};
-    ghost use Rattle.std.specs.Prelude.{◌≡◌, ◌<◌, ◌&&◌, ℕ, All, IsTrue, false, is_some, length, suc, true, Some, None, option_map, slice_index, slice_index_or, slice_set, MatchOption, MatchResult, OnOk, OnErr};
+    ghost use Rattle.std.specs.Prelude.{◌≡◌, ◌<◌, ◌&&◌, ℕ, All, IsTrue, false, is_some, length, suc, true, Some, None, option_copied, option_map, slice_index, slice_index_or, slice_set, MatchOption, MatchResult, OnOk, OnErr};
 
     /// Empty slots.
     #[inline(always)]
@@ -69,18 +68,18 @@ impl Occupants {
     }
 
     /// Puts a device into a slot, or none.
-    pub fn wake_at(&mut self, slot: Slot, device: Option<KeptDevice<'_>>)
-        ensures put { self.new ≡ slice_set self.old slot device.entry }
+    pub fn wake_at(&mut self, slot: Slot, device: Option<&Attached>)
+        ensures put { self.new ≡ slice_set self.old slot (option_copied device.entry) }
         ensures slots { length self.old ≡ SLOT_COUNT }
     {
         match device {
-            Some(device) => self.wake_device(slot, &device),
+            Some(device) => self.wake_device(slot, device),
             None => self.put(slot, None),
         }
     }
 
     /// Puts a device into a slot. Where it is there already, nothing is written.
-    fn wake_device(&mut self, slot: Slot, device: &KeptDevice<'_>)
+    fn wake_device(&mut self, slot: Slot, device: &Attached)
         ensures put { self.new ≡ slice_set self.old slot (Some device.now) }
         ensures slots { length self.old ≡ SLOT_COUNT }
     {
@@ -90,12 +89,12 @@ impl Occupants {
         if self.requeue(slot, device) {
             return;
         }
-        self.put(slot, Some(device.woken()));
+        self.put(slot, Some(device.copied()));
     }
 
     /// Copies only the queue of a device into a slot, if the device there differs in nothing else. Answers whether it
     /// did.
-    fn requeue(&mut self, slot: Slot, device: &KeptDevice<'_>) -> bool
+    fn requeue(&mut self, slot: Slot, device: &Attached) -> bool
         ensures put { IsTrue result → self.new ≡ slice_set self.old slot (Some device.now) }
         ensures kept { result ≡ false → self.new ≡ self.old }
     {

@@ -16,35 +16,81 @@ ghost use Rattle.i3c_device.specs.Wishing.{wishes_interrupt, wishes_join, wishes
 
 use crate::answering::NOWHERE;
 use crate::attached::Attached;
-use crate::kept_device::KeptDevice;
 use crate::slot_update::Driven;
 use i3c_base::{
     Addr7, Direction, Identity, Length, REGISTERS, RaiseRefusal, Request, Slot, Waiting,
 };
 
 /// Whether the place holds this device.
-pub(crate) fn is_here(device: &KeptDevice<'_>, place: &Option<Attached>) -> bool
+pub(crate) fn is_here(device: &Attached, place: &Option<Attached>) -> bool
     ensures { IsTrue result ↔ (place.now ≡ Some device.now) }
 {
     match place {
-        Some(held) => device.is_of(held),
+        Some(held) => held.is_same(device),
         None => false,
     }
 }
 
 /// The device here becomes this one, if the two differ only in what waits. Answers whether it does.
-pub(crate) fn requeue(place: &mut Option<Attached>, device: &KeptDevice<'_>) -> bool
+pub(crate) fn requeue(place: &mut Option<Attached>, device: &Attached) -> bool
     ensures put { IsTrue result → place.new ≡ Some device.now }
     ensures requeued { IsTrue result → place.new ≡ option_map (requeued (λ _. device.now.waiting)) place.old }
     ensures kept { result ≡ false → place.new ≡ place.old }
 {
     match place {
-        Some(held) if device.is_of_but_for_waiting(held) => {
-            held.requeue(device.waiting());
+        Some(held) if held.is_same_but_for_waiting(device) => {
+            held.copy_waiting(device);
             true
         }
         _ => false,
     }
+}
+
+/// One place becomes the same as another.
+pub(crate) fn copy_from(place: &mut Option<Attached>, other: &Option<Attached>)
+    ensures { place.new ≡ other.now }
+{
+    let Some(twin) = other else {
+        if place.is_some() {
+            vacate(place);
+        }
+        return;
+    };
+    match place {
+        Some(device) => device.copy_from(twin),
+        None => fill(place, twin),
+    }
+}
+
+/// The place is empty from now on. A function of its own, since a whole place is cleared for it.
+#[inline(never)]
+fn vacate(place: &mut Option<Attached>)
+    ensures { place.new ≡ None }
+{
+    *place = None;
+}
+
+/// The place holds the same device as the other. A function of its own, since a whole device is cleared for it.
+#[inline(never)]
+fn fill(place: &mut Option<Attached>, twin: &Attached)
+    ensures { place.new ≡ Some twin.now }
+{
+    *place = Some(twin.copied());
+}
+
+/// Each of some places becomes the same as the other one.
+pub(crate) fn copy_all(places: &mut [Option<Attached>], others: &[Option<Attached>])
+    requires { length places.old ≡ length others.now }
+    ensures { places.new ≡ others.now }
+{
+    let Some((first, rest)) = places.split_first_mut() else {
+        return;
+    };
+    let Some((other, more)) = others.split_first() else {
+        unreachable!()
+    };
+    copy_from(first, other);
+    copy_all(rest, more);
 }
 
 /// What the device here is, if there is one.

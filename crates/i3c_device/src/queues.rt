@@ -1,13 +1,11 @@
-ghost use Rattle.std.specs.Prelude.{◌≡◌, ◌≤◌, ◌↔◌, IsTrue, length};
-ghost use Rattle.i3c_base.specs.declared.device.TheConstants.{WAITING as MOST_WAITING};
+ghost use Rattle.std.specs.Prelude.{◌≡◌, ◌↔◌, IsTrue};
 
 use arrayvec::ArrayVec;
 use i3c_base::{WAITING, Waiting};
 
 /// A copy of some interrupts, in their order.
-pub(crate) fn copied(waiting: &[Waiting]) -> ArrayVec<Waiting, WAITING>
-    requires { length waiting.now ≤ MOST_WAITING }
-    ensures { result.items ≡ waiting.now }
+pub(crate) fn copied(waiting: &ArrayVec<Waiting, WAITING>) -> ArrayVec<Waiting, WAITING>
+    ensures { result.items ≡ waiting.now.items }
 {
     let mut queue: ArrayVec<Waiting, WAITING> = ArrayVec::new();
     for interrupt in waiting.iter() {
@@ -16,11 +14,13 @@ pub(crate) fn copied(waiting: &[Waiting]) -> ArrayVec<Waiting, WAITING>
     queue
 }
 
-/// Copies some interrupts into a queue, in their order.
+/// Copies the interrupts of another queue, in their order.
 #[inline(always)]
-pub(crate) fn copy_from(waiting: &mut ArrayVec<Waiting, WAITING>, others: &[Waiting])
-    requires { length others.now ≤ MOST_WAITING }
-    ensures { waiting.new.items ≡ others.now }
+pub(crate) fn copy_from(
+    waiting: &mut ArrayVec<Waiting, WAITING>,
+    others: &ArrayVec<Waiting, WAITING>,
+)
+    ensures { waiting.new.items ≡ others.now.items }
 {
     if !others.is_empty() || !waiting.is_empty() {
         copy_some(waiting, others);
@@ -30,20 +30,22 @@ pub(crate) fn copy_from(waiting: &mut ArrayVec<Waiting, WAITING>, others: &[Wait
 /// The same where some wait.
 // kept apart, since few devices have an interrupt that waits
 #[inline(never)]
-fn copy_some(waiting: &mut ArrayVec<Waiting, WAITING>, others: &[Waiting])
-    requires { length others.now ≤ MOST_WAITING }
-    ensures { waiting.new.items ≡ others.now }
+fn copy_some(waiting: &mut ArrayVec<Waiting, WAITING>, others: &ArrayVec<Waiting, WAITING>)
+    ensures { waiting.new.items ≡ others.now.items }
 {
     waiting.clear();
-    let Ok(()) = waiting.try_extend_from_slice(others) else {
+    let Ok(()) = waiting.try_extend_from_slice(others.as_slice()) else {
         unreachable!()
     };
 }
 
-/// Whether both are the same interrupts, in the same order.
+/// Whether the same interrupts wait in both, in the same order.
 #[inline(always)]
-pub(crate) fn are_same(waiting: &[Waiting], others: &[Waiting]) -> bool
-    ensures { IsTrue result ↔ (waiting.now ≡ others.now) }
+pub(crate) fn are_same(
+    waiting: &ArrayVec<Waiting, WAITING>,
+    others: &ArrayVec<Waiting, WAITING>,
+) -> bool
+    ensures { IsTrue result ↔ (waiting.now.items ≡ others.now.items) }
 {
     if others.is_empty() {
         waiting.is_empty()
@@ -55,8 +57,11 @@ pub(crate) fn are_same(waiting: &[Waiting], others: &[Waiting]) -> bool
 /// The same where some wait.
 // kept apart, since few devices have an interrupt that waits
 #[inline(never)]
-fn have_same_items(waiting: &[Waiting], others: &[Waiting]) -> bool
-    ensures { IsTrue result ↔ (waiting.now ≡ others.now) }
+fn have_same_items(
+    waiting: &ArrayVec<Waiting, WAITING>,
+    others: &ArrayVec<Waiting, WAITING>,
+) -> bool
+    ensures { IsTrue result ↔ (waiting.now.items ≡ others.now.items) }
 {
-    waiting == others
+    waiting.as_slice() == others.as_slice()
 }

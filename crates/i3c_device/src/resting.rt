@@ -1,14 +1,14 @@
-ghost use Rattle.std.specs.Prelude.{◌≡◌, ◌<◌, ◌↔◌, ℕ, IsTrue, None, false, true, option_map, slice_index_or};
+ghost use Rattle.std.specs.Prelude.{◌≡◌, ◌<◌, ◌↔◌, ℕ, IsTrue, None, false, true, option_map, option_copied, slice_index_or};
 ghost use Rattle.i3c_base.specs.declared.range.TheConstants.{SLOTS as SLOT_COUNT};
 ghost use Rattle.i3c_base.specs.Numbers.{KindSet};
 ghost use Rattle.i3c_device.specs.Enabling.{under};
 ghost use Rattle.i3c_device.specs.Keeping.{IsHeld};
 ghost use Rattle.i3c_device.specs.Sets.{has};
 
+use crate::attached::Attached;
 use crate::devices::Devices;
 use crate::enabled::Enabled;
 use crate::kept::Kept;
-use crate::kept_device::KeptDevice;
 use crate::occupants::Occupants;
 use crate::slot_set::SlotSet;
 use i3c_base::{Addr7, Slot};
@@ -104,12 +104,12 @@ impl Resting {
 }
 
 /// Whether both are the same device, with kinds of events enabled for the two that differ or don't, or nobody.
-fn are_same(one: Option<KeptDevice<'_>>, other: Option<KeptDevice<'_>>, differ: bool) -> bool
-    ensures { (kinds others : KindSet) → (differ ≡ false) ↔ (kinds ≡ others) → IsTrue result ↔ (option_map (under kinds) one.entry ≡ option_map (under others) other.entry) }
+fn are_same(one: Option<&Attached>, other: Option<&Attached>, differ: bool) -> bool
+    ensures { (kinds others : KindSet) → (differ ≡ false) ↔ (kinds ≡ others) → IsTrue result ↔ (option_map (under kinds) (option_copied one.entry) ≡ option_map (under others) (option_copied other.entry)) }
 {
     match (one, other) {
         (None, None) => true,
-        (Some(device), Some(twin)) => !differ && device.is_same(&twin),
+        (Some(device), Some(twin)) => !differ && device.is_same(twin),
         (None, Some(_)) => false,
         (Some(_), None) => false,
     }
@@ -122,7 +122,7 @@ fn are_same_among(among: SlotSet, kept: &Kept, occupants: &Occupants) -> bool
 {
     let mut left = among;
     while let Some(index) = left.take_lowest() {
-        if !kept.device(index).is_of(occupants.device(index)) {
+        if !kept.device(index).is_same(occupants.device(index)) {
             return false;
         }
     }

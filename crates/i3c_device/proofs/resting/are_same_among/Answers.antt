@@ -19,18 +19,18 @@ device-requires-in-Some c =
 pub loop-index-preserved : goal.loop-index-preserved
 loop-index-preserved c =
     walked_more c.args.among c.loop-index.left c.take_lowest.new.self c.in-Some.index c.args.kept.now c.args.occupants.now c.loop-index.invariant c.in-Some.ensures.taken.3
-    (c.device.ensures ∙ (ap Some (c.is_of.ensures.same.0 c.if-not-is_of.false) ∙ sym c.device-in-Some.ensures))
+    (c.device.ensures ∙ (ap Some (c.is_same.ensures.same.0 c.if-not-is_same.false) ∙ sym c.device-in-Some.ensures))
 
-pub returns-then-not-is_of : goal.returns-then-not-is_of
-returns-then-not-is_of c kinds = (
+pub returns-then-not-is_same : goal.returns-then-not-is_same
+returns-then-not-is_same c kinds = (
   λ t. absurd (false≢true t),
   λ same.
       let taken = c.in-Some.ensures.taken in
       let alike = same c.in-Some.index taken.0 (c.loop-index.invariant.within c.in-Some.index taken.0 taken.1) in
-      let one = c.device.result in
+      let one = c.device.result.now in
       let other = c.device-in-Some.result.now in
       let seen : under kinds one ≡ under kinds other = some_own (under kinds one) (under kinds other) (sym (ap (option_map (under kinds)) c.device.ensures) ∙ (alike ∙ ap (option_map (under kinds)) c.device-in-Some.ensures)) in
-      sym c.if-not-is_of.true ∙ c.is_of.ensures.same.1 (same_under one other kinds c.is_of.ensures.kinds seen),
+      sym c.if-not-is_same.true ∙ c.is_same.ensures.same.1 (same_under one other kinds c.is_same.ensures.kinds seen),
 )
 
 pub returns : goal.returns

@@ -1,6 +1,7 @@
 -- The slots that aren't left hold the same in both.
 use Rattle.std.proofs.Common.{◌≡◌, ◌∙◌, Decides, ap, get_or, None, refl, sym}
 use Rattle.std.proofs.lemmas.Bool.{false≢true}
+use Rattle.std.specs.Option.{option_copied}
 use Rattle.i3c_device.specs.Enabling.{kinds_in}
 use Rattle.i3c_device.proofs.KeepLaws.{decided, length-seen_kept, some_seen}
 use Rattle.i3c_device.proofs.SameLaws.{same_all, same_empty, same_more}
@@ -13,7 +14,7 @@ is_decided c =
     let own = kinds_in c.self.inside.enabled i in
     let its = kinds_in c.others.inside.enabled i in
     let alike = c.differing-differing.ensures i c.in-Some.ensures.taken.0 in
-    decided c.self.inside.enabled c.others.inside.enabled c.self.inside.kept c.others.inside.kept c.args.self.now c.args.others.now c.from_index-slot.result i own its c.at.result c.at-in-Some.result
+    decided c.self.inside.enabled c.others.inside.enabled c.self.inside.kept c.others.inside.kept c.args.self.now c.args.others.now c.from_index-slot.result i own its (option_copied c.at.result) (option_copied c.at-in-Some.result)
     c.are_same.result c.self.view_is c.others.view_is c.from_index-slot.ensures refl refl c.at.ensures.place c.at-in-Some.ensures.place
     (c.are_same.ensures own its (λ f. alike.0 (sym c.has-differ.ensures ∙ f), λ same. c.has-differ.ensures ∙ alike.1 same))
 

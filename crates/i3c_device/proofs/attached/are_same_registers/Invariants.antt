@@ -1,5 +1,5 @@
 use Rattle.std.proofs.Common.{◌≡◌, ◌<◌, ℕ, Decides, get_or}
-use Rattle.i3c_device.proofs.resting_device.are_same_registers.Given as goal
+use Rattle.i3c_device.proofs.attached.are_same_registers.Given as goal
 
 -- whether both begin alike
 abbrev pub invariant-loop-index : goal.invariant-loop-index

@@ -3,7 +3,7 @@ use Rattle.std.proofs.Common.{ap, sym, ◌∙◌}
 use Rattle.std.specs.Int.{from_le_bytes, w64}
 use Rattle.std.proofs.lemmas.Bool.{eq-eqb, eqb-true}
 use Rattle.i3c_device.proofs.ByteFieldLaws.{fields_alike, same_byte_fields}
-use Rattle.i3c_device.proofs.resting_device.RestingDevice.has_same_byte_fields.Goals as goal
+use Rattle.i3c_device.proofs.attached.Attached.has_same_byte_fields.Goals as goal
 
 pub returns : goal.returns
 returns c = (
