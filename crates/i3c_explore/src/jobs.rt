@@ -110,11 +110,7 @@ fn expand_job<M: Machine>(
         spares,
         &view,
     ) {
-        Ok(mut next) => {
-            // no more room is kept than the next layer can take, so that each job frees its part
-            next.spares.truncate(next.nodes.len());
-            Ok(next)
-        }
+        Ok(next) => Ok(next),
         Err(stop) => Err(stop),
     }
 }
@@ -139,14 +135,12 @@ fn map_apart<R: Threads + Sync, J: Send + Drop, X: Send + Drop, L: Drop, F: Fn(J
     made
 }
 
-/// Takes off nodes whose room isn't needed behind a layer, but no more than one thread frees while the jobs run.
+/// The nodes behind as many as a layer can take the room of.
 fn surplus_of<M: Machine>(
     spares: &mut Vec<Node<M>>,
     layer: &[Node<M>],
 ) -> Result<Vec<Node<M>>, AllocError> {
-    let some = spares.len().saturating_sub(layer.len() / 2);
-    let kept = some.max(layer.len()).min(spares.len());
-    spares.split_off(kept)
+    spares.split_off(layer.len().min(spares.len()))
 }
 
 /// The layer that follows all nodes of a layer. Each job runs the lines that it owns, on a thread of its own.
