@@ -63,7 +63,7 @@ fn ways_at<M: Machine>(
     }
 }
 
-/// The lines that run from some nodes of a layer, in the order of the places that they lead to.
+/// The lines that run from some nodes of a layer.
 pub(crate) fn sampled<M: Machine>(
     alloc: Global,
     layer: &[Node<M>],
