@@ -1,4 +1,4 @@
-ghost use Rattle.std.specs.Prelude.{◌≡◌, ◌↔◌, IfOk, IsTrue, MatchOption, OnErr, OnOk};
+ghost use Rattle.std.specs.Prelude.{◌≡◌, ◌≤◌, ◌↔◌, IfOk, IsTrue, MatchOption, OnErr, OnOk, length, vec_capacity};
 ghost use Rattle.i3c_table.specs.Room.{HasRoom};
 
 use crate::bus::Bus;
@@ -350,34 +350,45 @@ fn copy_records(
     ensures copied { OnOk result (records.new.items ≡ others.now.items) }
     ensures kept { OnErr result (records.new ≡ records.old) }
 {
-    if let Some(copy) = other_records(alloc, records, others)? {
-        *records = copy;
-    }
+    let copy = other_records(alloc, records, others)?;
+    settle_records(records, copy, others);
     Ok(())
 }
 
-/// Others once more, unless these are the same.
+/// Others once more, unless these have room for them.
 fn other_records(
     alloc: Global,
     records: &Vec<Record>,
     others: &Vec<Record>,
 ) -> Result<Option<Vec<Record>>, AllocError>
-    ensures { IfOk result (λ copy. MatchOption copy (records.now.items ≡ others.now.items) (λ copy. copy.items ≡ others.now.items)) }
+    ensures { IfOk result (λ copy. MatchOption copy (length others.now.items ≤ vec_capacity records.now) (λ copy. copy.items ≡ others.now.items)) }
 {
-    if are_same(records, others) {
+    if others.len() <= records.capacity() {
         return Ok(None);
     }
     Ok(Some(records_again(alloc, others)?))
 }
 
-/// These become the same records as others, of which there is a copy where they aren't.
+/// These become the same records as others, of which there is a copy where these have no room for them.
 fn settle_records(records: &mut Vec<Record>, copy: Option<Vec<Record>>, others: &Vec<Record>)
-    requires { MatchOption copy (records.old.items ≡ others.now.items) (λ copy. copy.items ≡ others.now.items) }
+    requires { MatchOption copy (length others.now.items ≤ vec_capacity records.old) (λ copy. copy.items ≡ others.now.items) }
     ensures { records.new.items ≡ others.now.items }
 {
-    if let Some(copy) = copy {
-        *records = copy;
+    match copy {
+        Some(copy) => *records = copy,
+        None => refill(records, others),
     }
+}
+
+/// These become the same records as others, for which they have room.
+fn refill(records: &mut Vec<Record>, others: &Vec<Record>)
+    requires { length others.now.items ≤ vec_capacity records.old }
+    ensures { records.new.items ≡ others.now.items }
+{
+    records.clear();
+    let Ok(()) = records.extend_from_slice(others.as_slice()) else {
+        unreachable!()
+    };
 }
 
 /// A table at rest once more, unless there is room for it in this one.

@@ -10,7 +10,8 @@ pub mod Shares
 pub mod Nexts
 pub mod Following
 pub mod Merging
-pub mod Moving
+pub mod Fronts
+mod Moving
 pub mod Turns
 pub mod Splitting
 pub mod Opening

@@ -10,6 +10,7 @@ pub mod Stops
 pub mod Sums
 pub mod Nexts
 pub mod Moves
+pub mod Fronts
 pub mod Owners
 pub mod Jobs
 pub mod Twins

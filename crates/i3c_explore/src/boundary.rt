@@ -1,50 +1,78 @@
-use crate::codes::{BITS, code_of};
+use crate::codes::BITS;
 use crate::machine::Machine;
 use crate::node::Node;
 use crate::part::Part;
+use crate::places::{Codes, Place, Places};
 use std::alloc::{AllocError, Global};
 
-/// How many nodes of a layer are looked at to share it out.
-const SAMPLE: usize = 256;
+/// How many places are looked at to share out the lines of a layer.
+const LOOKED_AT: usize = 512;
 
-/// The next line of a track at a node.
+/// Lines that lead to the same places.
 #[derive(Clone, Copy)]
-pub(crate) struct Sample {
-    // the places that it leads to
+struct Bundle {
+    // the number of the places
     target: u64,
-    node: usize,
-    // in how many ways it is run
+    // they run from the nodes from this one on
+    from: usize,
+    // up to the one before this
+    to: usize,
+    // how often they run, each in all its ways
     ways: usize,
 }
 
-/// Lines that are shared out among some jobs.
+/// The lines of a layer, by the places that they lead to.
 #[derive(Drop)]
-struct Piece {
-    samples: Vec<Sample>,
-    from: usize,
-    to: usize,
+struct Bundles {
+    codes: Codes,
+    all: Vec<Bundle>,
 }
 
-/// Adds the lines that run from a node.
-fn look_at<M: Machine>(
-    samples: &mut Vec<Sample>,
-    layer: &[Node<M>],
-    node: usize,
-    weights: &[u64],
-    tracks: &[Vec<M::Line>],
-    part: Part,
-) -> Result<(), AllocError> {
-    let Some(seen) = layer.get(node) else {
-        return Ok(());
-    };
-    let code = code_of(&seen.places, weights);
-    for (track, weight) in weights.iter().enumerate() {
-        if let Some(ways) = ways_at(seen, track, tracks, part) {
-            let target = code.wrapping_add(*weight);
-            samples.push(Sample { target, node, ways })?;
+impl Bundles {
+    /// Adds lines that lead to the same places. All of them run from `nodes` nodes.
+    fn add(
+        &mut self,
+        alloc: Global,
+        target: u64,
+        ways: usize,
+        nodes: usize,
+    ) -> Result<(), AllocError> {
+        let index = self.codes.index_of(alloc, target)?;
+        match self.all.get_mut(index) {
+            Some(bundle) => bundle.ways = bundle.ways.saturating_add(ways),
+            None => {
+                self.all.push(Bundle {
+                    target,
+                    from: 0,
+                    to: nodes,
+                    ways,
+                })?;
+            }
         }
+        Ok(())
     }
-    Ok(())
+
+    /// Adds the lines that run from the nodes at a place, each as the first of these nodes runs it.
+    fn add_place<M: Machine>(
+        &mut self,
+        alloc: Global,
+        layer: &[Node<M>],
+        place: Place,
+        weights: &[u64],
+        tracks: &[Vec<M::Line>],
+        part: Part,
+    ) -> Result<(), AllocError> {
+        let Some(node) = layer.get(place.first) else {
+            return Ok(());
+        };
+        for (track, weight) in weights.iter().enumerate() {
+            if let Some(ways) = ways_at(node, track, tracks, part) {
+                let target = place.code.wrapping_add(*weight);
+                self.add(alloc, target, ways.saturating_mul(place.count), layer.len())?;
+            }
+        }
+        Ok(())
+    }
 }
 
 /// In how many ways a track's next line runs from a node, if it has one by which orders of a part begin.
@@ -63,21 +91,34 @@ fn ways_at<M: Machine>(
     }
 }
 
-/// The lines that run from some nodes of a layer.
-pub(crate) fn sampled<M: Machine>(
+/// The lines that run from nodes at some of the places.
+fn bundles_of<M: Machine>(
     alloc: Global,
     layer: &[Node<M>],
+    places: &Places,
     weights: &[u64],
     tracks: &[Vec<M::Line>],
     part: Part,
-) -> Result<Vec<Sample>, AllocError> {
-    let step = layer.len() / SAMPLE + 1;
-    let mut samples = Vec::new(alloc);
-    for index in 0..layer.len() / step + 1 {
-        let node = index.saturating_mul(step);
-        look_at(&mut samples, layer, node, weights, tracks, part)?;
+) -> Result<Vec<Bundle>, AllocError> {
+    let step = places.all.len() / LOOKED_AT + 1;
+    let mut bundles = Bundles {
+        codes: Codes::new(alloc),
+        all: Vec::new(alloc),
+    };
+    for number in 0..places.all.len() / step + 1 {
+        if let Some(place) = places.all.get(number.saturating_mul(step)) {
+            bundles.add_place(alloc, layer, *place, weights, tracks, part)?;
+        }
     }
-    Ok(samples)
+    Ok(bundles.all)
+}
+
+/// Lines that are shared out among some jobs.
+#[derive(Drop)]
+struct Piece {
+    bundles: Vec<Bundle>,
+    from: usize,
+    to: usize,
 }
 
 /// Places as seen from a track: that track counts most.
@@ -103,34 +144,34 @@ impl Boundary {
 }
 
 /// How often all of some lines run.
-fn ways_of(samples: &[Sample]) -> usize {
+fn ways_of(bundles: &[Bundle]) -> usize {
     let mut ways = 0usize;
-    for sample in samples {
-        ways = ways.saturating_add(sample.ways);
+    for bundle in bundles {
+        ways = ways.saturating_add(bundle.ways);
     }
     ways
 }
 
 /// How far apart the places of a track are.
-fn spread(samples: &[Sample], track: u32) -> u64 {
+fn spread(bundles: &[Bundle], track: u32) -> u64 {
     let mut sum = 0u64;
     let mut squares = 0u64;
-    for sample in samples {
-        let place = seen_from(sample.target, track) >> (64 - BITS);
+    for bundle in bundles {
+        let place = seen_from(bundle.target, track) >> (64 - BITS);
         sum = sum.wrapping_add(place);
         squares = squares.wrapping_add(place.wrapping_mul(place));
     }
     squares
-        .wrapping_mul(samples.len() as u64)
+        .wrapping_mul(bundles.len() as u64)
         .wrapping_sub(sum.wrapping_mul(sum))
 }
 
 /// The track whose places are farthest apart.
-fn widest(samples: &[Sample], tracks: usize) -> u32 {
+fn widest(bundles: &[Bundle], tracks: usize) -> u32 {
     let mut widest = 0u32;
     let mut most = 0u64;
     for track in 0..tracks.min(8) {
-        let apart = spread(samples, track as u32);
+        let apart = spread(bundles, track as u32);
         if apart > most {
             widest = track as u32;
             most = apart;
@@ -139,67 +180,110 @@ fn widest(samples: &[Sample], tracks: usize) -> u32 {
     widest
 }
 
-/// The first of some sorted lines that the later jobs run, if those before are to run about so often.
-fn cut_at(samples: &[Sample], due: usize) -> usize {
-    let mut before = 0usize;
-    for (place, sample) in samples.iter().enumerate() {
-        if before >= due {
-            return place;
-        }
-        before = before.saturating_add(sample.ways);
-    }
-    samples.len()
+/// Where sorted lines are cut in two.
+#[derive(Clone, Copy)]
+struct Division {
+    // the first bundle of the later half
+    index: usize,
+    // how often lines of this bundle run in the earlier half
+    within: usize,
 }
 
-/// Cuts sorted lines in two at about a place: where the later ones begin, and the node with which they begin, or 0.
-fn nearest(samples: &[Sample], place: usize, each: usize) -> (usize, usize) {
-    let Some(at) = samples.get(place) else {
-        return (place, 0);
-    };
-    let mut first = place;
-    let mut last = place;
-    for (index, sample) in samples.iter().enumerate() {
-        if sample.target == at.target {
-            first = first.min(index);
-            last = index.saturating_add(1);
+/// The cut before which lines run so often.
+fn cut_at(bundles: &[Bundle], due: usize) -> Division {
+    let mut left = due;
+    for (index, bundle) in bundles.iter().enumerate() {
+        if left < bundle.ways {
+            return Division {
+                index,
+                within: left,
+            };
         }
+        left -= bundle.ways;
     }
-    let few = each / 8;
-    let before = ways_of(samples.get(first..place).unwrap_or(&[]));
-    let behind = ways_of(samples.get(place..last).unwrap_or(&[]));
-    if before.min(behind) > few {
-        return (place, at.node);
+    Division {
+        index: bundles.len(),
+        within: 0,
     }
-    if before <= behind {
-        (first, 0)
+}
+
+/// The same cut, or one that goes through no bundle, if only `few` lines come to the other half by that.
+fn whole(bundles: &[Bundle], cut: Division, few: usize) -> Division {
+    let Some(bundle) = bundles.get(cut.index) else {
+        return cut;
+    };
+    let behind = bundle.ways.saturating_sub(cut.within);
+    if cut.within.min(behind) > few {
+        return cut;
+    }
+    let index = if cut.within <= behind {
+        cut.index
     } else {
-        (last, 0)
-    }
-}
-
-/// The places that the line at a place leads to, as seen from a track.
-fn target_at(samples: &[Sample], track: u32, place: usize) -> u64 {
-    match samples.get(place) {
-        Some(sample) => seen_from(sample.target, track),
-        None => u64::MAX,
-    }
-}
-
-/// Sorts the lines of a piece by the track whose places are farthest apart, and finds where the later half of its jobs
-/// begins: the place in the piece, and the boundary.
-fn cut(samples: &mut Vec<Sample>, tracks: usize, jobs: usize) -> (usize, Boundary) {
-    let track = widest(samples, tracks);
-    samples.sort_unstable_by_key(|sample| (seen_from(sample.target, track), sample.node));
-    let each = ways_of(samples) / jobs.max(1);
-    let about = cut_at(samples, each.saturating_mul(jobs / 2));
-    let (place, node) = nearest(samples, about, each);
-    let target = target_at(samples, track, place);
-    let boundary = Boundary {
-        track,
-        target,
-        node,
+        cut.index.saturating_add(1)
     };
-    (place, boundary)
+    Division { index, within: 0 }
+}
+
+/// Divides a bundle that is cut, at a node: its first part stays.
+fn divide(bundle: &mut Bundle, within: usize) -> Bundle {
+    let nodes = bundle.to.saturating_sub(bundle.from);
+    let earlier = nodes.saturating_mul(within) / bundle.ways.max(1);
+    let node = bundle.from.saturating_add(earlier);
+    let later = Bundle {
+        from: node,
+        ways: bundle.ways.saturating_sub(within),
+        ..*bundle
+    };
+    bundle.to = node;
+    bundle.ways = within;
+    later
+}
+
+/// The bundles behind a cut. Those before it stay.
+fn behind(bundles: &mut Vec<Bundle>, cut: Division) -> Result<Vec<Bundle>, AllocError> {
+    let at = cut.index.min(bundles.len());
+    let mut later = bundles.split_off(at)?;
+    if cut.within > 0 {
+        if let Some(first) = later.first_mut() {
+            let mut earlier = *first;
+            *first = divide(&mut earlier, cut.within);
+            bundles.push(earlier)?;
+        }
+    }
+    Ok(later)
+}
+
+/// The boundary in front of some sorted bundles.
+fn boundary_before(later: &[Bundle], track: u32) -> Boundary {
+    match later.first() {
+        Some(first) => Boundary {
+            track,
+            target: seen_from(first.target, track),
+            node: first.from,
+        },
+        None => Boundary {
+            track,
+            target: u64::MAX,
+            node: 0,
+        },
+    }
+}
+
+/// Cuts lines in two for the halves of some jobs, along the track whose places are farthest apart. Those of the earlier
+/// jobs stay. Answers those of the later jobs, and the boundary where they begin.
+fn cut(
+    bundles: &mut Vec<Bundle>,
+    tracks: usize,
+    jobs: usize,
+) -> Result<(Vec<Bundle>, Boundary), AllocError> {
+    let track = widest(bundles, tracks);
+    bundles.sort_unstable_by_key(|bundle| (seen_from(bundle.target, track), bundle.from));
+    let each = ways_of(bundles) / jobs.max(1);
+    let about = cut_at(bundles, each.saturating_mul(jobs / 2));
+    let at = whole(bundles, about, each / 8);
+    let later = behind(bundles, at)?;
+    let boundary = boundary_before(&later, track);
+    Ok((later, boundary))
 }
 
 /// Shares out a piece: in two pieces, unless it is of one job. The boundary is noted at the first job of the later half.
@@ -210,7 +294,7 @@ fn share_out(
     pieces: &mut Vec<Piece>,
 ) -> Result<(), AllocError> {
     let Piece {
-        mut samples,
+        mut bundles,
         from,
         to,
     } = piece;
@@ -218,31 +302,33 @@ fn share_out(
     if jobs < 2 {
         return Ok(());
     }
-    let (place, boundary) = cut(&mut samples, tracks, jobs);
+    let (later, boundary) = cut(&mut bundles, tracks, jobs)?;
     let middle = from.saturating_add(jobs / 2);
     if let Some(held) = boundaries.get_mut(middle) {
         *held = boundary;
     }
-    let later = samples.split_off(place.min(samples.len()))?;
     pieces.push(Piece {
-        samples,
+        bundles,
         from,
         to: middle,
     })?;
     pieces.push(Piece {
-        samples: later,
+        bundles: later,
         from: middle,
         to,
     })?;
     Ok(())
 }
 
-/// The boundaries by which some lines are shared out among jobs. In a range of jobs, that at the middle one says which
-/// lines are of it and of the jobs behind it.
-pub(crate) fn boundaries_of(
+/// The boundaries by which the lines of a layer are shared out among jobs. In a range of jobs, that at the middle one says
+/// which lines are of it and of the jobs behind it.
+pub(crate) fn boundaries_of<M: Machine>(
     alloc: Global,
-    samples: Vec<Sample>,
-    tracks: usize,
+    layer: &[Node<M>],
+    places: &Places,
+    weights: &[u64],
+    tracks: &[Vec<M::Line>],
+    part: Part,
     jobs: usize,
 ) -> Result<Vec<Boundary>, AllocError> {
     let nowhere = Boundary {
@@ -253,13 +339,13 @@ pub(crate) fn boundaries_of(
     let mut boundaries = vec![in alloc; nowhere; jobs]?;
     let mut pieces = Vec::new(alloc);
     pieces.push(Piece {
-        samples,
+        bundles: bundles_of(alloc, layer, places, weights, tracks, part)?,
         from: 0,
         to: jobs,
     })?;
     for _ in 0..jobs.saturating_mul(2) {
         if let Some(piece) = pieces.pop() {
-            share_out(piece, tracks, &mut boundaries, &mut pieces)?;
+            share_out(piece, tracks.len(), &mut boundaries, &mut pieces)?;
         }
     }
     Ok(boundaries)

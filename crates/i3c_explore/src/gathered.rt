@@ -18,12 +18,22 @@ pub(crate) struct Gathered<M> {
     pub spans: Vec<JobSpan>,
     /// The rank of each node: its place in the order in which one thread finds them.
     pub ranks: Vec<usize>,
-    /// The numbers of their places.
-    pub codes: Vec<u64>,
     /// Nodes whose room is free to be taken.
     pub spares: Vec<Node<M>>,
     /// What is left of the limits.
     pub limits: Limits,
+}
+
+/// Takes the steps of a job, by the limits with which it began and those that are left to it.
+pub(crate) fn take_steps(limits: &mut Limits, begun: Limits, left: Limits) -> Result<(), Stop> {
+    let steps = begun.steps.saturating_sub(left.steps);
+    match limits.steps.checked_sub(steps) {
+        Some(left) => {
+            limits.steps = left;
+            Ok(())
+        }
+        None => Err(Stop::Most),
+    }
 }
 
 impl<M: Machine> Gathered<M> {
@@ -37,17 +47,12 @@ impl<M: Machine> Gathered<M> {
             mut spares,
             index,
             mut ranks,
-            mut codes,
+            codes: _,
         } = layer.taken_apart();
-        let steps = limits.steps.saturating_sub(left.steps);
-        let Some(left) = self.limits.steps.checked_sub(steps) else {
-            return Err(Stop::Most);
-        };
-        self.limits.steps = left;
+        take_steps(&mut self.limits, limits, left)?;
         let first = self.nodes.len();
         self.nodes.append(&mut nodes)?;
         self.ranks.append(&mut ranks)?;
-        self.codes.append(&mut codes)?;
         self.spares.append(&mut spares)?;
         match self.spans.push(JobSpan { first, index }) {
             Ok(()) => Ok(()),
@@ -76,7 +81,6 @@ fn room_for<M: Machine>(
         nodes: Vec::with_capacity(alloc, nodes)?,
         spans: Vec::new(alloc),
         ranks: Vec::with_capacity(alloc, nodes)?,
-        codes: Vec::with_capacity(alloc, nodes)?,
         spares: Vec::with_capacity(alloc, spares)?,
         limits,
     })

@@ -12,12 +12,9 @@ pub(crate) struct Index {
 /// The slots of a small table.
 const SMALL: usize = 16;
 
-/// The slot at a distance behind a key's own, of this many.
+/// The slot at a distance behind a key's own, of this many: a power of two.
 fn slot_of(key: u64, distance: usize, slots: usize) -> usize {
-    match (key as usize).wrapping_add(distance).checked_rem(slots) {
-        Some(slot) => slot,
-        None => 0,
-    }
+    (key as usize).wrapping_add(distance) & slots.wrapping_sub(1)
 }
 
 impl Index {

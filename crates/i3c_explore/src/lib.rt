@@ -24,15 +24,16 @@
 //! not determined, what its `run` doesn't choose is not tried.
 #![tactic(auto)]
 
+mod apart;
 mod block;
 mod boundary;
 mod codes;
 mod expand;
 mod fork;
+mod front;
 mod gathered;
 mod index;
 mod jobs;
-mod known_places;
 mod layer;
 mod limits;
 mod machine;
@@ -41,6 +42,7 @@ mod node;
 mod ordered;
 mod owners;
 mod part;
+mod places;
 mod splits;
 mod stop;
 mod turn;

@@ -23,10 +23,10 @@ pub trait Machine: Sized + Drop {
     /// runners remember nothing has ⊤.
     ghost near: { Self.Runner → Self → Type 0 };
 
-    /// The last way to try, below 65,536: each later one can lead to whatever this one leads to.
+    /// The last way to try, below 4,294,967,296: each later one can lead to whatever one of those up to it leads to.
     fn last_way(&self, line: &Self::Line) -> usize
-        ensures small { result < 2 ^ 16 }
-        ensures last { (way : ℕ) → result ≤ way → (new : Self) → steps self.now line.now result new → steps self.now line.now way new };
+        ensures small { result < 2 ^ 32 }
+        ensures last { (way : ℕ) → (tried : ℕ) × (tried ≤ result) × ((new : Self) → steps self.now line.now tried new → steps self.now line.now way new) };
 
     /// A runner, in this state.
     fn runner(&self, alloc: Global) -> Result<Self::Runner, AllocError>

@@ -6,6 +6,8 @@ ghost use Rattle.i3c_explore.specs.Jobs.{AreJoined};
 ghost use Rattle.i3c_explore.specs.Moves.{AreMoved};
 ghost use Rattle.i3c_explore.specs.Twins.{AllTwins};
 
+use crate::apart::{Apart, kept_apart};
+use crate::front::{Ranked, in_order};
 use crate::gathered::{Gathered, gather};
 use crate::layer::{Layer, merge};
 use crate::limits::Limits;
@@ -128,57 +130,63 @@ where
     M::Runner: Send,
     ensures { IfOk result (λ both. (joined : List (NodeValue M)) × AreJoined [] layers.items joined × AreMoved joined both.nodes.items) }
 {
-    let all = match gather(alloc, layers, limits) {
+    if overlap {
+        overlapping(rt, alloc, layers, limits)
+    } else {
+        joined(alloc, layers, limits)
+    }
+}
+
+/// The layers of all jobs as one, where no lines of two jobs lead to the same places.
+fn joined<M: Machine>(
+    alloc: Global,
+    layers: Vec<Result<Layer<M>, Stop>>,
+    limits: Limits,
+) -> Result<Layer<M>, Stop>
+    ensures { IfOk result (λ both. (joined : List (NodeValue M)) × AreJoined [] layers.items joined × AreMoved joined both.nodes.items) }
+{
+    let all = match kept_apart(alloc, layers, limits) {
         Ok(all) => all,
         Err(stop) => return Err(stop),
     };
-    let mut layer = match put_together(rt, alloc, all, overlap) {
-        Ok(layer) => layer,
-        Err(stop) => return Err(stop),
-    };
-    order(alloc, &mut layer.nodes, &mut layer.codes, &layer.ranks)?;
+    let Apart {
+        fronts,
+        count,
+        spares,
+        limits,
+    } = all;
+    if count > limits.states {
+        return Err(Stop::Most);
+    }
+    let Ranked { nodes, codes } = in_order(alloc, fronts, count)?;
+    let mut layer = Layer::new(alloc, limits);
+    layer.nodes = nodes;
+    layer.codes = codes;
+    layer.spares = spares;
     Ok(layer)
 }
 
-/// The nodes that all jobs found, as one layer. Where jobs' layers overlap, some can be like one another.
-fn put_together<R: Threads + Sync, M: Machine + Send + Sync>(
+/// The layers of all jobs as one, where some of their nodes can be like one another.
+fn overlapping<R: Threads + Sync, M: Machine + Send + Sync>(
     rt: &R,
     alloc: Global,
-    all: Gathered<M>,
-    overlap: bool,
+    layers: Vec<Result<Layer<M>, Stop>>,
+    limits: Limits,
 ) -> Result<Layer<M>, Stop>
 where
     M::Line: Sync,
     M::Runner: Send,
-    ensures { IfOk result (λ layer. ArePut [] all.nodes.items layer.nodes.items) }
+    ensures { IfOk result (λ both. (joined : List (NodeValue M)) × AreJoined [] layers.items joined × AreMoved joined both.nodes.items) }
 {
-    if overlap {
-        without_twins(rt, alloc, all)
-    } else {
-        all_at_once(alloc, all)
-    }
-}
-
-/// The nodes that all jobs found, as one layer, where no lines of two jobs lead to the same places.
-fn all_at_once<M: Machine>(alloc: Global, all: Gathered<M>) -> Result<Layer<M>, Stop>
-    ensures { IfOk result (λ layer. ArePut [] all.nodes.items layer.nodes.items) }
-{
-    let Gathered {
-        nodes,
-        spans: _,
-        ranks,
-        codes,
-        spares,
-        limits,
-    } = all;
-    if nodes.len() > limits.states {
-        return Err(Stop::Most);
-    }
-    let mut layer = Layer::new(alloc, limits);
-    layer.nodes = nodes;
-    layer.ranks = ranks;
-    layer.codes = codes;
-    layer.spares = spares;
+    let all = match gather(alloc, layers, limits) {
+        Ok(all) => all,
+        Err(stop) => return Err(stop),
+    };
+    let mut layer = match without_twins(rt, alloc, all) {
+        Ok(layer) => layer,
+        Err(stop) => return Err(stop),
+    };
+    order(alloc, &mut layer.nodes, &layer.ranks)?;
     Ok(layer)
 }
 
@@ -197,7 +205,6 @@ where
         nodes,
         spans,
         ranks,
-        codes: _,
         spares,
         limits,
     } = all;

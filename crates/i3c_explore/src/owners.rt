@@ -1,12 +1,12 @@
 ghost use Rattle.std.specs.Prelude.{◌≡◌, ◌<◌, [], IfOk, OnOk, slice_get};
 ghost use Rattle.i3c_explore.specs.Owners.{AreOwned, number, takes};
 
-use crate::boundary::{Boundary, boundaries_of, owner_by, sampled};
+use crate::boundary::{Boundary, boundaries_of, owner_by};
 use crate::codes::{codes_of, weights_of};
-use crate::known_places::KnownPlaces;
 use crate::machine::Machine;
 use crate::node::Node;
 use crate::part::Part;
+use crate::places::Places;
 use std::alloc::{AllocError, Global};
 
 /// The job that runs the next line of a track from a node of a layer.
@@ -116,13 +116,13 @@ fn note_again(
     Ok(())
 }
 
-/// Notes the jobs of the tracks of a node at a place.
+/// Notes the jobs of a node's tracks. All nodes at a place have those of the first one there, unless jobs share places.
 fn note_at(
     owners: &mut Vec<usize>,
-    known: &mut KnownPlaces,
-    boundaries: &[Boundary],
+    places: &Places,
     node: usize,
-    code: u64,
+    overlap: bool,
+    boundaries: &[Boundary],
     weights: &[u64],
     jobs: usize,
 ) -> Result<(), AllocError>
@@ -130,9 +130,13 @@ fn note_at(
     requires owned { AreOwned owners.old.items jobs }
     ensures { OnOk result (AreOwned owners.new.items jobs) }
 {
-    match known.find(code, owners.len()) {
-        Some(first) => note_again(owners, first, weights.len(), jobs),
-        None => note(owners, boundaries, node, code, weights, jobs),
+    match places.of_node(node) {
+        Some(place) if place.first < node && !overlap => {
+            let first = place.first.saturating_mul(weights.len());
+            note_again(owners, first, weights.len(), jobs)
+        }
+        Some(place) => note(owners, boundaries, node, place.code, weights, jobs),
+        None => Ok(()),
     }
 }
 
@@ -151,25 +155,24 @@ pub(crate) fn owners_of<M: Machine>(
     ensures { IfOk result (λ owners. AreOwned owners.jobs.items jobs) }
 {
     let weights = weights_of(alloc, tracks.len())?;
-    let samples = sampled(alloc, layer, &weights, tracks, part)?;
-    let boundaries = boundaries_of(alloc, samples, tracks.len(), jobs)?;
     let codes = if codes.len() == layer.len() {
         codes
     } else {
         codes_of(alloc, layer, tracks.len())?
     };
+    let places = Places::of_codes(alloc, &codes)?;
+    let boundaries = boundaries_of(alloc, layer, &places, &weights, tracks, part, jobs)?;
     let mut owners = Owners {
-        jobs: Vec::with_capacity(alloc, codes.len().saturating_mul(weights.len()))?,
+        jobs: Vec::with_capacity(alloc, places.nodes().saturating_mul(weights.len()))?,
         overlap: boundaries.iter().any(|boundary| boundary.node > 0),
     };
-    let mut known = KnownPlaces::new(alloc, owners.overlap)?;
-    for (node, code) in codes.iter().enumerate() {
+    for node in 0..places.nodes() {
         note_at(
             &mut owners.jobs,
-            &mut known,
-            &boundaries,
+            &places,
             node,
-            *code,
+            owners.overlap,
+            &boundaries,
             &weights,
             jobs,
         )?;

@@ -1,15 +1,15 @@
 -- Cuts behind the last bit of a line's frame: two of one slot lead to the same.
-use Rattle.std.proofs.Common.{min, Result, Err, Ok, ◌≡◌, ◌∙◌, ℕ, zero, suc, ◌+◌, ◌<◌, ◌≤◌, Bool, true, false, not, ◌&&◌, ◌==◌, is_some, List, [], ◌∷◌, Option, None, Some, arith, inl, inr, refl, subst, sym, if◌then◌else◌}
+use Rattle.std.proofs.Common.{min, Result, Err, Ok, ◌≡◌, ◌∙◌, ℕ, zero, suc, ap, ◌+◌, ◌<◌, ◌≤◌, Bool, true, false, not, ◌&&◌, ◌==◌, is_some, List, [], ◌∷◌, Option, None, Some, arith, inl, inr, refl, subst, sym, if◌then◌else◌}
 use Rattle.std.specs.declared.alloc.AllocError.{AllocError}
 use Rattle.std.specs.Prelude.{IfOk}
-use Rattle.std.proofs.Math.Nat.{min-eq_left, min-eq_right}
+use Rattle.std.proofs.Math.Nat.{min-eq_left, min-eq_right, min-le_right}
 use Rattle.std.proofs.lemmas.Bool.Decides.{leb_tells, nat_tests}
 use Rattle.i3c_base.specs.declared.answers.Answer.{Answer}
 use Rattle.i3c_base.specs.declared.datum.Datum.{Datum}
 use Rattle.i3c_base.specs.declared.datum.Direction.{Direction}
 use Rattle.i3c_base.specs.declared.device.TheConstants.{REGISTERS}
 use Rattle.i3c_base.specs.declared.requests.Fixed.{Fixed}
-use Rattle.i3c_base.specs.Cutting.{CutList}
+use Rattle.i3c_base.specs.Cutting.{CutList, earlier}
 use Rattle.i3c_base.specs.Frames.{get_bits, least_length_from, length_of, told_length, transfer_length}
 use Rattle.i3c_base.specs.Serve.{byte_due}
 use Rattle.i3c_base.specs.State.{Device, Entry, State, entry_at, has_address, legacy_target_at}
@@ -23,17 +23,22 @@ use Rattle.i3c_step.proofs.LateCuts.{and_cut, both_alike}
 use Rattle.i3c_step.proofs.LateSteps.{each_alike, step_alike}
 use Rattle.i3c_lines.specs.declared.command.Command.{Command}
 use Rattle.i3c_lines.specs.declared.names.Name.{Name}
+use Rattle.i3c_lines.specs.declared.names.Place.{Place}
 use Rattle.i3c_lines.specs.declared.refusals.Refusal.{Refusal}
 use Rattle.i3c_script.specs.Assigning.{cuts_left}
 use Rattle.i3c_script.specs.Obeying.{cut_at}
 use Rattle.i3c_facts.specs.declared.before.Before.{Before}
 use Rattle.i3c_scene.specs.declared.line.Line.{Line}
+use Rattle.i3c_scene.specs.declared.risk.Risk.{Risk}
+use Rattle.i3c_scene.specs.declared.ways.Ways.{Ways}
 use Rattle.i3c_script.specs.declared.settings.Settings.{Settings}
 use Rattle.i3c_scene.specs.declared.named.Named.{Named}
-use Rattle.i3c_scene.specs.Going.{Assigns, Does, Moves, cut_in, sends}
-use Rattle.i3c_scene.specs.Latest.{last_bit, last_of_frame, latest}
-use Rattle.i3c_scene.specs.Scenes.{Seen, seen}
-use Rattle.i3c_scene.specs.Trying.{LineBreaks, LineSteps, Runs, all_hold, slot_at_risk}
+use Rattle.i3c_scene.specs.Going.{Assigns, Does, Moves, cut_in, risked, sends}
+use Rattle.i3c_scene.specs.Latest.{last_bit, last_cut, last_of_frame, latest, tried_as}
+use Rattle.i3c_scene.specs.Pairs.{pair, two_ways}
+use Rattle.i3c_scene.specs.Scenes.{Seen, place_in, seen}
+use Rattle.i3c_scene.specs.Trying.{LineBreaks, LineSteps, Runs, RunsIn, all_hold, slot_at_risk, ways_of}
+use Rattle.i3c_scene.proofs.Pairs.{placed}
 
 -- two late cuts of a slot allow the same steps
 step_late : (old : State) (event : Event) (reply : Reply) (new : State) (s bit more : ℕ) → most_bits old event < bit → most_bits old event < more → Step old (recut (and_cut s bit) event) reply new → Step old (recut (and_cut s more) event) reply new
@@ -196,49 +201,143 @@ at_risk old command refused new (Some s) (suc more) e late does =
     let last : last_bit old.state command + 2 ≡ suc (last_bit old.state command + 1) = omega arith in
     does_late old command refused new s (last_bit old.state command + 1) more e (omega arith) (omega (arith, late)) (subst (λ (w : ℕ). Does (cut_in old (Some s) w) command refused new) last does)
 
+-- the slot of the device at a place, if a frame is sent
+abbrev risked_if : State → Option Place → Bool → Option ℕ
+risked_if st place false = None
+risked_if st place true = risked st place
+
 -- the same, whether or not the command sends a frame
-by_sends : (old : Seen) (command : Command) (name : Name) (refused : Option Refusal) (new : Seen) (way : ℕ) (b : Bool) → sends command ≡ b → last_bit old.state command + 2 ≤ way
-    → Does (cut_in old (slot_at_risk old b (Some name)) (last_bit old.state command + 2)) command refused new → Does (cut_in old (slot_at_risk old b (Some name)) way) command refused new
-by_sends old command name refused new way false e late does = does
-by_sends old command name refused new way true e late does = at_risk old command refused new (slot_at_risk old true (Some name)) way e late does
+by_sends : (old : Seen) (command : Command) (place : Option Place) (refused : Option Refusal) (new : Seen) (way : ℕ) (b : Bool) → sends command ≡ b → last_bit old.state command + 2 ≤ way
+    → Does (cut_in old (risked_if old.state place b) (last_bit old.state command + 2)) command refused new → Does (cut_in old (risked_if old.state place b) way) command refused new
+by_sends old command place refused new way false e late does = does
+by_sends old command place refused new way true e late does = at_risk old command refused new (risked old.state place) way e late does
 
--- each way behind the last one to be tried does what that one does
-runs_late : (old : Seen) (command : Option Command) (risk : Option Name) (before : Before) (new : Seen) (way : ℕ) → latest old.state risk command ≤ way → Runs old command risk (latest old.state risk command) before new → Runs old command risk way before new
-runs_late old None risk before new way late runs = runs
-runs_late old (Some command) None before new way late runs = runs
-runs_late old (Some command) (Some name) before new way late (refused, does, came) = (refused, by_sends old command name refused new way (sends command) refl late does, came)
-
-pub line_late : (old : Seen) (line : Line) (way : ℕ) (new : Seen) → latest old.state line.risk line.command ≤ way → LineSteps old line (latest old.state line.risk line.command) new → LineSteps old line way new
-line_late old line way new late (before, runs, held) = (before, runs_late old line.command line.risk before new way late runs, held)
-
--- a way, or the last one to be tried if that comes before it, stands for the way
-pub runs_tried : (old : Seen) (command : Option Command) (risk : Option Name) (before : Before) (new : Seen) (way : ℕ) → Runs old command risk (min way (latest old.state risk command)) before new → Runs old command risk way before new
-runs_tried old command risk before new way runs =
-    let last = latest old.state risk command in
+-- a way, or the last one of its device that has to be tried if that comes before it, stands for the way
+stands_for : (old : Seen) (command : Command) (place : Option Place) (refused : Option Refusal) (new : Seen) (way : ℕ)
+    → Does (cut_in old (risked_if old.state place (sends command)) (min way (last_bit old.state command + 2))) command refused new → Does (cut_in old (risked_if old.state place (sends command)) way) command refused new
+stands_for old command place refused new way does =
+    let last = last_bit old.state command + 2 in
+    let slot = risked_if old.state place (sends command) in
     elim (leb_tells way last) [
-      | inl (_, le) ↦ subst (λ (w : ℕ). Runs old command risk w before new) (min-eq_left le) runs
-      | inr (_, gt) ↦ runs_late old command risk before new way (omega (arith, gt)) (subst (λ (w : ℕ). Runs old command risk w before new) (min-eq_right (omega (arith, gt))) runs)
+      | inl (_, le) ↦ subst (λ (w : ℕ). Does (cut_in old slot w) command refused new) (min-eq_left le) does
+      | inr (_, gt) ↦ by_sends old command place refused new way (sends command) refl (omega (arith, gt)) (subst (λ (w : ℕ). Does (cut_in old slot w) command refused new) (min-eq_right (omega (arith, gt))) does)
     ]
 
+-- two cuts come to the same in both orders
+earlier_both : (had : Option ℕ) (bit more : ℕ) → earlier (Some (earlier had bit)) more ≡ earlier (Some (earlier had more)) bit
+earlier_both None bit more = grind (arith, nat_tests)
+earlier_both (Some had) bit more = grind (arith, nat_tests)
+
+cuts_commute : (cuts : CutList) (s t bit more : ℕ) → cut_at (cut_at cuts s bit) t more ≡ cut_at (cut_at cuts t more) s bit
+cuts_commute [] s t bit more = refl
+cuts_commute (had ∷ cuts) zero zero bit more = ap (λ (b : ℕ). Some b ∷ cuts) (earlier_both had bit more)
+cuts_commute (had ∷ cuts) zero (suc t) bit more = refl
+cuts_commute (had ∷ cuts) (suc s) zero bit more = refl
+cuts_commute (had ∷ cuts) (suc s) (suc t) bit more = ap (λ (rest : CutList). had ∷ rest) (cuts_commute cuts s t bit more)
+
+cut_in_commutes : (old : Seen) (s t : Option ℕ) (way more : ℕ) → cut_in (cut_in old s way) t more ≡ cut_in (cut_in old t more) s way
+cut_in_commutes old None t way more = refl
+cut_in_commutes old (Some s) None way more = refl
+cut_in_commutes old (Some s) (Some t) zero more = refl
+cut_in_commutes old (Some s) (Some t) (suc way) zero = refl
+cut_in_commutes old (Some s) (Some t) (suc way) (suc more) = ap (λ (cuts : CutList). seen old.state old.settings cuts old.names) (cuts_commute old.cuts s t way more)
+
+-- a cut changes nothing of a bus
+cut_keeps : (old : Seen) (slot : Option ℕ) (way : ℕ) → (cut_in old slot way).state ≡ old.state
+cut_keeps old None way = refl
+cut_keeps old (Some s) zero = refl
+cut_keeps old (Some s) (suc way) = refl
+
+-- so a way stands for a later one where another device is cut
+stands_for_other : (old mid : Seen) (command : Command) (place : Option Place) (refused : Option Refusal) (new : Seen) (way : ℕ) → mid.state ≡ old.state
+    → Does (cut_in mid (risked_if old.state place (sends command)) (min way (last_bit old.state command + 2))) command refused new → Does (cut_in mid (risked_if old.state place (sends command)) way) command refused new
+stands_for_other old mid command place refused new way same does =
+    subst (λ (st : State). Does (cut_in mid (risked_if st place (sends command)) way) command refused new) same
+    (stands_for mid command place refused new way (subst (λ (st : State). Does (cut_in mid (risked_if st place (sends command)) (min way (last_bit st command + 2))) command refused new) (sym same) does))
+
+-- and two ways for two later ones
+both_stand_for : (old : Seen) (command : Command) (place more : Option Place) (refused : Option Refusal) (new : Seen) (one other : ℕ)
+    → Does (cut_in (cut_in old (risked_if old.state place (sends command)) (min one (last_bit old.state command + 2))) (risked_if old.state more (sends command)) (min other (last_bit old.state command + 2))) command refused new
+    → Does (cut_in (cut_in old (risked_if old.state place (sends command)) one) (risked_if old.state more (sends command)) other) command refused new
+both_stand_for old command place more refused new one other does =
+    let last = last_bit old.state command + 2 in
+    let first = risked_if old.state place (sends command) in
+    let second = risked_if old.state more (sends command) in
+    let later = stands_for_other old (cut_in old first (min one last)) command more refused new other (cut_keeps old first (min one last)) does in
+    let turned = subst (λ (s : Seen). Does s command refused new) (cut_in_commutes old first second (min one last) other) later in
+    let both = stands_for_other old (cut_in old second other) command place refused new one (cut_keeps old second other) turned in
+    subst (λ (s : Seen). Does s command refused new) (cut_in_commutes old second first other one) both
+
+-- the slot of a name's device, by its place
+placed_risk : (old : Seen) (name : Name) (b : Bool) → slot_at_risk old b name ≡ risked_if old.state (place_in old.names name) b
+placed_risk old name false = refl
+placed_risk old name true = refl
+
+-- the ways that are tried for a way do what that does
+pub runs_tried : (old : Seen) (command : Option Command) (risk : Risk) (before : Before) (new : Seen) (way : ℕ) → RunsIn old command risk (tried_as old.state risk command way) before new → Runs old command risk way before new
+runs_tried old None risk before new way runs = runs
+runs_tried old (Some command) Risk.Nobody before new way runs = runs
+runs_tried old (Some command) (Risk.One name) before new way (refused, does, came) =
+    let is = placed_risk old name (sends command) in (
+      refused,
+      subst (λ (s : Option ℕ). Does (cut_in old s way) command refused new) (sym is)
+          (stands_for old command (place_in old.names name) refused new way (subst (λ (s : Option ℕ). Does (cut_in old s (min way (last_bit old.state command + 2))) command refused new) is does)),
+      came,
+    )
+runs_tried old (Some command) (Risk.Two name other) before new way (refused, does, came) =
+    let ways = pair way in
+    let last = last_bit old.state command + 2 in
+    let is = placed_risk old name (sends command) in
+    let and = placed_risk old other (sends command) in
+    let moved = subst (λ (s : Option ℕ). Does (cut_in (cut_in old (risked_if old.state (place_in old.names name) (sends command)) (min ways.one last)) s (min ways.other last)) command refused new) and
+    (subst (λ (s : Option ℕ). Does (cut_in (cut_in old s (min ways.one last)) (slot_at_risk old (sends command) other) (min ways.other last)) command refused new) is does) in
+    let both = both_stand_for old command (place_in old.names name) (place_in old.names other) refused new ways.one ways.other moved in (
+      refused,
+      subst (λ (s : Option ℕ). Does (cut_in (cut_in old (slot_at_risk old (sends command) name) ways.one) s ways.other) command refused new) (sym and)
+          (subst (λ (s : Option ℕ). Does (cut_in (cut_in old s ways.one) (risked_if old.state (place_in old.names other) (sends command)) ways.other) command refused new) (sym is) both),
+      came,
+    )
+
+-- a way up to the last one has the ways that are tried for a way
+pub way_tried : (st : State) (risk : Risk) (command : Option Command) (way : ℕ) → (tried : ℕ) × (tried ≤ latest st risk command) × (ways_of risk tried ≡ tried_as st risk command way)
+way_tried st Risk.Nobody command way = (0, omega arith, refl)
+way_tried st (Risk.One name) command way =
+    let last = last_cut st command in
+    let least : 0 ≤ last = omega arith in
+    (min way last, min-le_right way last, ap (λ (n : ℕ). two_ways (min way last) n) (sym (min-eq_left least)))
+way_tried st (Risk.Two name other) command way =
+    let ways = pair way in
+    let last = last_cut st command in
+    placed last (min ways.one last) (min ways.other last) (min-le_right ways.one last) (min-le_right ways.other last)
+
+-- so each way of a line does what one of those up to the last one does
+pub line_late : (old : Seen) (line : Line) (way : ℕ) → (tried : ℕ) × (tried ≤ latest old.state line.risk line.command) × ((new : Seen) → LineSteps old line tried new → LineSteps old line way new)
+line_late old line way =
+    let (tried, le, is) = way_tried old.state line.risk line.command way in (
+      tried,
+      le,
+      λ new (before, runs, held). (before, runs_tried old line.command line.risk before new way (subst (λ (ways : Ways). RunsIn old line.command line.risk ways before new) is runs), held),
+    )
+
 -- the result of a line that was tried in a way
-pub tried_of : (old live : Seen) (line : Line) (way tried : ℕ) (result : Result Bool AllocError) (held : Bool) (new : Seen) → live ≡ old → tried ≡ min way (latest old.state line.risk line.command) → result ≡ Ok held
-    → IfOk result (λ (h : Bool). (before : Before) × Runs live line.command line.risk tried before new × (h ≡ all_hold new before line.expectations.items))
+pub tried_of : (old live : Seen) (line : Line) (way : ℕ) (tried : Ways) (result : Result Bool AllocError) (held : Bool) (new : Seen) → live ≡ old → tried ≡ tried_as old.state line.risk line.command way → result ≡ Ok held
+    → IfOk result (λ (h : Bool). (before : Before) × RunsIn live line.command line.risk tried before new × (h ≡ all_hold new before line.expectations.items))
     → (before : Before) × Runs old line.command line.risk way before new × (held ≡ all_hold new before line.expectations.items)
 tried_of old live line way tried result held new same is ok told =
-    let t = subst (λ (r : Result Bool AllocError). IfOk r (λ (h : Bool). (before : Before) × Runs live line.command line.risk tried before new × (h ≡ all_hold new before line.expectations.items))) ok told in
-    let runs = subst (λ (s : Seen). Runs s line.command line.risk (min way (latest old.state line.risk line.command)) t.0 new) same (subst (λ (w : ℕ). Runs live line.command line.risk w t.0 new) is t.1) in
+    let t = subst (λ (r : Result Bool AllocError). IfOk r (λ (h : Bool). (before : Before) × RunsIn live line.command line.risk tried before new × (h ≡ all_hold new before line.expectations.items))) ok told in
+    let runs = subst (λ (s : Seen). RunsIn s line.command line.risk (tried_as old.state line.risk line.command way) t.0 new) same (subst (λ (w : Ways). RunsIn live line.command line.risk w t.0 new) is t.1) in
     (t.0, runs_tried old line.command line.risk t.0 new way runs, t.2)
 
 -- a line that was tried leads on if all that is expected holds
-pub leads_of : (old live : Seen) (line : Line) (way tried : ℕ) (result : Result Bool AllocError) (new : Seen) → live ≡ old → tried ≡ min way (latest old.state line.risk line.command)
-    → IfOk result (λ (h : Bool). (before : Before) × Runs live line.command line.risk tried before new × (h ≡ all_hold new before line.expectations.items))
+pub leads_of : (old live : Seen) (line : Line) (way : ℕ) (tried : Ways) (result : Result Bool AllocError) (new : Seen) → live ≡ old → tried ≡ tried_as old.state line.risk line.command way
+    → IfOk result (λ (h : Bool). (before : Before) × RunsIn live line.command line.risk tried before new × (h ≡ all_hold new before line.expectations.items))
     → IfOk result (λ (h : Bool). h ≡ true → LineSteps old line way new)
 leads_of old live line way tried (Ok held) new same is told = λ sure. let t = tried_of old live line way tried (Ok held) held new same is refl told in (t.0, t.1, sym t.2 ∙ sure)
 leads_of old live line way tried (Err short) new same is told = tt
 
 -- and breaks an expectation if not
-pub breaks_of : (old live : Seen) (line : Line) (way tried : ℕ) (result : Result Bool AllocError) (new : Seen) → live ≡ old → tried ≡ min way (latest old.state line.risk line.command)
-    → IfOk result (λ (h : Bool). (before : Before) × Runs live line.command line.risk tried before new × (h ≡ all_hold new before line.expectations.items))
+pub breaks_of : (old live : Seen) (line : Line) (way : ℕ) (tried : Ways) (result : Result Bool AllocError) (new : Seen) → live ≡ old → tried ≡ tried_as old.state line.risk line.command way
+    → IfOk result (λ (h : Bool). (before : Before) × RunsIn live line.command line.risk tried before new × (h ≡ all_hold new before line.expectations.items))
     → IfOk result (λ (h : Bool). h ≡ false → LineBreaks old line way)
 breaks_of old live line way tried (Ok held) new same is told = λ broken. let t = tried_of old live line way tried (Ok held) held new same is refl told in (t.0, new, t.1, sym t.2 ∙ broken)
 breaks_of old live line way tried (Err short) new same is told = tt

@@ -1,3 +1,4 @@
+mod Pairs
 pub mod Late
 pub mod Steps
 mod Behind

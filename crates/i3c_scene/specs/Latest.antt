@@ -1,10 +1,12 @@
--- The last way of a line that has to be tried: each later one does what it does.
+-- The last way of a line that has to be tried: each later one does what one of those up to it does.
 use Rattle.std.specs.Prelude.{ℕ, ◌+◌, ◌*◌, length, Option, None, Some}
 use Rattle.i3c_base.specs.State.{State}
 use Rattle.i3c_base.specs.Frames.{list_bits}
 use Rattle.i3c_step.specs.declared.events.Command.{Command as Frame}
 use Rattle.i3c_lines.specs.declared.command.Command.{Command}
-use Rattle.i3c_lines.specs.declared.names.Name.{Name}
+use Rattle.i3c_scene.specs.declared.risk.Risk.{Risk}
+use Rattle.i3c_scene.specs.declared.ways.Ways.{Ways}
+use Rattle.i3c_scene.specs.Pairs.{last_pair, pair, two_ways, up_to}
 
 -- the number of the last bit that a frame under the role can have: a request that is served on the way takes 18 bits
 abbrev pub last_of_frame : State → Frame → ℕ
@@ -29,8 +31,19 @@ last_bit st Command.Daa = 18
 last_bit st Command.Round = 73
 last_bit st _ = 0
 
--- the last way to be tried: it cuts the device at risk one bit behind the frame's last one
-abbrev pub latest : State → Option Name → Option Command → ℕ
-latest st None command = 0
-latest st (Some name) None = 0
-latest st (Some name) (Some command) = last_bit st command + 2
+-- the last way of a device at risk that has to be tried: it is cut one bit behind the frame's last one
+abbrev pub last_cut : State → Option Command → ℕ
+last_cut st None = 0
+last_cut st (Some command) = last_bit st command + 2
+
+-- the last way of a line that has to be tried
+abbrev pub latest : State → Risk → Option Command → ℕ
+latest st Risk.Nobody command = 0
+latest st (Risk.One name) command = last_cut st command
+latest st (Risk.Two one other) command = last_pair (last_cut st command)
+
+-- the ways that are tried for a way of a line
+abbrev pub tried_as : State → Risk → Option Command → ℕ → Ways
+tried_as st Risk.Nobody command way = two_ways 0 0
+tried_as st (Risk.One name) command way = up_to (last_cut st command) (two_ways way 0)
+tried_as st (Risk.Two one other) command way = up_to (last_cut st command) (pair way)

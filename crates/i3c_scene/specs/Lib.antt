@@ -1,6 +1,7 @@
 pub mod Scenes
 pub mod Going
 pub mod Shown
+pub mod Pairs
 pub mod Trying
 pub mod Latest
 pub mod Near

@@ -7,19 +7,37 @@ use Rattle.i3c_lines.specs.declared.names.Name.{Name}
 use Rattle.i3c_lines.specs.declared.refusals.Refusal.{Refusal}
 use Rattle.i3c_scene.specs.declared.line.Expectation.{Expectation}
 use Rattle.i3c_scene.specs.declared.line.Line.{Line}
+use Rattle.i3c_scene.specs.declared.risk.Risk.{Risk}
+use Rattle.i3c_scene.specs.declared.ways.Ways.{Ways}
 use Rattle.i3c_scene.specs.Going.{Does, cut_in, risked, sends}
+use Rattle.i3c_scene.specs.Pairs.{pair, two_ways}
 use Rattle.i3c_scene.specs.Scenes.{Seen, place_in}
 
 -- the slot of a name's device, if the line sends a frame in which that device may lose power
-abbrev pub slot_at_risk : Seen → Bool → Option Name → Option ℕ
-slot_at_risk old sends None = None
-slot_at_risk old false (Some name) = None
-slot_at_risk old true (Some name) = risked old.state (place_in old.names name)
+abbrev pub slot_at_risk : Seen → Bool → Name → Option ℕ
+slot_at_risk old false name = None
+slot_at_risk old true name = risked old.state (place_in old.names name)
+
+-- the ways of the devices at risk, by the way of their line
+abbrev pub ways_of : Risk → ℕ → Ways
+ways_of Risk.Nobody way = two_ways way 0
+ways_of (Risk.One name) way = two_ways way 0
+ways_of (Risk.Two one other) way = pair way
+
+-- the cuts of a line, in these ways of the devices at risk
+abbrev pub cut_as : Seen → Bool → Risk → Ways → Seen
+cut_as old sent Risk.Nobody ways = old
+cut_as old sent (Risk.One name) ways = cut_in old (slot_at_risk old sent name) ways.one
+cut_as old sent (Risk.Two one other) ways = cut_in (cut_in old (slot_at_risk old sent one) ways.one) (slot_at_risk old sent other) ways.other
+
+-- a line runs in these ways of the devices at risk, with this result
+abbrev pub RunsIn : Seen → Option Command → Risk → Ways → Before → Seen → Type 0
+RunsIn old None risk ways before new = (new ≡ old) × (before ≡ Before.Nothing)
+RunsIn old (Some command) risk ways before new = (refused : Option Refusal) × Does (cut_as old (sends command) risk ways) command refused new × (before ≡ came_to refused)
 
 -- a line runs in a way, with this result
-abbrev pub Runs : Seen → Option Command → Option Name → ℕ → Before → Seen → Type 0
-Runs old None risk way before new = (new ≡ old) × (before ≡ Before.Nothing)
-Runs old (Some command) risk way before new = (refused : Option Refusal) × Does (cut_in old (slot_at_risk old (sends command) risk) way) command refused new × (before ≡ came_to refused)
+abbrev pub Runs : Seen → Option Command → Risk → ℕ → Before → Seen → Type 0
+Runs old command risk way before new = RunsIn old command risk (ways_of risk way) before new
 
 -- whether all that is expected holds
 abbrev pub all_hold : Seen → Before → List Expectation → Bool

@@ -4,6 +4,7 @@
 //! * `live` is a bus awake, which comes to a scene and obeys a line's command.
 //! * `runner` is the same with the slot that its last line changed.
 //! * `line` has the lines with what is expected behind them.
+//! * `risk` is which devices may lose power in a line's frame, and `ways` at which bits.
 //! * `machine` tries the lines, each in every way that can matter.
 //! * `known` is what names stand for.
 //! * `named` is one name.
@@ -15,12 +16,16 @@ mod line;
 mod live;
 mod machine;
 mod named;
+mod risk;
 mod runner;
 mod scene;
 mod showing;
+mod ways;
 
 pub use line::{Expectation, Line};
 pub use live::Live;
 pub use named::{Named, place_in};
+pub use risk::Risk;
 pub use runner::Runner;
 pub use scene::{BeginFault, Scene};
+pub use ways::{Ways, each_is_a_pair, ways_of};

@@ -1,5 +1,6 @@
+use crate::risk::Risk;
 use i3c_facts::Facts;
-use i3c_lines::{Command, Name};
+use i3c_lines::Command;
 
 /// What is expected behind a line.
 #[derive(Drop)]
@@ -17,8 +18,8 @@ pub struct Line {
     pub number: u64,
     /// Its command. A line without one does nothing: what is expected there is expected of each state.
     pub command: Option<Command>,
-    /// The name of the device that may lose power at any bit of the line's frame.
-    pub risk: Option<Name>,
+    /// The devices that may lose power at any bit of the line's frame.
+    pub risk: Risk,
     /// What is expected.
     pub expectations: Vec<Expectation>,
 }

@@ -16,7 +16,9 @@ ghost use Rattle.i3c_scene.specs.declared.named.Named.{Named as NamedValue};
 
 use crate::known::Known;
 use crate::line::{Expectation, Line};
+use crate::risk::Risk;
 use crate::scene::{Rest, Scene};
+use crate::ways::Ways;
 use arrayvec::ArrayVec;
 use i3c_base::{Addr7, Cuts, Fixed, Setup, Slot};
 use i3c_bus::{
@@ -107,7 +109,8 @@ impl Live {
     ghost use Rattle.i3c_facts.specs.declared.before.Before.{Before as BeforeValue};
     ghost use Rattle.i3c_facts.specs.Holding.{came_to};
     ghost use Rattle.i3c_scene.specs.Scenes.{place_in};
-    ghost use Rattle.i3c_scene.specs.Trying.{Runs, all_hold, slot_at_risk};
+    ghost use Rattle.i3c_scene.specs.Trying.{RunsIn, all_hold, cut_as, slot_at_risk};
+    ghost use Rattle.i3c_scene.specs.declared.ways.Ways.{Ways as WaysValue};
     ghost use Rattle.i3c_script.specs.Asking.{slots_named};
     ghost use Rattle.i3c_scene.specs.Scenes.{seen};
     ghost use Rattle.i3c_scene.specs.Going.{Answers, AnswersIn, Assigns, Does, Enters, Excepts, Relieves, Sends, Sets, cut_in, risked, slot_present};
@@ -153,7 +156,7 @@ impl Live {
     /// Tries a line that raises an interrupt in this slot: whether all that is expected holds. It changes no other slot.
     pub(crate) fn try_raise(&mut self, line: &Line, slot: Slot, byte: Option<u8>) -> bool
         requires { RaisesIn self.old line.now.command slot byte }
-        ensures tried { (before : BeforeValue) × ((way : ℕ) → Runs self.old line.now.command line.now.risk way before self.new) × (result ≡ all_hold self.new before line.now.expectations.items) }
+        ensures tried { (before : BeforeValue) × ((ways : WaysValue) → RunsIn self.old line.now.command line.now.risk ways before self.new) × (result ≡ all_hold self.new before line.now.expectations.items) }
         ensures behind { IsBehind slot self.old self.new }
     {
         let came = self.raise_in_slot(slot, byte);
@@ -222,27 +225,28 @@ impl Live {
         &self.known
     }
 
-    /// Tries a line in a way: whether all that is expected holds.
-    pub(crate) fn tried(&mut self, line: &Line, way: usize) -> Result<bool, AllocError>
-        requires { way < 2 ^ 16 }
-        ensures { IfOk result (λ held. (before : BeforeValue) × Runs self.old line.now.command line.now.risk way before self.new × (held ≡ all_hold self.new before line.now.expectations.items)) }
+    /// Tries a line in these ways of the devices at risk: whether all that is expected holds.
+    pub(crate) fn tried(&mut self, line: &Line, ways: Ways) -> Result<bool, AllocError>
+        requires one { ways.one < 2 ^ 16 }
+        requires other { ways.other < 2 ^ 16 }
+        ensures { IfOk result (λ held. (before : BeforeValue) × RunsIn self.old line.now.command line.now.risk ways before self.new × (held ≡ all_hold self.new before line.now.expectations.items)) }
     {
-        match self.run(line, way) {
+        match self.run(line, ways) {
             Ok(before) => Ok(self.all_hold(&before, line.expectations.as_slice())),
             Err(short) => Err(short),
         }
     }
 
-    /// Runs a line in a way, and answers the result.
-    pub(crate) fn run(&mut self, line: &Line, way: usize) -> Result<Before, AllocError>
-        requires { way < 2 ^ 16 }
-        ensures { IfOk result (λ before. Runs self.old line.now.command line.now.risk way before self.new) }
+    /// Runs a line in these ways of the devices at risk, and answers the result.
+    pub(crate) fn run(&mut self, line: &Line, ways: Ways) -> Result<Before, AllocError>
+        requires one { ways.one < 2 ^ 16 }
+        requires other { ways.other < 2 ^ 16 }
+        ensures { IfOk result (λ before. RunsIn self.old line.now.command line.now.risk ways before self.new) }
     {
         let Some(command) = &line.command else {
             return Ok(Before::Nothing);
         };
-        let slot = self.slot_at_risk(sends(command), &line.risk);
-        self.cut_in(slot, way);
+        self.cut_as(sends(command), &line.risk, ways);
         match self.obey(command) {
             Ok(()) => Ok(Before::Done),
             Err(Stop::Refused(why)) => Ok(Before::Refused(why)),
@@ -250,13 +254,31 @@ impl Live {
         }
     }
 
-    /// The slot of a name's device, where the line sends a frame in which that device may lose power.
-    fn slot_at_risk(&self, sends: bool, risk: &Option<Name>) -> Option<Slot>
-        ensures { result ≡ slot_at_risk self.now sends risk.now }
+    /// Cuts the devices at risk in these ways, where the line sends a frame.
+    fn cut_as(&mut self, sends: bool, risk: &Risk, ways: Ways)
+        requires one { ways.one < 2 ^ 16 }
+        requires other { ways.other < 2 ^ 16 }
+        ensures { self.new ≡ cut_as self.old sends risk.now ways }
     {
-        let Some(name) = risk else {
-            return None;
-        };
+        match risk {
+            Risk::Nobody => {}
+            Risk::One(name) => {
+                let slot = self.slot_at_risk(sends, name);
+                self.cut_in(slot, ways.one);
+            }
+            Risk::Two(one, other) => {
+                let first = self.slot_at_risk(sends, one);
+                let second = self.slot_at_risk(sends, other);
+                self.cut_in(first, ways.one);
+                self.cut_in(second, ways.other);
+            }
+        }
+    }
+
+    /// The slot of a name's device, where the line sends a frame in which that device may lose power.
+    fn slot_at_risk(&self, sends: bool, name: &Name) -> Option<Slot>
+        ensures { result ≡ slot_at_risk self.now sends name.now }
+    {
         if sends {
             self.risked(self.known.place_of(name))
         } else {

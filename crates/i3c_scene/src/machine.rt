@@ -1,6 +1,8 @@
 use crate::line::Line;
+use crate::risk::Risk;
 use crate::runner::Runner;
 use crate::scene::Scene;
+use crate::ways::{Ways, ways_of};
 use i3c_explore::Machine;
 use i3c_lines::Command;
 use i3c_step::Command as Frame;
@@ -43,7 +45,7 @@ impl Machine for Scene {
         again: bool,
         runner: &mut Runner,
     ) -> Result<bool, AllocError> {
-        let tried = self.way_tried(line, way);
+        let tried = self.ways_tried(line, way);
         runner.wake_to(alloc, self, again)?;
         runner.tried(line, tried)
     }
@@ -74,8 +76,8 @@ impl Machine for Scene {
 }
 
 impl Scene {
-    ghost use Rattle.std.specs.Prelude.{◌≡◌, ◌≤◌, ◌+◌, min, None, IfOk, IfSome};
-    ghost use Rattle.i3c_scene.specs.Latest.{last_bit, last_of_frame, latest};
+    ghost use Rattle.std.specs.Prelude.{◌≡◌, ◌<◌, ◌≤◌, ◌+◌, ◌^◌, None, IfOk, IfSome};
+    ghost use Rattle.i3c_scene.specs.Latest.{last_bit, last_cut, last_of_frame, latest, tried_as};
     ghost use Rattle.i3c_scene.specs.Trying.{LineBreaks, LineSteps};
 
     /// The scene after a line in a way, or none if the line breaks an expectation.
@@ -98,23 +100,40 @@ impl Scene {
     /// The last way of a line that has to be tried.
     fn latest(&self, line: &Line) -> usize
         ensures way { result ≡ latest self.now.state line.now.risk line.now.command }
+        ensures small { result < 2 ^ 32 }
+    {
+        match line.risk {
+            Risk::Nobody => 0,
+            Risk::One(_) => self.last_cut(line),
+            Risk::Two(..) => {
+                let last = self.last_cut(line);
+                last * last + (last + last)
+            }
+        }
+    }
+
+    /// The last way of a device at risk that has to be tried.
+    fn last_cut(&self, line: &Line) -> usize
+        ensures way { result ≡ last_cut self.now.state line.now.command }
         ensures small { result ≤ 4502 }
     {
-        let Some(_) = line.risk else {
-            return 0;
-        };
         match &line.command {
             Some(command) => self.last_bit(command) + BEHIND,
             None => 0,
         }
     }
 
-    /// The way that is tried for one: that itself, or the last one that has to be, if it is a later one.
-    pub(crate) fn way_tried(&self, line: &Line, way: usize) -> usize
-        ensures way { result ≡ min way (latest self.now.state line.now.risk line.now.command) }
-        ensures small { result ≤ 4502 }
+    /// The ways of the devices at risk that are tried for a way of their line. A later way than the last one that has to be
+    /// tried does what that one does.
+    pub(crate) fn ways_tried(&self, line: &Line, way: usize) -> Ways
+        ensures ways { result ≡ tried_as self.now.state line.now.risk line.now.command way }
+        ensures one { result.one < 2 ^ 16 }
+        ensures other { result.other < 2 ^ 16 }
     {
-        way.min(self.latest(line))
+        match line.risk {
+            Risk::Nobody => Ways { one: 0, other: 0 },
+            Risk::One(_) | Risk::Two(..) => { ways_of(&line.risk, way).up_to(self.last_cut(line)) }
+        }
     }
 
     /// The number of the last bit that a command's frame can have.

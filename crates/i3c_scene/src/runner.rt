@@ -1,6 +1,7 @@
 use crate::line::Line;
 use crate::live::Live;
 use crate::scene::Scene;
+use crate::ways::Ways;
 use i3c_base::Slot;
 use std::alloc::{AllocError, Global};
 
@@ -16,7 +17,7 @@ impl Runner {
     ghost use Rattle.std.specs.Prelude.{◌≡◌, ◌<◌, ◌^◌, IfOk, IfSome, IsTrue, OnOk};
     ghost use Rattle.i3c_facts.specs.declared.before.Before.{Before as BeforeValue};
     ghost use Rattle.i3c_scene.specs.Near.{IsBehind};
-    ghost use Rattle.i3c_scene.specs.Trying.{Runs, all_hold};
+    ghost use Rattle.i3c_scene.specs.Trying.{RunsIn, all_hold};
 
     /// One on which no line ran.
     pub(crate) fn new(live: Live) -> Runner
@@ -47,10 +48,11 @@ impl Runner {
         }
     }
 
-    /// Tries a line in a way from the scene that it is in: whether all that is expected holds.
-    pub(crate) fn tried(&mut self, line: &Line, way: usize) -> Result<bool, AllocError>
-        requires { way < 2 ^ 16 }
-        ensures tried { IfOk result (λ held. (before : BeforeValue) × Runs self.old.live line.now.command line.now.risk way before self.new.live × (held ≡ all_hold self.new.live before line.now.expectations.items)) }
+    /// Tries a line in these ways of the devices at risk, from the scene that it is in: whether all that is expected holds.
+    pub(crate) fn tried(&mut self, line: &Line, ways: Ways) -> Result<bool, AllocError>
+        requires one { ways.one < 2 ^ 16 }
+        requires other { ways.other < 2 ^ 16 }
+        ensures tried { IfOk result (λ held. (before : BeforeValue) × RunsIn self.old.live line.now.command line.now.risk ways before self.new.live × (held ≡ all_hold self.new.live before line.now.expectations.items)) }
         ensures near { OnOk result (IfSome self.new.touched (λ slot. IsBehind slot self.old.live self.new.live)) }
     {
         match self.live.raise_in_line(line) {
@@ -60,7 +62,7 @@ impl Runner {
             }
             None => {
                 self.touched = None;
-                self.live.tried(line, way)
+                self.live.tried(line, ways)
             }
         }
     }

@@ -7,6 +7,7 @@ use crate::live::Live;
 use crate::named::Named;
 use crate::runner::Runner;
 use crate::scene::Scene;
+use crate::ways::Ways;
 use i3c_facts::Before;
 use i3c_lines::{Names, Place};
 use i3c_script::show_bus;
@@ -46,7 +47,7 @@ impl Scene {
         way: usize,
         text: &mut Text,
     ) -> Result<Option<u64>, AllocError> {
-        let tried = self.way_tried(line, way);
+        let tried = self.ways_tried(line, way);
         let mut live = self.wake(alloc)?;
         live.unmet(line, tried, text)
     }
@@ -55,11 +56,12 @@ impl Scene {
 impl Live {
     ghost use Rattle.std.specs.Prelude.{◌<◌, ◌^◌};
 
-    /// Runs a line in a way, and tells the first expectation that it breaks.
-    fn unmet(&mut self, line: &Line, way: usize, text: &mut Text) -> Result<Option<u64>, AllocError>
-        requires { way < 2 ^ 16 }
+    /// Runs a line in these ways of the devices at risk, and tells the first expectation that it breaks.
+    fn unmet(&mut self, line: &Line, ways: Ways, text: &mut Text) -> Result<Option<u64>, AllocError>
+        requires one { ways.one < 2 ^ 16 }
+        requires other { ways.other < 2 ^ 16 }
     {
-        match self.run(line, way) {
+        match self.run(line, ways) {
             Ok(before) => self.tell_unmet(&before, line.expectations.as_slice(), text),
             Err(short) => Err(short),
         }

@@ -6,18 +6,19 @@ use Rattle.i3c_lines.specs.declared.command.Command.{Command}
 use Rattle.i3c_lines.specs.declared.names.Name.{Name}
 use Rattle.i3c_scene.specs.declared.line.Expectation.{Expectation}
 use Rattle.i3c_scene.specs.declared.line.Line.{Line}
+use Rattle.i3c_scene.specs.declared.risk.Risk.{Risk}
 use Rattle.i3c_scene.specs.Scenes.{Seen}
 use Rattle.i3c_tracks.specs.declared.body.Body.{Body}
 use Rattle.i3c_tracks.specs.declared.draft.Draft.{Draft}
 use Rattle.i3c_tracks.specs.declared.front.Front.{Front}
 use Rattle.i3c_tracks.specs.declared.open_block.OpenBlock.{OpenBlock}
 use Rattle.i3c_tracks.specs.declared.file_line.FileLine.{FileLine}
-use Rattle.i3c_tracks.specs.Planning.{IsStartOf, Outline, Spot, Step, alone, always_in, blocks_in, blocks_of, expected, outline, place, risk_in, stand, step_of, steps_in, steps_of, tracks_in, tracks_of}
+use Rattle.i3c_tracks.specs.Planning.{IsStartOf, Outline, Spot, Step, alone, always_in, before_more, blocks_in, blocks_of, expected, outline, place, risk_in, stand, step_of, steps_in, steps_of, tracks_in, tracks_of}
 use Rattle.i3c_tracks.specs.Refusing.{risk_of}
 
--- a block that isn't closed yet: the device at risk, what has to hold always, the tracks before the last, and the last if one has begun
+-- a block that isn't closed yet: the devices at risk, what has to hold always, the tracks before the last, and the last if one has begun
 pub record Open : Type 0 where
-  pub risk : Option Name
+  pub risk : Risk
   pub always : List Expectation
   pub tracks : List (List Step)
   pub last : Option (List Step)
@@ -39,14 +40,21 @@ abbrev pub held_in : Option Step → List Expectation → List (ℕ × FileLine)
 held_in None always rest = []
 held_in (Some step) always rest = awaited step (expected rest ++ always) ∷ []
 
--- the first of two names
-abbrev pub either : Option Name → Option Name → Option Name
-either None other = other
-either (Some name) other = Some name
+-- these devices at risk, and those behind them: two at most
+abbrev pub risk_with : Risk → Risk → Risk
+risk_with Risk.Nobody more = more
+risk_with (Risk.One name) more = before_more name more
+risk_with (Risk.Two one other) more = Risk.Two one other
+
+-- these devices at risk, and one more if there is room
+abbrev pub with_more : Risk → Name → Risk
+with_more Risk.Nobody name = Risk.One name
+with_more (Risk.One first) name = Risk.Two first name
+with_more (Risk.Two first second) name = Risk.Two first second
 
 -- the open block's tracks, where a last one has begun or not
 abbrev pub tracks_left : Open → Option (List Step) → Option Step → List (ℕ × FileLine) → List (List Step)
-tracks_left block None held rest = block.tracks ++ tracks_in (either block.risk (risk_in rest)) (block.always ++ always_in rest) rest
+tracks_left block None held rest = block.tracks ++ tracks_in (risk_with block.risk (risk_in rest)) (block.always ++ always_in rest) rest
 tracks_left block (Some last) held rest = block.tracks ++ (last ++ (held_in held block.always rest ++ steps_in block.risk block.always rest)) ∷ tracks_in block.risk block.always rest
 
 -- the line that is held comes before the open block, until a track has begun
@@ -139,7 +147,7 @@ all_tracks tracks (Some last) = tracks ++ last ∷ []
 
 -- a line of which one thing more is expected; without a held line, a place
 abbrev pub with_expected : Expectation → Option Step → Step
-with_expected expectation None = record { number = expectation.number; command = None; risk = None; expected = expectation ∷ [] }
+with_expected expectation None = record { number = expectation.number; command = None; risk = Risk.Nobody; expected = expectation ∷ [] }
 with_expected expectation (Some step) = awaited step (expectation ∷ [])
 
 -- one more line in the last track, with what has to hold after each line
@@ -168,13 +176,13 @@ pub record Puts (old : Body) (step : Step) (new : Body) : Type 0 where
   pub begun : begun_in new.block ≡ begun_in old.block
   pub held : new.held ≡ old.held
 
--- the device at risk in a command's frame
-abbrev pub risk_here : Option OpenBlock → Command → Option Name
-risk_here None command = None
+-- the devices at risk in a command's frame
+abbrev pub risk_here : Option OpenBlock → Command → Risk
+risk_here None command = Risk.Nobody
 risk_here (Some block) command = risk_of block.risk command
 
 -- a command has its place in the open block, if there is one
-pub record TakesPlace (old : Body) (command : Command) (risked : Option Name) (new : Body) : Type 0 where
+pub record TakesPlace (old : Body) (command : Command) (risked : Risk) (new : Body) : Type 0 where
   pub start : new.start ≡ old.start
   pub blocks : new.blocks ≡ old.blocks
   pub block : option_map open_of new.block ≡ option_map open_of old.block

@@ -15,6 +15,7 @@ use Rattle.i3c_script.specs.Accepting.{at_first}
 use Rattle.i3c_scenario.specs.Outcomes.{HasNoFeed}
 use Rattle.i3c_scene.specs.declared.line.Expectation.{Expectation}
 use Rattle.i3c_scene.specs.declared.line.Line.{Line}
+use Rattle.i3c_scene.specs.declared.risk.Risk.{Risk}
 use Rattle.i3c_scene.specs.declared.named.Named.{Named}
 use Rattle.i3c_scene.specs.Scenes.{Seen, place_in}
 use Rattle.i3c_tracks.specs.declared.file_line.FileLine.{FileLine}
@@ -37,11 +38,11 @@ AreSaid number [] (said ∷ rest) = ⊥
 AreSaid number (line ∷ lines) [] = ⊥
 AreSaid number (line ∷ lines) ((at, said) ∷ rest) = (at ≡ number) × IsFileLine line.items said × (said ≢ FileLine.Formless) × AreSaid (number + 1) lines rest
 
--- a line that runs: its number, its command, the device at risk in its frame, and what is expected behind it. A line without a command is a place where something is expected
+-- a line that runs: its number, its command, the devices at risk in its frame, and what is expected behind it. A line without a command is a place where something is expected
 pub record Step : Type 0 where
   pub number : ℕ
   pub command : Option Command
-  pub risk : Option Name
+  pub risk : Risk
   pub expected : List Expectation
 
 abbrev pub expectation : ℕ → List Claim → Expectation
@@ -56,12 +57,18 @@ expected ((number, FileLine.Marks (Mark.Anywhere name)) ∷ rest) = expected res
 expected ((number, FileLine.Nothing) ∷ rest) = expected rest
 expected _ = []
 
--- the device at risk in a block: its `anywhere`, before its first track
-abbrev pub risk_in : List (ℕ × FileLine) → Option Name
-risk_in [] = None
-risk_in ((number, FileLine.Marks (Mark.Anywhere name)) ∷ rest) = Some name
-risk_in ((number, FileLine.Marks Mark.Track) ∷ rest) = None
-risk_in ((number, FileLine.Marks Mark.Close) ∷ rest) = None
+-- a device at risk, and those behind it: two at most
+abbrev pub before_more : Name → Risk → Risk
+before_more name Risk.Nobody = Risk.One name
+before_more name (Risk.One other) = Risk.Two name other
+before_more name (Risk.Two other third) = Risk.Two name other
+
+-- the devices at risk in a block: each `anywhere` before its first track
+abbrev pub risk_in : List (ℕ × FileLine) → Risk
+risk_in [] = Risk.Nobody
+risk_in ((number, FileLine.Marks (Mark.Anywhere name)) ∷ rest) = before_more name (risk_in rest)
+risk_in ((number, FileLine.Marks Mark.Track) ∷ rest) = Risk.Nobody
+risk_in ((number, FileLine.Marks Mark.Close) ∷ rest) = Risk.Nobody
 risk_in (line ∷ rest) = risk_in rest
 
 -- what has to hold after each line of a block: each `always` before its first track
@@ -73,7 +80,7 @@ always_in ((number, FileLine.Marks Mark.Close) ∷ rest) = []
 always_in (line ∷ rest) = always_in rest
 
 -- the lines of a track: its commands, up to the next `track` or `close`
-abbrev pub steps_in : Option Name → List Expectation → List (ℕ × FileLine) → List Step
+abbrev pub steps_in : Risk → List Expectation → List (ℕ × FileLine) → List Step
 steps_in risk always [] = []
 steps_in risk always ((number, FileLine.Does command) ∷ rest) = record { number = number; command = Some command; risk = risk_of risk command; expected = expected rest ++ always } ∷ steps_in risk always rest
 steps_in risk always ((number, FileLine.Marks Mark.Track) ∷ rest) = []
@@ -81,7 +88,7 @@ steps_in risk always ((number, FileLine.Marks Mark.Close) ∷ rest) = []
 steps_in risk always (line ∷ rest) = steps_in risk always rest
 
 -- the tracks of a block: the lines behind each `track`, up to `close`
-abbrev pub tracks_in : Option Name → List Expectation → List (ℕ × FileLine) → List (List Step)
+abbrev pub tracks_in : Risk → List Expectation → List (ℕ × FileLine) → List (List Step)
 tracks_in risk always [] = []
 tracks_in risk always ((number, FileLine.Marks Mark.Track) ∷ rest) = steps_in risk always rest ∷ tracks_in risk always rest
 tracks_in risk always ((number, FileLine.Marks Mark.Close) ∷ rest) = []
@@ -94,12 +101,12 @@ alone step = (step ∷ []) ∷ []
 -- what is expected with no line before it is expected of each state that can be there: it has a place of its own
 abbrev pub place : List Expectation → List (List (List Step))
 place [] = []
-place (first ∷ rest) = alone (record { number = first.number; command = None; risk = None; expected = first ∷ rest }) ∷ []
+place (first ∷ rest) = alone (record { number = first.number; command = None; risk = Risk.Nobody; expected = first ∷ rest }) ∷ []
 
 -- the blocks of some lines, outside of a block (`false`) or in the midst of one (`true`)
 abbrev pub blocks_in : Bool → List (ℕ × FileLine) → List (List (List Step))
 blocks_in inside [] = []
-blocks_in false ((number, FileLine.Does command) ∷ rest) = alone (record { number = number; command = Some command; risk = None; expected = expected rest }) ∷ blocks_in false rest
+blocks_in false ((number, FileLine.Does command) ∷ rest) = alone (record { number = number; command = Some command; risk = Risk.Nobody; expected = expected rest }) ∷ blocks_in false rest
 blocks_in false ((number, FileLine.Marks Mark.Any) ∷ rest) = tracks_in (risk_in rest) (always_in rest) rest ∷ blocks_in true rest
 blocks_in true ((number, FileLine.Marks Mark.Close) ∷ rest) = place (expected rest) ++ blocks_in false rest
 blocks_in inside (line ∷ rest) = blocks_in inside rest

@@ -4,8 +4,8 @@ use Rattle.i3c_facts.specs.declared.facts.Claim.{Claim}
 use Rattle.i3c_facts.specs.declared.fact.Fact.{Fact}
 use Rattle.i3c_facts.specs.declared.marks.Mark.{Mark}
 use Rattle.i3c_lines.specs.declared.command.Command.{Command}
-use Rattle.i3c_lines.specs.declared.names.Name.{Name}
 use Rattle.i3c_scene.specs.declared.line.Line.{Line}
+use Rattle.i3c_scene.specs.declared.risk.Risk.{Risk}
 use Rattle.i3c_tracks.specs.declared.body.Body.{Body}
 use Rattle.i3c_tracks.specs.declared.draft.Draft.{Draft}
 use Rattle.i3c_tracks.specs.declared.open_block.OpenBlock.{OpenBlock}
@@ -33,23 +33,29 @@ is_outer Command.Symbols = true
 is_outer (Command.Frames count) = true
 is_outer _ = false
 
--- the device that may lose power in a command's frame, in a block with such a device
-abbrev pub risk_of : Option Name → Command → Option Name
-risk_of risk command = if sends_frame command then risk else None
+-- the devices that may lose power in a command's frame, in a block with such devices
+abbrev pub risk_of : Risk → Command → Risk
+risk_of risk command = if sends_frame command then risk else Risk.Nobody
+
+-- whether as many devices may lose power as a block can have
+abbrev pub is_full : Risk → Bool
+is_full Risk.Nobody = false
+is_full (Risk.One name) = false
+is_full (Risk.Two one other) = true
 
 -- why an open block refuses a command: by whether a track has begun, and by the number of lines that its tracks may still get
 abbrev pub refuses_command : Bool → ℕ → Command → Option Reason
 refuses_command begun left command = if is_outer command then Some Reason.BlockOpen else if not begun then Some Reason.NoTrack else if left == 0 then Some Reason.Most else None
 
--- why an open block refuses a mark: by whether a track has begun, whether a device may lose power, and the number of tracks
+-- why an open block refuses a mark: by whether a track has begun, whether two devices may lose power, and the number of tracks
 -- that may still begin
 abbrev pub refuses_mark : Bool → Bool → ℕ → Mark → Option Reason
-refuses_mark begun risked left Mark.Any = Some Reason.BlockOpen
-refuses_mark begun risked left (Mark.Anywhere name) = if begun then Some Reason.BlockOpen else if risked then Some Reason.Most else None
-refuses_mark begun risked left (Mark.Always facts) = if begun then Some Reason.BlockOpen else None
-refuses_mark begun risked left Mark.Track = if left == 0 then Some Reason.Most else None
-refuses_mark begun risked left Mark.Close = None
-refuses_mark begun risked left (Mark.Expect facts) = if begun then None else Some Reason.NoTrack
+refuses_mark begun full left Mark.Any = Some Reason.BlockOpen
+refuses_mark begun full left (Mark.Anywhere name) = if begun then Some Reason.BlockOpen else if full then Some Reason.Most else None
+refuses_mark begun full left (Mark.Always facts) = if begun then Some Reason.BlockOpen else None
+refuses_mark begun full left Mark.Track = if left == 0 then Some Reason.Most else None
+refuses_mark begun full left Mark.Close = None
+refuses_mark begun full left (Mark.Expect facts) = if begun then None else Some Reason.NoTrack
 
 -- why a mark is refused outside of blocks
 abbrev pub refuses_outside : Mark → Option Reason
@@ -99,7 +105,7 @@ refuses_there (Some block) command = refuses_command (is_some block.last) block.
 -- the same of a mark
 abbrev pub refuses_mark_there : Option OpenBlock → Mark → Option Reason
 refuses_mark_there None mark = refuses_outside mark
-refuses_mark_there (Some block) mark = refuses_mark (is_some block.last) (is_some block.risk) block.tracks_left mark
+refuses_mark_there (Some block) mark = refuses_mark (is_some block.last) (is_full block.risk) block.tracks_left mark
 
 -- a reason that comes first, or that a line is missed
 abbrev pub or_missed : Option Reason → Bool → Option Reason

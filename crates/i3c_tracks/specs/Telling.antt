@@ -1,9 +1,12 @@
 -- What is printed of a file that is explored.
-use Rattle.std.specs.Prelude.{ℕ, suc, ◌-◌, Bool, true, false, List, [], ◌∷◌, ◌++◌, Option, Some, None, codes, drop, is_some, if◌then◌else◌, min, length, slice_get, take}
+use Rattle.std.specs.Prelude.{ℕ, zero, suc, ◌-◌, Bool, true, false, List, [], ◌∷◌, ◌++◌, Option, Some, None, codes, drop, is_some, if◌then◌else◌, min, length, slice_get, take}
 use Rattle.std.specs.Fmt.{decimal}
 use Rattle.std.specs.Global.{Vec}
 use Rattle.i3c_lines.specs.declared.names.Name.{Name}
 use Rattle.i3c_lines.specs.Naming.{letters}
+use Rattle.i3c_scene.specs.declared.risk.Risk.{Risk}
+use Rattle.i3c_scene.specs.declared.ways.Ways.{Ways}
+use Rattle.i3c_scene.specs.Trying.{ways_of}
 use Rattle.i3c_tracks.specs.declared.course.Run.{Run}
 use Rattle.i3c_tracks.specs.declared.refusal.Reason.{Reason}
 use Rattle.i3c_tracks.specs.declared.refusal.Refusal.{Refusal}
@@ -40,23 +43,28 @@ abbrev pub lines_text : List (Vec ℕ) → List ℕ → List ℕ
 lines_text lines [] = []
 lines_text lines (number ∷ rest) = (line_at lines number ++ 10 ∷ []) ++ lines_text lines rest
 
--- the device that loses power in a way of a line, and the bit
-abbrev pub cut_in : Option Name → ℕ → Option (Name × ℕ)
-cut_in (Some name) (suc bit) = Some (name, bit)
-cut_in _ _ = None
-
 -- a cut as a line of a script has it
 abbrev pub cut_text : Name → ℕ → List ℕ
 cut_text name bit = codes "cut " ++ (letters name ++ (codes " " ++ decimal bit))
 
--- the cut before a line, and the text between them
-abbrev pub cut_before : Option (Name × ℕ) → List ℕ → List ℕ
-cut_before None between = []
-cut_before (Some (name, bit)) between = cut_text name bit ++ between
+-- the cut of a device at risk in a way, if it is cut, and the text behind it
+abbrev pub cut_before : Name → ℕ → List ℕ → List ℕ
+cut_before name zero between = []
+cut_before name (suc bit) between = cut_text name bit ++ between
 
--- a line that runs, with its cut in front
+-- the cuts in these ways of the devices at risk, each with the text behind it
+abbrev pub cuts_before : Risk → Ways → List ℕ → List ℕ
+cuts_before Risk.Nobody ways between = []
+cuts_before (Risk.One name) ways between = cut_before name ways.one between
+cuts_before (Risk.Two name other) ways between = cut_before name ways.one between ++ cut_before other ways.other between
+
+-- the cuts of a line that runs
+abbrev pub run_cuts : Run → List ℕ → List ℕ
+run_cuts run between = cuts_before run.line.now.risk (ways_of run.line.now.risk run.way) between
+
+-- a line that runs, with its cuts in front
 abbrev pub run_text : List (Vec ℕ) → Run → List ℕ
-run_text lines run = cut_before (cut_in run.line.now.risk run.way) (10 ∷ []) ++ (line_at lines run.line.now.number ++ 10 ∷ [])
+run_text lines run = run_cuts run (10 ∷ []) ++ (line_at lines run.line.now.number ++ 10 ∷ [])
 
 -- the same, if it has a command: a line without one is a place where expectations alone are tested
 abbrev pub told_text : List (Vec ℕ) → Run → List ℕ
@@ -101,9 +109,9 @@ of_orders false orders = []
 abbrev pub head_text : ℕ → Option ℕ → Bool → List ℕ
 head_text number orders counted = codes "end " ++ (decimal number ++ (of_orders counted orders ++ 10 ∷ []))
 
--- a line that runs, in one line with its cut
+-- a line that runs, in one line with its cuts
 abbrev pub short_run_text : List (Vec ℕ) → Run → List ℕ
-short_run_text lines run = cut_before (cut_in run.line.now.risk run.way) (codes " / ") ++ line_at lines run.line.now.number
+short_run_text lines run = run_cuts run (codes " / ") ++ line_at lines run.line.now.number
 
 -- the text before a line, which may be the first one
 abbrev pub parting : Bool → List ℕ

@@ -1,4 +1,5 @@
 ghost use Rattle.std.specs.Prelude.{◌≡◌, [], None, IfOk, option_map};
+ghost use Rattle.i3c_scene.specs.declared.risk.Risk.{Risk as RiskValue};
 ghost use Rattle.i3c_tracks.specs.Planning.{alone, step_of, tracks_of};
 ghost use Rattle.i3c_tracks.specs.Drafting.{with_expected};
 ghost use Rattle.i3c_tracks.specs.Refusing.{ask_before, is_of_before, refuses_outside};
@@ -7,7 +8,7 @@ use crate::open_block::OpenBlock;
 use crate::refusal::Reason;
 use i3c_facts::{Fact, Facts, Mark};
 use i3c_lines::{Command, Name};
-use i3c_scene::{Expectation, Line, Scene};
+use i3c_scene::{Expectation, Line, Risk, Scene};
 use std::alloc::{AllocError, Global};
 use std::mem;
 
@@ -70,12 +71,12 @@ fn expecting(
 
 /// A place of this number, where nothing is expected.
 fn place_of(alloc: Global, number: u64) -> Line
-    ensures { step_of result ≡ record { number = number; command = None; risk = None; expected = [] } }
+    ensures { step_of result ≡ record { number = number; command = None; risk = RiskValue.Nobody; expected = [] } }
 {
     Line {
         number,
         command: None,
-        risk: None,
+        risk: Risk::Nobody,
         expectations: Vec::new(alloc),
     }
 }
@@ -216,13 +217,13 @@ impl Body {
         Ok(())
     }
 
-    /// One more line has its place in the open block, if there is one: the device that may lose power in it.
-    fn take_place(&mut self, command: &Command) -> Option<Name>
+    /// One more line has its place in the open block, if there is one: the devices that may lose power in it.
+    fn take_place(&mut self, command: &Command) -> Risk
         ensures { TakesPlace self.old command.now result self.new }
     {
         match &mut self.block {
             Some(open) => open.take_place(command),
-            None => None,
+            None => Risk::Nobody,
         }
     }
 
@@ -238,7 +239,7 @@ impl Body {
                 Ok(())
             }
             Mark::Anywhere(name) => {
-                self.set_risk(name);
+                self.add_risk(name);
                 Ok(())
             }
             Mark::Always(facts) => self.add_always(number, facts),
@@ -249,14 +250,14 @@ impl Body {
     }
 
     /// `anywhere`: this device may lose power in any frame of the block.
-    fn set_risk(&mut self, name: Name)
+    fn add_risk(&mut self, name: Name)
         requires { refuses_mark_there self.old.block (MarkValue.Anywhere name) ≡ None }
         ensures { (number : ℕ) → ReadsOn self.old (number, FileLineValue.Marks (MarkValue.Anywhere name)) self.new }
     {
         self.risky = true;
         match &mut self.block {
             Some(open) => {
-                open.risk = Some(name);
+                open.add_risk(name);
             }
             None => {}
         }

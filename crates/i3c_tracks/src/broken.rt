@@ -4,7 +4,7 @@ ghost use Rattle.i3c_tracks.specs.declared.course.Run.{Run as RunValue};
 
 use crate::course::{Run, runs_of};
 use crate::plan::Plan;
-use crate::report::{cut_of, line_at, push_cut};
+use crate::report::{line_at, push_cuts};
 use i3c_explore::Turn;
 use i3c_scene::Scene;
 use i3c_text::Text;
@@ -157,7 +157,7 @@ fn push_lines(lines: &[Vec<u8>], numbers: &[u64], text: &mut Text) -> Result<(),
     Ok(())
 }
 
-/// Appends lines that run, each behind its cut if it has one.
+/// Appends lines that run, each behind its cuts.
 fn push_runs(lines: &[Vec<u8>], runs: &[Run<'_>], text: &mut Text) -> Result<(), AllocError>
     ensures { OnOk result (text.new ≡ text.old ++ runs_text lines.now runs.now) }
 {
@@ -177,17 +177,11 @@ fn push_run_of(lines: &[Vec<u8>], run: &Run<'_>, text: &mut Text) -> Result<(), 
     Ok(())
 }
 
-/// Appends a line that runs, behind its cut if it has one.
+/// Appends a line that runs, behind its cuts.
 fn push_run(lines: &[Vec<u8>], run: &Run<'_>, text: &mut Text) -> Result<(), AllocError>
     ensures { OnOk result (text.new ≡ text.old ++ run_text lines.now run.now) }
 {
-    match cut_of(run) {
-        Some((name, bit)) => {
-            push_cut(&name, bit, text)?;
-            text.end()?;
-        }
-        None => {}
-    }
+    push_cuts(run, b"\n", text)?;
     text.push(line_at(lines, run.line.number))?;
     text.end()
 }

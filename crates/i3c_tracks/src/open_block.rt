@@ -1,12 +1,12 @@
 ghost use Rattle.std.specs.Prelude.{◌≡◌, ◌∷◌, [], OnOk};
-ghost use Rattle.i3c_tracks.specs.Refusing.{is_outer, sends_frame};
-ghost use Rattle.i3c_tracks.specs.Drafting.{awaited};
+ghost use Rattle.i3c_tracks.specs.Refusing.{is_full, is_outer, sends_frame};
+ghost use Rattle.i3c_tracks.specs.Drafting.{awaited, with_more};
 ghost use Rattle.i3c_tracks.specs.Planning.{step_of};
 
 use crate::refusal::Reason;
 use i3c_facts::Mark;
 use i3c_lines::{Command, Name};
-use i3c_scene::{Expectation, Line};
+use i3c_scene::{Expectation, Line, Risk};
 use std::alloc::{AllocError, Global};
 use std::mem;
 
@@ -19,8 +19,8 @@ const MOST_LINES: usize = 64;
 /// A block that isn't closed yet.
 #[derive(Drop)]
 pub(crate) struct OpenBlock {
-    /// The device that may lose power, in any frame of the block.
-    pub risk: Option<Name>,
+    /// The devices that may lose power, in any frame of the block.
+    risk: Risk,
     /// What has to hold after each line.
     always: Vec<Expectation>,
     /// The tracks before the last.
@@ -41,6 +41,24 @@ fn sends_frame(command: &Command) -> bool
         command,
         Command::Frame(_) | Command::HandOver { .. } | Command::Open | Command::Round | Command::Daa
     )
+}
+
+/// Whether as many devices may lose power as a block can have.
+fn is_full(risk: &Risk) -> bool
+    ensures { result ≡ is_full risk.now }
+{
+    matches!(risk, Risk::Two(..))
+}
+
+/// These devices, and one more if there is room for it.
+fn with_more(risk: Risk, name: Name) -> Risk
+    ensures { result ≡ with_more risk name }
+{
+    match risk {
+        Risk::Nobody => Risk::One(name),
+        Risk::One(first) => Risk::Two(first, name),
+        Risk::Two(first, second) => Risk::Two(first, second),
+    }
 }
 
 /// Whether a command has its place outside of blocks alone.
@@ -83,17 +101,18 @@ fn expect_again(expectation: &Expectation, line: &mut Line) -> Result<(), AllocE
 }
 
 impl OpenBlock {
-    ghost use Rattle.std.specs.Prelude.{◌≡◌, ◌++◌, ◌∷◌, ◌==◌, [], None, Some, IfOk, OnOk, is_some, option_map, if◌then◌else◌};
-    ghost use Rattle.i3c_tracks.specs.Refusing.{refuses_command, refuses_mark, risk_of};
-    ghost use Rattle.i3c_tracks.specs.Drafting.{all_tracks, awaited, open_of, with_line};
+    ghost use Rattle.std.specs.Prelude.{◌≡◌, ◌++◌, ◌∷◌, ◌==◌, [], None, Some, IfOk, OnOk, false, is_some, option_map, if◌then◌else◌};
+    ghost use Rattle.i3c_tracks.specs.Refusing.{is_full, refuses_command, refuses_mark, risk_of};
+    ghost use Rattle.i3c_tracks.specs.Drafting.{all_tracks, awaited, open_of, with_line, with_more};
+    ghost use Rattle.i3c_scene.specs.declared.risk.Risk.{Risk as RiskValue};
     ghost use Rattle.i3c_tracks.specs.Planning.{step_of, tracks_of};
 
     /// A block before its first line.
     pub(crate) fn new(alloc: Global) -> OpenBlock
-        ensures { open_of result ≡ record { risk = None; always = []; tracks = []; last = None } }
+        ensures { open_of result ≡ record { risk = RiskValue.Nobody; always = []; tracks = []; last = None } }
     {
         OpenBlock {
-            risk: None,
+            risk: Risk::Nobody,
             always: Vec::new(alloc),
             tracks: Vec::new(alloc),
             last: None,
@@ -127,20 +146,29 @@ impl OpenBlock {
 
     /// Why a mark is refused here, if it is. Expectations are judged by the line before them besides.
     pub(crate) fn refuses_mark(&self, mark: &Mark) -> Option<Reason>
-        ensures { result ≡ refuses_mark (is_some self.now.last) (is_some self.now.risk) self.now.tracks_left mark.now }
+        ensures { result ≡ refuses_mark (is_some self.now.last) (is_full self.now.risk) self.now.tracks_left mark.now }
     {
         match mark {
             Mark::Any => Some(Reason::BlockOpen),
             Mark::Anywhere(_) | Mark::Always(_) if self.has_track() => Some(Reason::BlockOpen),
-            Mark::Anywhere(_) if self.risk.is_some() => Some(Reason::Most),
+            Mark::Anywhere(_) if is_full(&self.risk) => Some(Reason::Most),
             Mark::Track if self.tracks_left == 0 => Some(Reason::Most),
             Mark::Expect(_) if !self.has_track() => Some(Reason::NoTrack),
             _ => None,
         }
     }
 
-    /// One more line has its place in a track: the device that may lose power in it, if it sends a frame.
-    pub(crate) fn take_place(&mut self, command: &Command) -> Option<Name>
+    /// One more device may lose power, in any frame of the block.
+    pub(crate) fn add_risk(&mut self, name: Name)
+        requires { is_full self.old.risk ≡ false }
+        ensures added { open_of self.new ≡ record (open_of self.old) { risk = with_more self.old.risk name } }
+        ensures begun { self.new.last ≡ self.old.last }
+    {
+        self.risk = with_more(self.risk, name);
+    }
+
+    /// One more line has its place in a track: the devices that may lose power in it, if it sends a frame.
+    pub(crate) fn take_place(&mut self, command: &Command) -> Risk
         ensures risk { result ≡ risk_of self.old.risk command.now }
         ensures same { open_of self.new ≡ open_of self.old }
         ensures begun { is_some self.new.last ≡ is_some self.old.last }
@@ -149,7 +177,7 @@ impl OpenBlock {
         if sends_frame(command) {
             self.risk
         } else {
-            None
+            Risk::Nobody
         }
     }
 

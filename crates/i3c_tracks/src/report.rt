@@ -1,12 +1,12 @@
 ghost use Rattle.std.specs.Prelude.{◌≡◌, ◌++◌, [], ℕ, List, IfOk, OnOk, false, length, not, true, if◌then◌else◌};
 ghost use Rattle.i3c_tracks.specs.Ends.{AreEndTexts, IsEndText, IsReport, numbers_text};
-ghost use Rattle.i3c_tracks.specs.Telling.{cut_in, cut_text, head_text, like_text, line_at, orders_text, parted_text, parting, short_run_text};
+ghost use Rattle.i3c_tracks.specs.Telling.{cut_before, head_text, like_text, line_at, orders_text, parted_text, parting, run_cuts, short_run_text};
 
 use crate::course::{Run, runs_of};
 use crate::plan::Plan;
 use i3c_explore::{Explored, Machine, Node};
 use i3c_lines::Name;
-use i3c_scene::{Runner, Scene};
+use i3c_scene::{Risk, Runner, Scene, ways_of};
 use i3c_text::Text;
 use std::alloc::{AllocError, Global};
 
@@ -157,38 +157,41 @@ fn parting(is_first: bool) -> &'static [u8]
     if is_first { b" " } else { b" / " }
 }
 
-/// Appends a line as the file has it, behind its cut if it has one.
+/// Appends a line as the file has it, behind its cuts.
 fn push_like_line(lines: &[Vec<u8>], run: &Run<'_>, text: &mut Text) -> Result<(), AllocError>
     ensures { OnOk result (text.new ≡ text.old ++ short_run_text lines.now run.now) }
 {
-    match cut_of(run) {
-        Some((name, bit)) => {
-            push_cut(&name, bit, text)?;
-            text.push(b" / ")?;
-        }
-        None => {}
-    }
+    push_cuts(run, b" / ", text)?;
     text.push(line_at(lines, run.line.number))
 }
 
-/// The device that loses power in a line that runs, and the bit, if one does.
-pub(crate) fn cut_of(run: &Run<'_>) -> Option<(Name, u64)>
-    ensures { result ≡ cut_in run.now.line.now.risk run.now.way }
+/// Appends the cuts of a line that runs, each with the text behind it.
+pub(crate) fn push_cuts(run: &Run<'_>, between: &[u8], text: &mut Text) -> Result<(), AllocError>
+    ensures { OnOk result (text.new ≡ text.old ++ run_cuts run.now between.now) }
 {
-    match run.line.risk {
-        Some(name) if run.way > 0 => Some((name, run.way as u64 - 1)),
-        _ => None,
+    let ways = ways_of(&run.line.risk, run.way);
+    match &run.line.risk {
+        Risk::Nobody => Ok(()),
+        Risk::One(name) => push_cut(name, ways.one, between, text),
+        Risk::Two(name, other) => {
+            push_cut(name, ways.one, between, text)?;
+            push_cut(other, ways.other, between, text)
+        }
     }
 }
 
-/// Appends the tokens of a cut.
-pub(crate) fn push_cut(name: &Name, bit: u64, text: &mut Text) -> Result<(), AllocError>
-    ensures { OnOk result (text.new ≡ text.old ++ cut_text name.now bit) }
+/// Appends the cut of a device at risk in a way, if it is cut, and the text behind it.
+fn push_cut(name: &Name, way: usize, between: &[u8], text: &mut Text) -> Result<(), AllocError>
+    ensures { OnOk result (text.new ≡ text.old ++ cut_before name.now way between.now) }
 {
+    let Some(bit) = way.checked_sub(1) else {
+        return Ok(());
+    };
     text.push(b"cut ")?;
     text.push(name.as_bytes())?;
     text.push(b" ")?;
-    text.push_decimal(bit)
+    text.push_decimal(bit as u64)?;
+    text.push(between)
 }
 
 /// The line of this number, as the file has it.

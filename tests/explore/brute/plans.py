@@ -14,7 +14,7 @@ class Line:
 
     number: int
     text: str
-    risk: str = ''  # the device that may lose power in its frame
+    risks: tuple = ()  # the devices that may lose power in its frame
     in_block: bool = False
     expects: list = field(default_factory=list)  # the numbers of the lines that say what is expected behind it
 
@@ -49,7 +49,7 @@ class Reader:
         self.plan = Plan(text.splitlines())
         self.last = None  # the line that the next `expect` is about
         self.tracks = None  # of the open block
-        self.risk = ''
+        self.risks = ()
         self.always = []
 
     def read(self):
@@ -67,9 +67,9 @@ class Reader:
     def take(self, number, line):
         word = word_of(line)
         if word == 'any':
-            self.tracks, self.risk, self.always = [], '', []
+            self.tracks, self.risks, self.always = [], (), []
         elif word == 'anywhere':
-            self.risk = line.split(' ')[1]
+            self.risks += (line.split(' ')[1],)
         elif word == 'always':
             self.always.append(number)
             self.expect(number)
@@ -105,7 +105,7 @@ class Reader:
             self.plan.blocks.append([[self.last]])
             return
         self.last.in_block = True
-        self.last.risk = self.risk if sends_frame(line) else ''
+        self.last.risks = self.risks if sends_frame(line) else ()
         self.tracks[-1].append(self.last)
 
 

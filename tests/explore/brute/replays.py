@@ -31,8 +31,9 @@ def bits_of(line):
 class Replay:
     """A whole order, as it ran."""
 
-    turns: tuple  # of each line its track and its way: 0 uncut, and bit + 1
+    turns: tuple  # of each line its track and its way
     lines: list
+    cuts: dict  # of each line by its index the names of the devices that are cut in its frame, each with its bit
     views: list  # the bus behind each line, where it was looked at
     before: facts.View  # the bus in front of all blocks
     printed: list  # what each line printed
@@ -184,14 +185,14 @@ class Player:
         self.count = 0
 
     def written(self, lines, cuts, asked):
-        """The script of an order with a device cut in these lines, at these bits, and with questions behind it."""
+        """The script of an order with these cuts, and with questions behind it."""
         script = Written()
         for line in self.plan.front:
             script.add(line)
         script.begun = script.add('show all')
         for index, line in enumerate(lines):
-            if index in cuts:
-                script.add(f'cut {line.risk} {cuts[index]}')
+            for cut in cut_lines(cuts, index):
+                script.add(cut)
             script.ran.append(script.add(line.text) if line.text else None)
             script.looks.append(script.add('show all') if is_looked_at(lines, index) else None)
         script.asked = [script.add(line) for line in asked]
@@ -212,7 +213,7 @@ class Player:
         return answered(asked, script, self.run(script))
 
     def play(self, turns, cuts):
-        """Runs an order whole, with a device cut in these lines, at these bits."""
+        """Runs an order whole, with these cuts."""
         lines = [line for _, line in turns]
         script = self.written(lines, cuts, self.questions)
         printed = self.run(script)
@@ -227,11 +228,12 @@ class Player:
         told = answered(self.questions, script, printed)
         if shown.is_open:
             told += self.answers(lines, cuts, rounds(self.plan))
-        ways = tuple((track, cuts[index] + 1 if index in cuts else 0) for index, (track, _) in enumerate(turns))
+        ways = tuple((track, way_of(line, cuts.get(index, {}))) for index, (track, line) in enumerate(turns))
         bus = next(index for index, line in enumerate(last) if line.startswith('device '))
         return Replay(
             turns=ways,
             lines=lines,
+            cuts=cuts,
             views=views,
             before=before,
             printed=[printed.get(number, []) for number in script.ran],
@@ -247,28 +249,53 @@ class Player:
         return len(lines)
 
     def replays(self, turns):
-        """An order in each of its ways: uncut, and with the device at risk cut at each bit of each frame in which it can be
-        cut. Where it comes back and is cut again, these too."""
-        waiting = [({}, None)]
+        """An order in each of its ways: uncut, and with each device at risk cut at each bit of each frame in which it can be
+        cut, and both of two. Where one comes back and is cut again, these too. Each replay has one cut more than the one
+        that it is made of: of a later frame, or of the same frame's second device."""
+        waiting = [({}, None, (0, -1))]
         while waiting:
-            cuts, uncut = waiting.pop()
+            cuts, without, (index, place) = waiting.pop()
             replay = self.play(turns, cuts)
-            first = max(cuts) + 1 if cuts else 0
-            if cuts and replay.views[first - 1].is_there(replay.lines[first - 1].risk):
+            if without and replay.views[index].is_there(replay.lines[index].risks[place]):
                 # the bit is behind the frame's last one
-                if replay.end != uncut.end or replay.printed != uncut.printed:
+                if replay.end != without.end or replay.printed != without.printed:
                     raise Failed(f'a cut behind the last bit did something: {cuts}')
                 continue
             yield replay
-            for index in range(first, min(replay.breaks + 1, len(turns))):
-                if is_at_risk(replay, index):
-                    bits = range(bits_of(replay.lines[index].text))
-                    waiting.extend(({**cuts, index: bit}, replay) for bit in bits)
+            waiting.extend((with_cut(cuts, later, name, bit), replay, (later, second)) for later, second, name, bit in self.later_cuts(replay, index, place))
+
+    def later_cuts(self, replay, index, place):
+        """Each cut of a later frame, or of a later device in the same one: the frame's index, the device's place among those
+        at risk, its name, and the bit."""
+        for later in range(index, min(replay.breaks + 1, len(replay.lines))):
+            line = replay.lines[later]
+            for second, name in enumerate(line.risks):
+                if (later, second) > (index, place) and is_at_risk(replay, later, name):
+                    yield from ((later, second, name, bit) for bit in range(bits_of(line.text)))
+
+
+def with_cut(cuts, index, name, bit):
+    return {**cuts, index: {**cuts.get(index, {}), name: bit}}
+
+
+def cut_lines(cuts, index):
+    """The lines in front of a frame that cut devices in it."""
+    return [f'cut {name} {bit}' for name, bit in cuts.get(index, {}).items()]
+
+
+def way_of(line, bits):
+    """The number of a line's way. A device that is cut at a bit has 1 more, and 0 if it isn't cut. Two devices have numbers in
+    the order of the larger one; of those that are as large first where the first device has it, and the other grows."""
+    ways = [bits[name] + 1 if name in bits else 0 for name in line.risks]
+    if len(ways) < 2:
+        return sum(ways)
+    one, other = ways
+    return one * one + other if one > other else other * other + other + one
 
 
 def is_looked_at(lines, index):
     """Whether something is expected behind a line, or whether a device is at risk there is asked."""
-    is_risky = lines[index].risk or index + 1 < len(lines) and lines[index + 1].risk
+    is_risky = lines[index].risks or index + 1 < len(lines) and lines[index + 1].risks
     return bool(lines[index].expects or is_risky or index + 1 == len(lines))
 
 
@@ -277,8 +304,8 @@ def views_of(lines, script, printed, followed, cuts):
     views = []
     for index, line in enumerate(lines):
         output = printed.get(script.ran[index], [])
-        if index in cuts:
-            followed.follow(f'cut {line.risk} {cuts[index]}', [])
+        for cut in cut_lines(cuts, index):
+            followed.follow(cut, [])
         if line.text:
             followed.follow(line.text, output)
         came_to = '' if not line.text else output[-1] if is_refused(output) else 'done'
@@ -288,11 +315,8 @@ def views_of(lines, script, printed, followed, cuts):
     return views
 
 
-def is_at_risk(replay, index):
-    """Whether a line sends a frame in which its block's device is there, and isn't the active controller."""
-    name = replay.lines[index].risk
-    if not name:
-        return False
+def is_at_risk(replay, index, name):
+    """Whether a device is there in front of a line, and isn't the active controller."""
     view = replay.view_before(index)
     return view.is_there(name) and view.active() != name
 

@@ -17,6 +17,10 @@ BY_IDENTITY = ['u', 'c', 't', 'x']
 SIZES = [(2, 12), (2, 12), (12, 60), (12, 60), (12, 60), (60, 250), (60, 250), (250, 2000)]
 # the same of replays, where a device may lose power at any bit
 CUT_SIZES = [(60, 200), (60, 200), (200, 600), (200, 600), (600, 2000)]
+# and where each of two devices may
+DOUBLE_SIZES = [(100, 600), (600, 2000)]
+# in scripts behind this number two devices may lose power
+SINGLE = 300
 
 
 class Dice:
@@ -226,7 +230,8 @@ class Script:
 
     def __init__(self, number):
         self.dice = Dice(number)
-        self.is_cut = self.dice.chance(35)
+        self.is_double = number > SINGLE
+        self.is_cut = self.dice.chance(35) or self.is_double
         self.bus = Bus(self.dice)
         self.risk = ''
         # nothing is expected, or what holds in most orders, or anything
@@ -254,6 +259,9 @@ class Script:
         if self.is_cut:
             self.risk = self.bus.name()
             lines.append(f'anywhere {self.risk}')
+            if self.is_double:
+                others = [name for name in (*self.bus.names, 'hub') if name != self.risk]
+                lines.append(f'anywhere {self.bus.dice.pick(others)}')
         lines += self.of_state('always', 40)
         for _ in range(self.dice.pick([2, 2, 3, 3, 4])):
             lines += ['track', *(self.risky_track() if self.is_cut and self.dice.chance(25) else self.track())]
@@ -294,7 +302,7 @@ def replays_of(plan):
     be a second device to cut, or the same once more."""
     orders = prod(orders_in(tracks) for tracks in plan.blocks)
     lines = [line for tracks in plan.blocks for track in tracks for line in track]
-    bits = [(line.risk, replays.bits_of(line.text)) for line in lines if line.risk]
+    bits = [(name, replays.bits_of(line.text)) for line in lines for name in line.risks]
     back = {line.text.split(' ')[1] for line in lines if line.in_block and line.text.startswith('attach ')}
     pairs = sum(one * other for (first, one), (second, other) in combinations(bits, 2) if first != second or first in back)
     return orders * (1 + sum(count for _, count in bits) + pairs)
@@ -303,7 +311,7 @@ def replays_of(plan):
 def script_of(number):
     """The script of this number: the first of those that its dice throw that has the size that they throw, too."""
     script = Script(number)
-    least, most = script.dice.pick(CUT_SIZES if script.is_cut else SIZES)
+    least, most = script.dice.pick(DOUBLE_SIZES if script.is_double else CUT_SIZES if script.is_cut else SIZES)
     while True:
         text = script.text()
         if least <= replays_of(plans.plan_of(text)) <= most:

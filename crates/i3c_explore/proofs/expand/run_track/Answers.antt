@@ -1,6 +1,5 @@
 use borrow.Author.Count.{below_more}
-use Rattle.std.proofs.Common.{◌≡◌, ◌<◌, ◌≤◌, suc, arith, inl, inr, length, subst, None, Some}
-use Rattle.std.proofs.lemmas.Bool.Decides.{leb_tells}
+use Rattle.std.proofs.Common.{◌≡◌, ◌<◌, ◌≤◌, suc, arith, length, subst, None, Some}
 use Rattle.i3c_explore.specs.Shares.{IsLed}
 use Rattle.i3c_explore.proofs.Counting.{gains_line, gains_no_line, gains_way}
 use Rattle.i3c_explore.proofs.Sharing.{added_none}
@@ -35,12 +34,9 @@ returns-clause-tracked g c line next way =
     let here : c.args.track < length c.args.node.now.places.items = omega arith in
     let is = next_at (opening c.args.part c.args.tracks.now) c.args.node.now.places.items c.args.track c.index.result.now (Some c.in-Some.line.now) here c.index.ensures c.in-Some.ensures in
     let same : c.in-Some.line.now ≡ line = next_once (opening c.args.part c.args.tracks.now) node.places.items c.args.track c.in-Some.line.now line is next in
-    elim (leb_tells (suc way) last) [
-      | inl (_, lt) ↦ (let before : way < c.loop-way.way = omega arith in
-          let (new, step, has) = was.ran way before in (new, subst (λ l. steps node.state l way new) same step, has))
-      | inr (_, over) ↦ (let before : last < c.loop-way.way = omega arith in let past : last ≤ way = omega arith in
-          let (new, step, has) = was.ran last before in (new, subst (λ l. steps node.state l way new) same (c.last_way-last.ensures.last way past new step), has))
-    ]
+    let (tried, le, leads) = c.last_way-last.ensures.last way in
+    let before : tried < c.loop-way.way = omega (arith, le) in
+    let (new, step, has) = was.ran tried before in (new, subst (λ l. steps node.state l way new) same (leads new step), has)
 
 pub returns-in_default-clause-from : goal.returns-in_default-clause-from
 returns-in_default-clause-from g c = from_same g.M.Machine.steps (opening c.args.part c.args.tracks.now) c.args.node.now c.args.next.now.nodes.items

@@ -1,9 +1,9 @@
--- A line is tried in its way, or in the last one, which stands for it.
+-- A line is tried in ways that stand for its own.
 use Rattle.i3c_scene.proofs.Late.{breaks_of, leads_of}
 use Rattle.i3c_scene.proofs.machine.SceneMachine.run.Goals as goal
 
 pub returns-clause-leads : goal.returns-clause-leads
-returns-clause-leads c = leads_of c.args.self.now c.wake_to.new.self.live c.args.line.now c.args.way c.way_tried-tried.result c.tried.result c.tried.new.self.live c.in_ok-wake_to.ensures c.way_tried-tried.ensures.way c.tried.ensures.tried
+returns-clause-leads c = leads_of c.args.self.now c.wake_to.new.self.live c.args.line.now c.args.way c.ways_tried-tried.result c.tried.result c.tried.new.self.live c.in_ok-wake_to.ensures c.ways_tried-tried.ensures.ways c.tried.ensures.tried
 
 pub returns-clause-broken : goal.returns-clause-broken
-returns-clause-broken c = breaks_of c.args.self.now c.wake_to.new.self.live c.args.line.now c.args.way c.way_tried-tried.result c.tried.result c.tried.new.self.live c.in_ok-wake_to.ensures c.way_tried-tried.ensures.way c.tried.ensures.tried
+returns-clause-broken c = breaks_of c.args.self.now c.wake_to.new.self.live c.args.line.now c.args.way c.ways_tried-tried.result c.tried.result c.tried.new.self.live c.in_ok-wake_to.ensures c.ways_tried-tried.ensures.ways c.tried.ensures.tried

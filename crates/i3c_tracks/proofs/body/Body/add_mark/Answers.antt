@@ -8,7 +8,7 @@ of_each P (Ok done) number each = each number
 of_each P (Err e) number each = tt
 
 pub returns-in-Anywhere : goal.returns-in-Anywhere
-returns-in-Anywhere c = rw c.in-Anywhere.is (c.set_risk.ensures c.args.number)
+returns-in-Anywhere c = rw c.in-Anywhere.is (c.add_risk.ensures c.args.number)
 
 pub returns-in-Track : goal.returns-in-Track
 returns-in-Track c = rw c.in-Track.is (of_each _ c.begin_track.result c.args.number c.begin_track.ensures)

@@ -1,0 +1,7 @@
+use Rattle.i3c_explore.specs.Fronts.{nodes_left}
+use Rattle.i3c_explore.specs.Jobs.{AreNodesOf}
+use Rattle.i3c_explore.proofs.apart.kept_apart.Given as goal
+
+-- the nodes are those of the layers so far
+abbrev pub invariant-loop-made : goal.invariant-loop-made
+invariant-loop-made g l = AreNodesOf l.yielded (nodes_left l.all.fronts.items)

@@ -1,0 +1,111 @@
+use crate::index::Index;
+use std::alloc::{AllocError, Global};
+
+/// Places of all tracks, and the nodes there.
+#[derive(Clone, Copy)]
+pub(crate) struct Place {
+    /// The number of the places.
+    pub code: u64,
+    /// The first node there.
+    pub first: usize,
+    /// How many nodes are there.
+    pub count: usize,
+}
+
+/// Numbers of places, each once, in the order in which they came.
+#[derive(Drop)]
+pub(crate) struct Codes {
+    index: Index,
+    count: usize,
+}
+
+/// A key for a number of places: each number has one of its own.
+fn key_of(code: u64) -> u64 {
+    let key = (code ^ (code >> 32)).wrapping_mul(0x9E37_79B9_7F4A_7C15);
+    key ^ (key >> 32)
+}
+
+impl Codes {
+    /// No number.
+    pub(crate) fn new(alloc: Global) -> Codes {
+        Codes {
+            index: Index::new(alloc),
+            count: 0,
+        }
+    }
+
+    /// The index of a number. A new one is behind the others.
+    pub(crate) fn index_of(&mut self, alloc: Global, code: u64) -> Result<usize, AllocError> {
+        let key = key_of(code);
+        for distance in 0..self.index.slots() {
+            match self.index.at(key, distance) {
+                Some((true, index)) => return Ok(index),
+                Some((false, _)) => {}
+                None => return self.add(alloc, key),
+            }
+        }
+        self.add(alloc, key)
+    }
+
+    /// Adds a number, by its key.
+    fn add(&mut self, alloc: Global, key: u64) -> Result<usize, AllocError> {
+        let index = self.count;
+        self.index.add(alloc, key)?;
+        self.count = index.saturating_add(1);
+        Ok(index)
+    }
+}
+
+/// The places of a layer's nodes.
+#[derive(Drop)]
+pub(crate) struct Places {
+    codes: Codes,
+    /// The places, each once.
+    pub all: Vec<Place>,
+    // the index of the place of each node
+    of_nodes: Vec<usize>,
+}
+
+impl Places {
+    /// Those of nodes at the places with these numbers.
+    pub(crate) fn of_codes(alloc: Global, codes: &[u64]) -> Result<Places, AllocError> {
+        let mut places = Places {
+            codes: Codes::new(alloc),
+            all: Vec::new(alloc),
+            of_nodes: Vec::with_capacity(alloc, codes.len())?,
+        };
+        for (node, code) in codes.iter().enumerate() {
+            places.add(alloc, node, *code)?;
+        }
+        Ok(places)
+    }
+
+    /// Adds the next node.
+    fn add(&mut self, alloc: Global, node: usize, code: u64) -> Result<(), AllocError> {
+        let index = self.codes.index_of(alloc, code)?;
+        self.of_nodes.push(index)?;
+        match self.all.get_mut(index) {
+            Some(place) => place.count = place.count.saturating_add(1),
+            None => {
+                self.all.push(Place {
+                    code,
+                    first: node,
+                    count: 1,
+                })?;
+            }
+        }
+        Ok(())
+    }
+
+    /// The place of a node.
+    pub(crate) fn of_node(&self, node: usize) -> Option<Place> {
+        let index = self.of_nodes.get(node)?;
+        let place = self.all.get(*index)?;
+        Some(*place)
+    }
+
+    /// How many nodes there are.
+    pub(crate) fn nodes(&self) -> usize {
+        self.of_nodes.len()
+    }
+}

@@ -1,0 +1,62 @@
+ghost use Rattle.std.specs.Prelude.{◌≡◌, ◌≤◌};
+ghost use Rattle.i3c_scene.specs.Pairs.{EachIsAPair, pair, up_to};
+ghost use Rattle.i3c_scene.specs.Trying.{ways_of};
+
+use crate::risk::Risk;
+
+/// In which ways a frame goes for the devices at risk. It goes in way 0 for a device that isn't cut, and for one that is
+/// in a way that is 1 more than the bit.
+#[derive(Clone, Copy)]
+pub struct Ways {
+    /// The way for the first device.
+    pub one: usize,
+    /// The way for the second device, or 0 if there is none.
+    pub other: usize,
+}
+
+impl Ways {
+    /// The ways of two devices by their number. Pairs of ways up to n come before those with a way over n.
+    fn of_pair(number: usize) -> Ways
+        ensures { result ≡ pair number }
+    {
+        let most = number.isqrt();
+        let behind = number - most * most;
+        if behind < most {
+            Ways {
+                one: most,
+                other: behind,
+            }
+        } else {
+            Ways {
+                one: behind - most,
+                other: most,
+            }
+        }
+    }
+
+    /// The same ways, but those over `last` are `last`.
+    pub(crate) fn up_to(self, last: usize) -> Ways
+        ensures { result ≡ up_to last self }
+    {
+        Ways {
+            one: self.one.min(last),
+            other: self.other.min(last),
+        }
+    }
+}
+
+/// The ways of the devices at risk, by the way of their line.
+pub fn ways_of(risk: &Risk, way: usize) -> Ways
+    ensures { result ≡ ways_of risk.now way }
+{
+    match risk {
+        Risk::Nobody | Risk::One(_) => Ways { one: way, other: 0 },
+        Risk::Two(..) => Ways::of_pair(way),
+    }
+}
+
+/// A law of lines in which two devices may lose power: each two ways, of any size, are the ways of a number. So two devices
+/// are cut at each pair of bits.
+pub fn each_is_a_pair()
+    ensures { EachIsAPair }
+{}
