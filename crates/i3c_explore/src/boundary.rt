@@ -5,20 +5,20 @@ use crate::part::Part;
 use crate::places::{Codes, Place, Places};
 use std::alloc::{AllocError, Global};
 
-/// How many places are looked at to share out the lines of a layer.
+/// At most this many places are looked at to share out the lines of a layer.
 const LOOKED_AT: usize = 512;
 
 /// Lines that lead to the same places.
 #[derive(Clone, Copy)]
 struct Bundle {
-    // the number of the places
+    // the code of the places
     target: u64,
-    // they run from the nodes from this one on
+    // the first node that they run from
     from: usize,
-    // up to the one before this
+    // the node behind the last one
     to: usize,
     // how often they run, each in all its ways
-    ways: usize,
+    runs: usize,
 }
 
 /// The lines of a layer, by the places that they lead to.
@@ -29,24 +29,17 @@ struct Bundles {
 }
 
 impl Bundles {
-    /// Adds lines that lead to the same places. All of them run from `nodes` nodes.
-    fn add(
-        &mut self,
-        alloc: Global,
-        target: u64,
-        ways: usize,
-        nodes: usize,
-    ) -> Result<(), AllocError> {
-        let index = self.codes.index_of(alloc, target)?;
+    /// Adds lines that lead to the same places.
+    fn add(&mut self, alloc: Global, more: Bundle) -> Result<(), AllocError> {
+        let index = self.codes.index_of(alloc, more.target)?;
         match self.all.get_mut(index) {
-            Some(bundle) => bundle.ways = bundle.ways.saturating_add(ways),
+            Some(bundle) => {
+                bundle.from = bundle.from.min(more.from);
+                bundle.to = bundle.to.max(more.to);
+                bundle.runs = bundle.runs.saturating_add(more.runs);
+            }
             None => {
-                self.all.push(Bundle {
-                    target,
-                    from: 0,
-                    to: nodes,
-                    ways,
-                })?;
+                self.all.push(more)?;
             }
         }
         Ok(())
@@ -67,8 +60,13 @@ impl Bundles {
         };
         for (track, weight) in weights.iter().enumerate() {
             if let Some(ways) = ways_at(node, track, tracks, part) {
-                let target = place.code.wrapping_add(*weight);
-                self.add(alloc, target, ways.saturating_mul(place.count), layer.len())?;
+                let more = Bundle {
+                    target: place.code.wrapping_add(*weight),
+                    from: place.first,
+                    to: place.last.saturating_add(1),
+                    runs: ways.saturating_mul(place.count),
+                };
+                self.add(alloc, more)?;
             }
         }
         Ok(())
@@ -126,7 +124,8 @@ fn seen_from(target: u64, track: u32) -> u64 {
     target.rotate_left(track.wrapping_mul(BITS))
 }
 
-/// Where the lines of later jobs begin: with this one, and all behind it that lead to the same places or to later ones.
+/// The first line of the later jobs. They run the lines to these places from this node or a later one, and all lines to
+/// later places.
 #[derive(Clone, Copy)]
 pub(crate) struct Boundary {
     // the track that counts most
@@ -136,7 +135,7 @@ pub(crate) struct Boundary {
 }
 
 impl Boundary {
-    /// Whether a line isn't in front of it.
+    /// Whether a line is at the boundary or behind it.
     fn is_reached(&self, target: u64, node: usize) -> bool {
         let target = seen_from(target, self.track);
         (self.target < target) | ((self.target == target) & (self.node <= node))
@@ -144,12 +143,12 @@ impl Boundary {
 }
 
 /// How often all of some lines run.
-fn ways_of(bundles: &[Bundle]) -> usize {
-    let mut ways = 0usize;
+fn runs_of(bundles: &[Bundle]) -> usize {
+    let mut runs = 0usize;
     for bundle in bundles {
-        ways = ways.saturating_add(bundle.ways);
+        runs = runs.saturating_add(bundle.runs);
     }
-    ways
+    runs
 }
 
 /// How far apart the places of a track are.
@@ -180,7 +179,7 @@ fn widest(bundles: &[Bundle], tracks: usize) -> u32 {
     widest
 }
 
-/// Where sorted lines are cut in two.
+/// Where sorted lines are divided in two.
 #[derive(Clone, Copy)]
 struct Division {
     // the first bundle of the later half
@@ -189,17 +188,17 @@ struct Division {
     within: usize,
 }
 
-/// The cut before which lines run so often.
-fn cut_at(bundles: &[Bundle], due: usize) -> Division {
+/// The division that has `due` runs in front of it.
+fn divided_at(bundles: &[Bundle], due: usize) -> Division {
     let mut left = due;
     for (index, bundle) in bundles.iter().enumerate() {
-        if left < bundle.ways {
+        if left < bundle.runs {
             return Division {
                 index,
                 within: left,
             };
         }
-        left -= bundle.ways;
+        left -= bundle.runs;
     }
     Division {
         index: bundles.len(),
@@ -207,46 +206,48 @@ fn cut_at(bundles: &[Bundle], due: usize) -> Division {
     }
 }
 
-/// The same cut, or one that goes through no bundle, if only `few` lines come to the other half by that.
-fn whole(bundles: &[Bundle], cut: Division, few: usize) -> Division {
-    let Some(bundle) = bundles.get(cut.index) else {
-        return cut;
+/// The same division, or one between two bundles, if that moves at most `few` runs to the other half. Lines of one node
+/// stay together.
+fn whole(bundles: &[Bundle], division: Division, few: usize) -> Division {
+    let Some(bundle) = bundles.get(division.index) else {
+        return division;
     };
-    let behind = bundle.ways.saturating_sub(cut.within);
-    if cut.within.min(behind) > few {
-        return cut;
+    let behind = bundle.runs.saturating_sub(division.within);
+    let nodes = bundle.to.saturating_sub(bundle.from);
+    if division.within.min(behind) > few && nodes > 1 {
+        return division;
     }
-    let index = if cut.within <= behind {
-        cut.index
+    let index = if division.within <= behind {
+        division.index
     } else {
-        cut.index.saturating_add(1)
+        division.index.saturating_add(1)
     };
     Division { index, within: 0 }
 }
 
-/// Divides a bundle that is cut, at a node: its first part stays.
+/// Divides a bundle at a node: its first part stays.
 fn divide(bundle: &mut Bundle, within: usize) -> Bundle {
     let nodes = bundle.to.saturating_sub(bundle.from);
-    let earlier = nodes.saturating_mul(within) / bundle.ways.max(1);
+    let earlier = nodes.saturating_mul(within) / bundle.runs.max(1);
     let node = bundle.from.saturating_add(earlier);
     let later = Bundle {
         from: node,
-        ways: bundle.ways.saturating_sub(within),
+        runs: bundle.runs.saturating_sub(within),
         ..*bundle
     };
     bundle.to = node;
-    bundle.ways = within;
+    bundle.runs = within;
     later
 }
 
-/// The bundles behind a cut. Those before it stay.
-fn behind(bundles: &mut Vec<Bundle>, cut: Division) -> Result<Vec<Bundle>, AllocError> {
-    let at = cut.index.min(bundles.len());
+/// The bundles behind a division. Those before it stay.
+fn behind(bundles: &mut Vec<Bundle>, division: Division) -> Result<Vec<Bundle>, AllocError> {
+    let at = division.index.min(bundles.len());
     let mut later = bundles.split_off(at)?;
-    if cut.within > 0 {
+    if division.within > 0 {
         if let Some(first) = later.first_mut() {
             let mut earlier = *first;
-            *first = divide(&mut earlier, cut.within);
+            *first = divide(&mut earlier, division.within);
             bundles.push(earlier)?;
         }
     }
@@ -269,17 +270,17 @@ fn boundary_before(later: &[Bundle], track: u32) -> Boundary {
     }
 }
 
-/// Cuts lines in two for the halves of some jobs, along the track whose places are farthest apart. Those of the earlier
-/// jobs stay. Answers those of the later jobs, and the boundary where they begin.
-fn cut(
+/// Shares out lines to the halves of some jobs, along the track whose places are farthest apart. Those of the earlier jobs
+/// stay. Answers those of the later jobs, and the boundary where they begin.
+fn split(
     bundles: &mut Vec<Bundle>,
     tracks: usize,
     jobs: usize,
 ) -> Result<(Vec<Bundle>, Boundary), AllocError> {
     let track = widest(bundles, tracks);
     bundles.sort_unstable_by_key(|bundle| (seen_from(bundle.target, track), bundle.from));
-    let each = ways_of(bundles) / jobs.max(1);
-    let about = cut_at(bundles, each.saturating_mul(jobs / 2));
+    let each = runs_of(bundles) / jobs.max(1);
+    let about = divided_at(bundles, each.saturating_mul(jobs / 2));
     let at = whole(bundles, about, each / 8);
     let later = behind(bundles, at)?;
     let boundary = boundary_before(&later, track);
@@ -302,7 +303,7 @@ fn share_out(
     if jobs < 2 {
         return Ok(());
     }
-    let (later, boundary) = cut(&mut bundles, tracks, jobs)?;
+    let (later, boundary) = split(&mut bundles, tracks, jobs)?;
     let middle = from.saturating_add(jobs / 2);
     if let Some(held) = boundaries.get_mut(middle) {
         *held = boundary;

@@ -1,8 +1,8 @@
 use std::alloc::{AllocError, Global};
 
-/// A hash table of a layer's nodes, by their keys. A slot holds the index of a node and 1, or 0 if it is free.
+/// A hash table of things with keys, such as a layer's nodes. A slot holds the index of one and 1, or 0 if it is free.
 ///
-/// What it finds is compared again, so nothing is proved of it.
+/// What it finds of nodes is compared again, so nothing is proved of it.
 #[derive(Drop)]
 pub(crate) struct Index {
     slots: Vec<usize>,

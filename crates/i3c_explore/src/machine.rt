@@ -23,7 +23,7 @@ pub trait Machine: Sized + Drop {
     /// runners remember nothing has ⊤.
     ghost near: { Self.Runner → Self → Type 0 };
 
-    /// The last way to try, below 4,294,967,296: each later one can lead to whatever one of those up to it leads to.
+    /// The last way to try, below 4,294,967,296. A later way leads to whatever some way up to this one leads to.
     fn last_way(&self, line: &Self::Line) -> usize
         ensures small { result < 2 ^ 32 }
         ensures last { (way : ℕ) → (tried : ℕ) × (tried ≤ result) × ((new : Self) → steps self.now line.now tried new → steps self.now line.now way new) };

@@ -1,32 +1,34 @@
 use crate::index::Index;
 use std::alloc::{AllocError, Global};
 
-/// Places of all tracks, and the nodes there.
+/// The places of all tracks at which some nodes are.
 #[derive(Clone, Copy)]
 pub(crate) struct Place {
-    /// The number of the places.
+    /// The code of the places.
     pub code: u64,
     /// The first node there.
     pub first: usize,
-    /// How many nodes are there.
+    /// The last node there.
+    pub last: usize,
+    /// The number of nodes there.
     pub count: usize,
 }
 
-/// Numbers of places, each once, in the order in which they came.
+/// Codes of places, each once, in the order in which they came.
 #[derive(Drop)]
 pub(crate) struct Codes {
     index: Index,
     count: usize,
 }
 
-/// A key for a number of places: each number has one of its own.
+/// The key of a code. Different codes have different keys.
 fn key_of(code: u64) -> u64 {
     let key = (code ^ (code >> 32)).wrapping_mul(0x9E37_79B9_7F4A_7C15);
     key ^ (key >> 32)
 }
 
 impl Codes {
-    /// No number.
+    /// No code.
     pub(crate) fn new(alloc: Global) -> Codes {
         Codes {
             index: Index::new(alloc),
@@ -34,7 +36,7 @@ impl Codes {
         }
     }
 
-    /// The index of a number. A new one is behind the others.
+    /// The index of a code. A new code gets the next index.
     pub(crate) fn index_of(&mut self, alloc: Global, code: u64) -> Result<usize, AllocError> {
         let key = key_of(code);
         for distance in 0..self.index.slots() {
@@ -47,7 +49,7 @@ impl Codes {
         self.add(alloc, key)
     }
 
-    /// Adds a number, by its key.
+    /// Adds a code, by its key.
     fn add(&mut self, alloc: Global, key: u64) -> Result<usize, AllocError> {
         let index = self.count;
         self.index.add(alloc, key)?;
@@ -67,7 +69,7 @@ pub(crate) struct Places {
 }
 
 impl Places {
-    /// Those of nodes at the places with these numbers.
+    /// The places with these codes, one code for each node.
     pub(crate) fn of_codes(alloc: Global, codes: &[u64]) -> Result<Places, AllocError> {
         let mut places = Places {
             codes: Codes::new(alloc),
@@ -85,11 +87,15 @@ impl Places {
         let index = self.codes.index_of(alloc, code)?;
         self.of_nodes.push(index)?;
         match self.all.get_mut(index) {
-            Some(place) => place.count = place.count.saturating_add(1),
+            Some(place) => {
+                place.last = node;
+                place.count = place.count.saturating_add(1);
+            }
             None => {
                 self.all.push(Place {
                     code,
                     first: node,
+                    last: node,
                     count: 1,
                 })?;
             }
@@ -104,7 +110,7 @@ impl Places {
         Some(*place)
     }
 
-    /// How many nodes there are.
+    /// The number of the layer's nodes.
     pub(crate) fn nodes(&self) -> usize {
         self.of_nodes.len()
     }

@@ -1,4 +1,4 @@
--- The last way of a line that has to be tried: each later one does what one of those up to it does.
+-- The last way of a line that has to be tried: each later way does what some way up to this one does.
 use Rattle.std.specs.Prelude.{ℕ, ◌+◌, ◌*◌, length, Option, None, Some}
 use Rattle.i3c_base.specs.State.{State}
 use Rattle.i3c_base.specs.Frames.{list_bits}

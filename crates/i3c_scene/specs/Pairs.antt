@@ -5,7 +5,7 @@ use Rattle.i3c_scene.specs.declared.ways.Ways.{Ways}
 abbrev pub two_ways : ℕ → ℕ → Ways
 two_ways one other = record { one = one; other = other }
 
--- the pair behind one. Of the pairs with the same larger way those come first in which it is the first device's, and last the one in which both have it
+-- the next pair. Pairs come by their larger way. Of pairs with the same larger way, first come those in which only the first device has it, then those in which only the second has it, and last the pair in which both have it
 abbrev pub next_pair : ℕ → ℕ → Ways
 next_pair one other = if nat_le one other then two_ways (suc one) (if one == other then 0 else other) else if suc other == one then two_ways 0 one else two_ways one (suc other)
 
@@ -14,14 +14,14 @@ abbrev pub pair : ℕ → Ways
 pair zero = two_ways 0 0
 pair (suc number) = next_pair (pair number).one (pair number).other
 
--- the number of the last pair of ways up to one
+-- the number of the last pair in which no way is over this one
 abbrev pub last_pair : ℕ → ℕ
 last_pair last = last * last + (last + last)
 
--- the same ways, but those over the last are the last
+-- these ways, each at most the last
 abbrev pub up_to : ℕ → Ways → Ways
 up_to last ways = two_ways (min ways.one last) (min ways.other last)
 
--- each two ways are a pair
+-- each pair of ways has a number
 abbrev pub EachIsAPair : Type 0
 EachIsAPair = (one other : ℕ) → (number : ℕ) × (pair number ≡ two_ways one other)

@@ -24,7 +24,7 @@ ways_of Risk.Nobody way = two_ways way 0
 ways_of (Risk.One name) way = two_ways way 0
 ways_of (Risk.Two one other) way = pair way
 
--- the cuts of a line, in these ways of the devices at risk
+-- the scene with the cuts of a line added, in these ways of the devices at risk
 abbrev pub cut_as : Seen → Bool → Risk → Ways → Seen
 cut_as old sent Risk.Nobody ways = old
 cut_as old sent (Risk.One name) ways = cut_in old (slot_at_risk old sent name) ways.one

@@ -123,8 +123,8 @@ impl Scene {
         }
     }
 
-    /// The ways of the devices at risk that are tried for a way of their line. A later way than the last one that has to be
-    /// tried does what that one does.
+    /// The ways of the devices at risk that are tried for a way of their line. A device's way over its last one is replaced
+    /// by that, which does the same.
     pub(crate) fn ways_tried(&self, line: &Line, way: usize) -> Ways
         ensures ways { result ≡ tried_as self.now.state line.now.risk line.now.command way }
         ensures one { result.one < 2 ^ 16 }

@@ -4,8 +4,8 @@ ghost use Rattle.i3c_scene.specs.Trying.{ways_of};
 
 use crate::risk::Risk;
 
-/// In which ways a frame goes for the devices at risk. It goes in way 0 for a device that isn't cut, and for one that is
-/// in a way that is 1 more than the bit.
+/// The ways of a frame for the devices at risk. A device's way is 0 if it isn't cut, and else 1 more than the bit at which
+/// it is cut.
 #[derive(Clone, Copy)]
 pub struct Ways {
     /// The way for the first device.
@@ -34,7 +34,7 @@ impl Ways {
         }
     }
 
-    /// The same ways, but those over `last` are `last`.
+    /// These ways, each at most `last`.
     pub(crate) fn up_to(self, last: usize) -> Ways
         ensures { result ≡ up_to last self }
     {
@@ -55,8 +55,8 @@ pub fn ways_of(risk: &Risk, way: usize) -> Ways
     }
 }
 
-/// A law of lines in which two devices may lose power: each two ways, of any size, are the ways of a number. So two devices
-/// are cut at each pair of bits.
+/// A law of lines in which two devices may lose power: each pair of ways, of any size, has a number, which is a way of the
+/// line. So two devices are cut at each pair of bits.
 pub fn each_is_a_pair()
     ensures { EachIsAPair }
 {}

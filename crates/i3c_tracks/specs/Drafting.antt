@@ -40,7 +40,7 @@ abbrev pub held_in : Option Step → List Expectation → List (ℕ × FileLine)
 held_in None always rest = []
 held_in (Some step) always rest = awaited step (expected rest ++ always) ∷ []
 
--- these devices at risk, and those behind them: two at most
+-- these devices at risk, then more: the first two count
 abbrev pub risk_with : Risk → Risk → Risk
 risk_with Risk.Nobody more = more
 risk_with (Risk.One name) more = before_more name more

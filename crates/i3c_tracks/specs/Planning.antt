@@ -57,13 +57,13 @@ expected ((number, FileLine.Marks (Mark.Anywhere name)) ∷ rest) = expected res
 expected ((number, FileLine.Nothing) ∷ rest) = expected rest
 expected _ = []
 
--- a device at risk, and those behind it: two at most
+-- a device at risk in front of others: the first two count
 abbrev pub before_more : Name → Risk → Risk
 before_more name Risk.Nobody = Risk.One name
 before_more name (Risk.One other) = Risk.Two name other
 before_more name (Risk.Two other third) = Risk.Two name other
 
--- the devices at risk in a block: each `anywhere` before its first track
+-- the devices at risk in a block: the first two `anywhere` before its first track
 abbrev pub risk_in : List (ℕ × FileLine) → Risk
 risk_in [] = Risk.Nobody
 risk_in ((number, FileLine.Marks (Mark.Anywhere name)) ∷ rest) = before_more name (risk_in rest)

@@ -37,7 +37,7 @@ is_outer _ = false
 abbrev pub risk_of : Risk → Command → Risk
 risk_of risk command = if sends_frame command then risk else Risk.Nobody
 
--- whether as many devices may lose power as a block can have
+-- whether two devices are at risk already
 abbrev pub is_full : Risk → Bool
 is_full Risk.Nobody = false
 is_full (Risk.One name) = false

@@ -47,7 +47,7 @@ lines_text lines (number ∷ rest) = (line_at lines number ++ 10 ∷ []) ++ line
 abbrev pub cut_text : Name → ℕ → List ℕ
 cut_text name bit = codes "cut " ++ (letters name ++ (codes " " ++ decimal bit))
 
--- the cut of a device at risk in a way, if it is cut, and the text behind it
+-- the `cut` of a device in this way, and the text behind it; nothing in way 0
 abbrev pub cut_before : Name → ℕ → List ℕ → List ℕ
 cut_before name zero between = []
 cut_before name (suc bit) between = cut_text name bit ++ between

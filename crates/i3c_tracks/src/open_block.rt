@@ -43,7 +43,7 @@ fn sends_frame(command: &Command) -> bool
     )
 }
 
-/// Whether as many devices may lose power as a block can have.
+/// Whether two devices are at risk already.
 fn is_full(risk: &Risk) -> bool
     ensures { result ≡ is_full risk.now }
 {

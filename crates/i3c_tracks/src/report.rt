@@ -180,7 +180,7 @@ pub(crate) fn push_cuts(run: &Run<'_>, between: &[u8], text: &mut Text) -> Resul
     }
 }
 
-/// Appends the cut of a device at risk in a way, if it is cut, and the text behind it.
+/// Appends the `cut` of a device in this way, and the text behind it. In way 0 there is nothing to append.
 fn push_cut(name: &Name, way: usize, between: &[u8], text: &mut Text) -> Result<(), AllocError>
     ensures { OnOk result (text.new ≡ text.old ++ cut_before name.now way between.now) }
 {

@@ -256,22 +256,26 @@ class Player:
         while waiting:
             cuts, without, (index, place) = waiting.pop()
             replay = self.play(turns, cuts)
+            last = min(replay.breaks + 1, len(turns))
             if without and replay.views[index].is_there(replay.lines[index].risks[place]):
-                # the bit is behind the frame's last one
+                # the bit is behind the frame's last one; only another cut of the frame can change where that is
                 if replay.end != without.end or replay.printed != without.printed:
                     raise Failed(f'a cut behind the last bit did something: {cuts}')
-                continue
-            yield replay
-            waiting.extend((with_cut(cuts, later, name, bit), replay, (later, second)) for later, second, name, bit in self.later_cuts(replay, index, place))
+                last = min(last, index + 1)
+            else:
+                yield replay
+            for later, second, name, bit in later_cuts(replay, index, place, last):
+                waiting.append((with_cut(cuts, later, name, bit), replay, (later, second)))
 
-    def later_cuts(self, replay, index, place):
-        """Each cut of a later frame, or of a later device in the same one: the frame's index, the device's place among those
-        at risk, its name, and the bit."""
-        for later in range(index, min(replay.breaks + 1, len(replay.lines))):
-            line = replay.lines[later]
-            for second, name in enumerate(line.risks):
-                if (later, second) > (index, place) and is_at_risk(replay, later, name):
-                    yield from ((later, second, name, bit) for bit in range(bits_of(line.text)))
+
+def later_cuts(replay, index, place, last):
+    """Each cut of a later frame than this, up to the one before the last, or of a later device in the same frame: the frame's
+    index, the device's place among those at risk, its name, and the bit."""
+    for later in range(index, last):
+        line = replay.lines[later]
+        for second, name in enumerate(line.risks):
+            if (later, second) > (index, place) and is_at_risk(replay, later, name):
+                yield from ((later, second, name, bit) for bit in range(bits_of(line.text)))
 
 
 def with_cut(cuts, index, name, bit):
