@@ -83,9 +83,10 @@ impl Bus {
 }
 
 impl Still {
-    ghost use Rattle.std.specs.Prelude.{◌≡◌, ◌≤◌, ◌↔◌, true, IfOk, IsTrue, OnErr, OnOk};
+    ghost use Rattle.std.specs.Prelude.{◌≡◌, ◌≤◌, ◌↔◌, true, is_some, IfOk, IsTrue, OnErr, OnOk};
     ghost use Rattle.i3c_base.specs.Covered.{IsTable};
     ghost use Rattle.i3c_base.specs.Frames.{list_bits};
+    ghost use Rattle.i3c_base.specs.State.{device_at};
     ghost use Rattle.i3c_bus.specs.Hands.{HandFits};
     ghost use Rattle.i3c_bus.specs.Near.{IsNear};
     ghost use Rattle.i3c_bus.specs.Whole.{IsCopyOf};
@@ -253,6 +254,20 @@ impl Still {
         ensures { IsTrue result ↔ (self.now ≡ bus.now.state) }
     {
         self.has_devices_and_log_of(bus) && self.has_tables_of(bus)
+    }
+
+    /// The active controller's slot.
+    pub fn active(&self) -> Slot
+        ensures { result ≡ self.now.active }
+    {
+        self.active
+    }
+
+    /// Whether a slot holds a device.
+    pub fn present(&self, slot: Slot) -> bool
+        ensures { result ≡ is_some (device_at self.now slot) }
+    {
+        self.devices.holds(slot)
     }
 
     /// How many bits DEFTGTS has from its code on (I3C Basic 5.1.9.3.7), if it is sent now.

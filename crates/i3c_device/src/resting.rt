@@ -1,4 +1,4 @@
-ghost use Rattle.std.specs.Prelude.{◌≡◌, ◌<◌, ◌↔◌, ℕ, IsTrue, None, false, true, option_map, option_copied, slice_index_or};
+ghost use Rattle.std.specs.Prelude.{◌≡◌, ◌<◌, ◌↔◌, ℕ, IsTrue, None, false, true, is_some, option_map, option_copied, slice_index_or};
 ghost use Rattle.i3c_base.specs.declared.range.TheConstants.{SLOTS as SLOT_COUNT};
 ghost use Rattle.i3c_base.specs.Numbers.{KindSet};
 ghost use Rattle.i3c_device.specs.Enabling.{under};
@@ -33,7 +33,7 @@ impl Model for Resting {
 }
 
 impl Resting {
-    ghost use Rattle.std.specs.Prelude.{◌≡◌, ◌↔◌, IsTrue, IfOk, OnErr, OnOk, None, slice_index_or};
+    ghost use Rattle.std.specs.Prelude.{◌≡◌, ◌↔◌, IsTrue, IfOk, OnErr, OnOk, None, is_some, slice_index_or};
     ghost use Rattle.i3c_device.specs.Holding.{address_in};
 
     /// Devices as they are now.
@@ -90,6 +90,13 @@ impl Resting {
         let alone = present.apart(devices.present());
         let differing = self.enabled.differing(devices.enabled).and(present);
         alone.or(differing).is_none() && are_same_among(present, &self.kept, &devices.occupants)
+    }
+
+    /// Whether a slot holds a device.
+    pub fn holds(&self, slot: Slot) -> bool
+        ensures { result ≡ is_some (slice_index_or self.now slot None) }
+    {
+        self.kept.present().has(slot.index())
     }
 
     /// The dynamic address of a slot's device, if there is a device and it has one.

@@ -4,6 +4,7 @@ use Rattle.std.specs.Global.{Vec}
 use Rattle.std.proofs.lemmas.List.{append-nil, append_assoc}
 use Rattle.i3c_explore.specs.declared.layer.Layer.{Layer}
 use Rattle.i3c_explore.specs.declared.node.Node.{Node}
+use Rattle.i3c_explore.specs.declared.owners.Owners.{Owners}
 use Rattle.i3c_explore.specs.declared.jobs.Job.{Job}
 use Rattle.i3c_explore.specs.declared.stop.Stop.{Stop}
 use Rattle.i3c_explore.specs.Layers.{ArePut}
@@ -31,7 +32,7 @@ put_first [] nodes none = put_behind [] nodes
 put_first (n ∷ old) nodes none = absurd (omega arith)
 
 -- the layers of jobs, joined, follow all nodes by the lines of all of them
-pub jobs_follow : {S L : Type 0} (steps : S → L → ℕ → S → Type 0) (tracks : List (Vec L)) (lines : ℕ → List L) (owners : List ℕ) (layer : List (Node S)) (jobs : List (Job S)) (made : List (Result (Layer S) Stop)) (from to : ℕ) (old new : List (Node S))
+pub jobs_follow : {S L : Type 0} (steps : S → L → ℕ → S → Type 0) (tracks : List (Vec L)) (lines : ℕ → List L) (owners : Owners) (layer : List (Node S)) (jobs : List (Job S)) (made : List (Result (Layer S) Stop)) (from to : ℕ) (old new : List (Node S))
     → length made ≡ length jobs
     → ((i : ℕ) → i < length jobs → (job : Job S) (one : Result (Layer S) Stop) → IfOk (get_or made i one) (λ (next : Layer S). IsNextOf steps tracks lines (own owners (length tracks) (get_or jobs i job).number lines) layer 0 (length layer) next.nodes.items))
     → AreJobs jobs from to → AreJoined old made new → IsNextOf steps tracks lines (own_below owners (length tracks) from lines) layer 0 (length layer) old

@@ -5,6 +5,7 @@ use Rattle.std.specs.List.{Contains, slice_get}
 use Rattle.std.proofs.lemmas.Bool.Decides.{eqb_tells, leb_tells}
 use Rattle.std.proofs.lemmas.Option.{slice_get_within}
 use Rattle.i3c_explore.specs.declared.node.Node.{Node}
+use Rattle.i3c_explore.specs.declared.owners.Owners.{Owners}
 use Rattle.i3c_explore.specs.Layers.{IsNextAt}
 use Rattle.i3c_explore.specs.Owners.{AreOwned, number, own, own_below, owner}
 use Rattle.i3c_explore.specs.Shares.{Gains, IsAdded, IsLed, by_line, by_track, by_tracks, longer}
@@ -82,8 +83,8 @@ below_not : (a b : ℕ) → b < suc a → nat_le (suc a) b ≡ false
 below_not a b le = elim (leb_tells (suc a) b) [ inl (_, lt) ↦ absurd (omega arith) | inr (is, _) ↦ is ]
 
 -- a job runs lines that the jobs before it don't
-pub own_split : {L : Type 0} (jobs : List ℕ) (tracks job : ℕ) (lines : ℕ → List L) → AreSplit (own_below jobs tracks job lines) (own jobs tracks job lines) (own_below jobs tracks (suc job) lines)
-own_split jobs tracks job lines k t = let at = owner jobs tracks k t in elim (eqb_tells at job) [
+pub own_split : {L : Type 0} (owners : Owners) (tracks job : ℕ) (lines : ℕ → List L) → AreSplit (own_below owners tracks job lines) (own owners tracks job lines) (own_below owners tracks (suc job) lines)
+own_split owners tracks job lines k t = let at = owner owners tracks k t in elim (eqb_tells at job) [
   | inl (is, same) ↦ inr (
     not_chosen (nat_le (suc at) job) (lines t) (below_not at job (omega arith)),
     chosen (at == job) (lines t) is ∙ sym (chosen (nat_le (suc at) (suc job)) (lines t) (below_is at (suc job) (omega arith))),
@@ -101,8 +102,8 @@ own_split jobs tracks job lines k t = let at = owner jobs tracks k t in elim (eq
 ]
 
 -- no job is below the first one
-pub own_none : {L : Type 0} (jobs : List ℕ) (tracks : ℕ) (lines : ℕ → List L) (k t : ℕ) → own_below jobs tracks 0 lines k t ≡ []
-own_none jobs tracks lines k t = let at = owner jobs tracks k t in not_chosen (nat_le (suc at) 0) (lines t) (below_not at 0 (omega arith))
+pub own_none : {L : Type 0} (owners : Owners) (tracks : ℕ) (lines : ℕ → List L) (k t : ℕ) → own_below owners tracks 0 lines k t ≡ []
+own_none owners tracks lines k t = let at = owner owners tracks k t in not_chosen (nat_le (suc at) 0) (lines t) (below_not at 0 (omega arith))
 
 -- one more line is noted
 pub owned_more : (jobs new : List ℕ) (owner count : ℕ) → AreOwned jobs count → owner < count → new ≡ jobs ++ owner ∷ [] → AreOwned new count
@@ -116,14 +117,18 @@ number_below None count some each = some
 number_below (Some job) count some each = each job refl
 
 -- all jobs together run all lines
-pub own_all : {L : Type 0} (jobs : List ℕ) (tracks count : ℕ) (lines : ℕ → List L) → AreOwned jobs count → 0 < count → (k t : ℕ) → own_below jobs tracks count lines k t ≡ lines t
-own_all jobs tracks count lines owned some k t =
-    let at = owner jobs tracks k t in
-    chosen (nat_le (suc at) count) (lines t) (below_is at count (number_below (slice_get jobs (k * tracks + t)) count some (λ job is. owned (k * tracks + t) job is)))
+pub own_all : {L : Type 0} (owners : Owners) (tracks count : ℕ) (lines : ℕ → List L) → AreOwned owners.jobs.items count → 0 < count → (k t : ℕ) → own_below owners tracks count lines k t ≡ lines t
+own_all owners tracks count lines owned some k t =
+    let at = owner owners tracks k t in
+    let place = number (slice_get owners.rows.items k) * tracks + t in
+    chosen (nat_le (suc at) count) (lines t) (below_is at count (number_below (slice_get owners.jobs.items place) count some (λ job is. owned place job is)))
 
 -- where nothing is noted, the first job does
-pub own_alone : {L : Type 0} (jobs : List ℕ) (tracks : ℕ) (lines : ℕ → List L) → jobs ≡ [] → (k t : ℕ) → own jobs tracks 0 lines k t ≡ lines t
-own_alone {L} jobs tracks lines none k t = subst (λ (l : List ℕ). own l tracks 0 lines k t ≡ lines t) (sym none) refl
+pub own_alone : {L : Type 0} (owners : Owners) (tracks : ℕ) (lines : ℕ → List L) → owners.jobs.items ≡ [] → (k t : ℕ) → own owners tracks 0 lines k t ≡ lines t
+own_alone owners tracks lines none k t =
+    let place = number (slice_get owners.rows.items k) * tracks + t in
+    let first : (number (slice_get owners.jobs.items place) == 0) ≡ true = ap (λ (l : List ℕ). number (slice_get l place) == 0) none in
+    chosen (number (slice_get owners.jobs.items place) == 0) (lines t) first
 
 -- what a line gains, where these are the lines of its track
 pub gains_as : {S L : Type 0} (steps : S → L → ℕ → S → Type 0) (tracks : List (Vec L)) (lines others : ℕ → List L) (node : Node S) (old new : List (Node S)) (t : ℕ) → lines t ≡ others t

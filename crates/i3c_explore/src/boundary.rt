@@ -254,13 +254,13 @@ fn behind(bundles: &mut Vec<Bundle>, division: Division) -> Result<Vec<Bundle>, 
     Ok(later)
 }
 
-/// The boundary in front of some sorted bundles.
-fn boundary_before(later: &[Bundle], track: u32) -> Boundary {
+/// The boundary in front of some sorted bundles. Where the first of them was divided, it begins at a node.
+fn boundary_before(later: &[Bundle], track: u32, divided: bool) -> Boundary {
     match later.first() {
         Some(first) => Boundary {
             track,
             target: seen_from(first.target, track),
-            node: first.from,
+            node: if divided { first.from } else { 0 },
         },
         None => Boundary {
             track,
@@ -283,7 +283,7 @@ fn split(
     let about = divided_at(bundles, each.saturating_mul(jobs / 2));
     let at = whole(bundles, about, each / 8);
     let later = behind(bundles, at)?;
-    let boundary = boundary_before(&later, track);
+    let boundary = boundary_before(&later, track, at.within > 0);
     Ok((later, boundary))
 }
 

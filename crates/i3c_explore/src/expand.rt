@@ -107,6 +107,7 @@ fn run_track<M: Machine>(
 
 /// Runs the next line of a track from a node of a layer, if a job takes it. `again` says that the runner's last line
 /// began at this node too. Answers whether the runner's last line did.
+#[inline(always)]
 fn take_turn<M: Machine>(
     alloc: Global,
     node: &Node<M>,
@@ -124,9 +125,9 @@ fn take_turn<M: Machine>(
     requires sized { length node.now.places.items ≡ length tracks.now }
     requires again { IsTrue again → M.near runner.old node.now.state }
     ensures keeps { OnOk result (Keeps next.old.nodes.items next.new.nodes.items) }
-    ensures tracked { OnOk result (IsTracked M.steps (own owners.now.jobs.items (length tracks.now) job (opening part tracks.now) index) track node.now next.new.nodes.items) }
+    ensures tracked { OnOk result (IsTracked M.steps (own owners.now (length tracks.now) job (opening part tracks.now) index) track node.now next.new.nodes.items) }
     ensures from { OnOk result (AreFrom M.steps (opening part tracks.now) node.now next.old.nodes.items next.new.nodes.items) }
-    ensures counted { OnOk result (Gains M.steps tracks.now node.now next.old.nodes.items next.new.nodes.items (by_track (own owners.now.jobs.items (length tracks.now) job (opening part tracks.now) index) node.now.places.items track)) }
+    ensures counted { OnOk result (Gains M.steps tracks.now node.now next.old.nodes.items next.new.nodes.items (by_track (own owners.now (length tracks.now) job (opening part tracks.now) index) node.now.places.items track)) }
     ensures broken { IfErr result (λ stop. (order : VecValue TurnValue) → stop ≡ StopValue.Breaks order → IsBreak M.breaks (opening part tracks.now) node.now order.items) }
     ensures near { IfOk result (λ near. IsTrue near → M.near runner.new node.now.state) }
 {
@@ -155,9 +156,9 @@ fn expand<M: Machine>(
 ) -> Result<(), Stop>
     requires sized { length node.now.places.items ≡ length tracks.now }
     ensures keeps { OnOk result (Keeps next.old.nodes.items next.new.nodes.items) }
-    ensures expanded { OnOk result (IsExpanded M.steps (own owners.now.jobs.items (length tracks.now) job (opening part tracks.now) index) (length tracks.now) node.now next.new.nodes.items) }
+    ensures expanded { OnOk result (IsExpanded M.steps (own owners.now (length tracks.now) job (opening part tracks.now) index) (length tracks.now) node.now next.new.nodes.items) }
     ensures from { OnOk result (AreFrom M.steps (opening part tracks.now) node.now next.old.nodes.items next.new.nodes.items) }
-    ensures counted { OnOk result (Gains M.steps tracks.now node.now next.old.nodes.items next.new.nodes.items (by_tracks (own owners.now.jobs.items (length tracks.now) job (opening part tracks.now) index) node.now.places.items (length tracks.now))) }
+    ensures counted { OnOk result (Gains M.steps tracks.now node.now next.old.nodes.items next.new.nodes.items (by_tracks (own owners.now (length tracks.now) job (opening part tracks.now) index) node.now.places.items (length tracks.now))) }
     ensures broken { IfErr result (λ stop. (order : VecValue TurnValue) → stop ≡ StopValue.Breaks order → IsBreak M.breaks (opening part tracks.now) node.now order.items) }
 {
     let mut again = false;
@@ -187,7 +188,7 @@ pub(crate) fn expand_turns<M: Machine, W: Watch>(
     view: &View<'_, W>,
 ) -> Result<Layer<M>, Stop>
     requires sized { (n : NodeValue M) → Contains layer.now n → length n.places.items ≡ length tracks.now }
-    ensures next { IfOk result (λ next. IsNextOf M.steps tracks.now (opening part tracks.now) (own owners.now.jobs.items (length tracks.now) job (opening part tracks.now)) layer.now 0 (length layer.now) next.nodes.items) }
+    ensures next { IfOk result (λ next. IsNextOf M.steps tracks.now (opening part tracks.now) (own owners.now (length tracks.now) job (opening part tracks.now)) layer.now 0 (length layer.now) next.nodes.items) }
     ensures broken { IfErr result (λ stop. (order : VecValue TurnValue) → stop ≡ StopValue.Breaks order → BreaksNext M.breaks tracks.now part layer.now order.items) }
 {
     let mut next = Layer::new(alloc, limits);

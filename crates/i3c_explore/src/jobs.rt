@@ -1,6 +1,4 @@
-ghost use Rattle.std.specs.Prelude.{◌≡◌, ◌<◌, IfErr, IfOk, length, vec_len};
-ghost use Rattle.std.specs.Fork.{AcceptsJobs, GivesJobs};
-ghost use denote.Param.Send.{IsSend, IsSync};
+ghost use Rattle.std.specs.Prelude.{◌≡◌, ◌<◌, IfErr, IfOk, length};
 ghost use Rattle.std.specs.Global.{Vec as VecValue};
 ghost use Rattle.i3c_explore.specs.declared.stop.Stop.{Stop as StopValue};
 ghost use Rattle.i3c_explore.specs.declared.turn.Turn.{Turn as TurnValue};
@@ -21,7 +19,7 @@ use crate::stop::Stop;
 use crate::watch::{Unwatched, View, Watch};
 use std::alloc::{AllocError, Global};
 use std::mem;
-use std::thread::{Threads, join, map_vec};
+use std::thread::{Threads, map_vec};
 
 /// How few nodes are worth a thread of their own.
 const FEW: usize = 16;
@@ -44,32 +42,35 @@ struct Job<M> {
     number: usize,
     // nodes whose room the job may take
     spares: Vec<Node<M>>,
+    // nodes that the job lets go
+    surplus: Vec<Node<M>>,
 }
 
-/// A job's share of the spare nodes, among `jobs` jobs.
-fn share_of<M: Machine>(
-    spares: &mut Vec<Node<M>>,
-    jobs: usize,
-) -> Result<Vec<Node<M>>, AllocError> {
-    match spares.len().checked_div(jobs) {
-        Some(each) => spares.split_off(spares.len() - each),
-        None => spares.split_off(0),
+/// A job's share of some nodes, among `jobs` jobs.
+fn share_of<M: Machine>(nodes: &mut Vec<Node<M>>, jobs: usize) -> Result<Vec<Node<M>>, AllocError> {
+    match nodes.len().checked_div(jobs) {
+        Some(each) => nodes.split_off(nodes.len() - each),
+        None => nodes.split_off(0),
     }
 }
 
-/// The jobs by their numbers, each with its share of the spare nodes.
+/// The jobs by their numbers. Each has its share of the spare nodes, and of those that no layer needs.
 fn jobs_of<M: Machine>(
     alloc: Global,
     jobs: usize,
-    spares: Vec<Node<M>>,
+    mut spares: Vec<Node<M>>,
+    mut surplus: Vec<Node<M>>,
 ) -> Result<Vec<Job<M>>, AllocError>
     ensures { IfOk result (λ all. AreJobs all.items 0 jobs) }
 {
-    let mut rest = spares;
     let mut all = Vec::new(alloc);
     for number in 0..jobs {
-        let spares = share_of(&mut rest, jobs - number)?;
-        all.push(Job { number, spares })?;
+        let job = Job {
+            number,
+            spares: share_of(&mut spares, jobs - number)?,
+            surplus: share_of(&mut surplus, jobs - number)?,
+        };
+        all.push(job)?;
     }
     Ok(all)
 }
@@ -85,9 +86,14 @@ fn expand_job<M: Machine>(
     part: Part,
 ) -> Result<Layer<M>, Stop>
     requires sized { ArePlaced layer.now tracks.now }
-    ensures { IfOk result (λ next. IsNextOf M.steps tracks.now (opening part tracks.now) (own owners.now.jobs.items (length tracks.now) job.number (opening part tracks.now)) layer.now 0 (length layer.now) next.nodes.items) }
+    ensures { IfOk result (λ next. IsNextOf M.steps tracks.now (opening part tracks.now) (own owners.now (length tracks.now) job.number (opening part tracks.now)) layer.now 0 (length layer.now) next.nodes.items) }
 {
-    let Job { number, spares } = job;
+    let Job {
+        number,
+        spares,
+        surplus,
+    } = job;
+    drop(surplus);
     ask_for_room(alloc, ROOM);
     let Some(node) = layer.first() else {
         return Err(Stop::Most);
@@ -113,26 +119,6 @@ fn expand_job<M: Machine>(
         Ok(next) => Ok(next),
         Err(stop) => Err(stop),
     }
-}
-
-/// Calls a function at each job, each on a thread of its own. Meanwhile this thread lets go of a value, and then waits.
-fn map_apart<R: Threads + Sync, J: Send + Drop, X: Send + Drop, L: Drop, F: Fn(J) -> X + Sync>(
-    rt: &R,
-    jobs: Vec<J>,
-    left: L,
-    f: &F,
-) -> Result<Vec<X>, AllocError>
-    requires { AcceptsJobs F.Fn f.now jobs.items }
-    ensures len { IfOk result (λ v. vec_len v ≡ vec_len jobs) }
-    ensures each { IfOk result (λ v. GivesJobs F.Fn f.now jobs.items v.items) }
-{
-    let run = move || -> Result<Vec<X>, AllocError>
-        requires { IsSync R.row × IsSync F.row × IsSend J.row × IsSend X.row × AcceptsJobs F.Fn f.now jobs.items }
-        ensures len { IfOk result (λ v. vec_len v ≡ vec_len jobs) }
-        ensures each { IfOk result (λ v. GivesJobs F.Fn f.entry.now jobs.items v.items) }
-    { map_vec(rt, jobs, f) };
-    let (made, ()) = join(rt, run, move || drop(left));
-    made
 }
 
 /// The nodes behind as many as a layer can take the room of.
@@ -165,12 +151,12 @@ where
     let Handed { mut spares, codes } = handed;
     let owners = owners_of(alloc, layer, codes, tracks, part, jobs)?;
     let surplus = surplus_of(&mut spares, layer)?;
-    let all = jobs_of(alloc, jobs, spares)?;
+    let all = jobs_of(alloc, jobs, spares, surplus)?;
     let expand = |job: Job<M>| -> Result<Layer<M>, Stop>
         requires { ArePlaced layer.now tracks.now }
-        ensures { IfOk result (λ next. IsNextOf M.steps tracks.entry.now (opening part tracks.entry.now) (own owners.jobs.items (length tracks.entry.now) job.number (opening part tracks.entry.now)) layer.entry.now 0 (length layer.entry.now) next.nodes.items) }
+        ensures { IfOk result (λ next. IsNextOf M.steps tracks.entry.now (opening part tracks.entry.now) (own owners (length tracks.entry.now) job.number (opening part tracks.entry.now)) layer.entry.now 0 (length layer.entry.now) next.nodes.items) }
     { expand_job(alloc, layer, &owners, job, limits, tracks, part) };
-    let layers = map_apart(rt, all, surplus, &expand)?;
+    let layers = map_vec(rt, all, &expand)?;
     match joined_by_jobs(rt, alloc, layers, owners.overlap, limits) {
         Ok(next) => Ok(next),
         Err(stop) => Err(stop),

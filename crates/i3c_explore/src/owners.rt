@@ -1,4 +1,4 @@
-ghost use Rattle.std.specs.Prelude.{◌≡◌, ◌<◌, [], IfOk, OnOk, slice_get};
+ghost use Rattle.std.specs.Prelude.{◌≡◌, ◌<◌, ◌+◌, ◌*◌, [], IfOk, OnOk, slice_get};
 ghost use Rattle.i3c_explore.specs.Owners.{AreOwned, number, takes};
 
 use crate::boundary::{Boundary, boundaries_of, owner_by};
@@ -15,7 +15,9 @@ use std::alloc::{AllocError, Global};
 /// that is.
 #[derive(Drop)]
 pub(crate) struct Owners {
-    // the jobs of the tracks of each node, one node's behind the other's
+    // the row of each node
+    rows: Vec<usize>,
+    // the jobs of the tracks, by rows
     jobs: Vec<usize>,
     /// Whether lines of several jobs lead to the same places.
     pub overlap: bool,
@@ -27,6 +29,7 @@ impl Owners {
         ensures { result.jobs.items ≡ [] }
     {
         Owners {
+            rows: Vec::new(alloc),
             jobs: Vec::new(alloc),
             overlap: false,
         }
@@ -41,27 +44,30 @@ impl Owners {
     }
 
     /// Whether a job runs the next line of a track from a node with `tracks` tracks.
+    #[inline(always)]
     pub(crate) fn takes(&self, job: usize, node: usize, track: usize, tracks: usize) -> bool
-        ensures { result ≡ takes self.now.jobs.items tracks job node track }
+        ensures { result ≡ takes self.now tracks job node track }
     {
-        let owner = match node.checked_mul(tracks) {
+        let row = noted(&self.rows, node);
+        let owner = match row.checked_mul(tracks) {
             Some(first) => match first.checked_add(track) {
-                Some(index) => self.owner(index),
+                Some(index) => noted(&self.jobs, index),
                 None => 0,
             },
             None => 0,
         };
         owner == job
     }
+}
 
-    /// The job of a track at a node.
-    fn owner(&self, index: usize) -> usize
-        ensures { result ≡ number (slice_get self.now.jobs.items index) }
-    {
-        match self.jobs.get(index) {
-            Some(owner) => *owner,
-            None => 0,
-        }
+/// The number that is noted at an index, or else 0.
+#[inline(always)]
+fn noted(numbers: &Vec<usize>, index: usize) -> usize
+    ensures { result ≡ number (slice_get numbers.now.items index) }
+{
+    match numbers.get(index) {
+        Some(number) => *number,
+        None => 0,
     }
 }
 
@@ -75,7 +81,7 @@ fn push_owner(owners: &mut Vec<usize>, owner: usize, jobs: usize) -> Result<(), 
     Ok(())
 }
 
-/// Notes the jobs of a node's tracks.
+/// Notes a row: the jobs of a node's tracks.
 fn note(
     owners: &mut Vec<usize>,
     boundaries: &[Boundary],
@@ -95,49 +101,58 @@ fn note(
     Ok(())
 }
 
-/// Notes the same jobs as those that are noted from an index on.
-fn note_again(
-    owners: &mut Vec<usize>,
-    first: usize,
-    tracks: usize,
-    jobs: usize,
-) -> Result<(), AllocError>
-    requires some { 0 < jobs }
-    requires owned { AreOwned owners.old.items jobs }
-    ensures { OnOk result (AreOwned owners.new.items jobs) }
-{
-    for track in 0..tracks {
-        let owner = match owners.get(first.saturating_add(track)) {
-            Some(owner) => *owner,
-            None => 0,
-        };
-        push_owner(owners, owner, jobs)?;
-    }
-    Ok(())
-}
-
-/// Notes the jobs of a node's tracks. All nodes at a place have those of the first one there, unless jobs share places.
-fn note_at(
-    owners: &mut Vec<usize>,
-    places: &Places,
-    node: usize,
-    overlap: bool,
+/// The owners by the nodes' places. All nodes at a place have the same row, since no jobs share places.
+fn owners_by_place(
+    alloc: Global,
+    places: Places,
     boundaries: &[Boundary],
     weights: &[u64],
     jobs: usize,
-) -> Result<(), AllocError>
-    requires some { 0 < jobs }
-    requires owned { AreOwned owners.old.items jobs }
-    ensures { OnOk result (AreOwned owners.new.items jobs) }
+) -> Result<Owners, AllocError>
+    requires { 0 < jobs }
+    ensures { IfOk result (λ owners. AreOwned owners.jobs.items jobs) }
 {
-    match places.of_node(node) {
-        Some(place) if place.first < node && !overlap => {
-            let first = place.first.saturating_mul(weights.len());
-            note_again(owners, first, weights.len(), jobs)
-        }
-        Some(place) => note(owners, boundaries, node, place.code, weights, jobs),
-        None => Ok(()),
+    let Places { all, of_nodes, .. } = places;
+    let mut owners = Vec::with_capacity(alloc, all.len().saturating_mul(weights.len()))?;
+    for place in &all {
+        note(
+            &mut owners,
+            boundaries,
+            place.first,
+            place.code,
+            weights,
+            jobs,
+        )?;
     }
+    Ok(Owners {
+        rows: of_nodes,
+        jobs: owners,
+        overlap: false,
+    })
+}
+
+/// The owners by the nodes themselves. Each has a row of its own.
+fn owners_by_node(
+    alloc: Global,
+    codes: &[u64],
+    boundaries: &[Boundary],
+    weights: &[u64],
+    jobs: usize,
+) -> Result<Owners, AllocError>
+    requires { 0 < jobs }
+    ensures { IfOk result (λ owners. AreOwned owners.jobs.items jobs) }
+{
+    let mut rows = Vec::with_capacity(alloc, codes.len())?;
+    let mut owners = Vec::with_capacity(alloc, codes.len().saturating_mul(weights.len()))?;
+    for (node, code) in codes.iter().enumerate() {
+        rows.push(node)?;
+        note(&mut owners, boundaries, node, *code, weights, jobs)?;
+    }
+    Ok(Owners {
+        rows,
+        jobs: owners,
+        overlap: true,
+    })
 }
 
 /// Shares out the lines that run from a layer's nodes among `jobs` jobs, by the places that they lead to. One job then
@@ -162,20 +177,9 @@ pub(crate) fn owners_of<M: Machine>(
     };
     let places = Places::of_codes(alloc, &codes)?;
     let boundaries = boundaries_of(alloc, layer, &places, &weights, tracks, part, jobs)?;
-    let mut owners = Owners {
-        jobs: Vec::with_capacity(alloc, places.nodes().saturating_mul(weights.len()))?,
-        overlap: boundaries.iter().any(|boundary| boundary.node > 0),
-    };
-    for node in 0..places.nodes() {
-        note_at(
-            &mut owners.jobs,
-            &places,
-            node,
-            owners.overlap,
-            &boundaries,
-            &weights,
-            jobs,
-        )?;
+    if boundaries.iter().any(|boundary| boundary.node > 0) {
+        owners_by_node(alloc, &codes, &boundaries, &weights, jobs)
+    } else {
+        owners_by_place(alloc, places, &boundaries, &weights, jobs)
     }
-    Ok(owners)
 }

@@ -64,8 +64,8 @@ pub(crate) struct Places {
     codes: Codes,
     /// The places, each once.
     pub all: Vec<Place>,
-    // the index of the place of each node
-    of_nodes: Vec<usize>,
+    /// The index of the place of each node.
+    pub of_nodes: Vec<usize>,
 }
 
 impl Places {
@@ -101,17 +101,5 @@ impl Places {
             }
         }
         Ok(())
-    }
-
-    /// The place of a node.
-    pub(crate) fn of_node(&self, node: usize) -> Option<Place> {
-        let index = self.of_nodes.get(node)?;
-        let place = self.all.get(*index)?;
-        Some(*place)
-    }
-
-    /// The number of the layer's nodes.
-    pub(crate) fn nodes(&self) -> usize {
-        self.of_nodes.len()
     }
 }

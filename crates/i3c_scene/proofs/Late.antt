@@ -1,8 +1,8 @@
--- Cuts behind the last bit of a line's frame: two of one slot lead to the same.
-use Rattle.std.proofs.Common.{min, Result, Err, Ok, ◌≡◌, ◌∙◌, ℕ, zero, suc, ap, ◌+◌, ◌<◌, ◌≤◌, Bool, true, false, not, ◌&&◌, ◌==◌, is_some, List, [], ◌∷◌, Option, None, Some, arith, inl, inr, refl, subst, sym, if◌then◌else◌}
+-- Cuts behind the last bit of a line's frame lose nobody: the line does what it does without them.
+use Rattle.std.proofs.Common.{min, Result, Err, Ok, ◌≡◌, ◌≢◌, ◌∙◌, ◌⊎◌, ℕ, zero, suc, ap, ◌+◌, ◌<◌, ◌≤◌, Bool, true, false, not, ◌&&◌, ◌==◌, eq-eqb, is_some, List, [], ◌∷◌, max, nat_le, Option, None, Some, arith, inl, inr, refl, subst, sym, if◌then◌else◌}
 use Rattle.std.specs.declared.alloc.AllocError.{AllocError}
 use Rattle.std.specs.Prelude.{IfOk}
-use Rattle.std.proofs.Math.Nat.{min-eq_left, min-eq_right, min-le_right}
+use Rattle.std.proofs.Math.Nat.{le-max_left, le-max_right}
 use Rattle.std.proofs.lemmas.Bool.Decides.{leb_tells, nat_tests}
 use Rattle.i3c_base.specs.declared.answers.Answer.{Answer}
 use Rattle.i3c_base.specs.declared.datum.Datum.{Datum}
@@ -12,15 +12,15 @@ use Rattle.i3c_base.specs.declared.requests.Fixed.{Fixed}
 use Rattle.i3c_base.specs.Cutting.{CutList, earlier}
 use Rattle.i3c_base.specs.Frames.{get_bits, least_length_from, length_of, told_length, transfer_length}
 use Rattle.i3c_base.specs.Serve.{byte_due}
-use Rattle.i3c_base.specs.State.{Device, Entry, State, entry_at, has_address, legacy_target_at}
+use Rattle.i3c_base.specs.State.{Device, Entry, State, device_at, entry_at, has_address, legacy_target_at}
 use Rattle.i3c_step.specs.declared.events.Command.{Command as Frame}
 use Rattle.i3c_step.specs.declared.events.Event.{Event}
 use Rattle.i3c_step.specs.declared.replies.Reply.{Reply}
 use Rattle.i3c_step.specs.Commands.{event_of}
 use Rattle.i3c_step.specs.LateCuts.{bits_after_byte, most_bits, recut}
 use Rattle.i3c_step.specs.Step.{Step}
-use Rattle.i3c_step.proofs.LateCuts.{and_cut, both_alike}
-use Rattle.i3c_step.proofs.LateSteps.{each_alike, step_alike}
+use Rattle.i3c_step.proofs.LateCuts.{and_cut, late_alike}
+use Rattle.i3c_step.proofs.LateSteps.{each_alike, recut_same, step_alike}
 use Rattle.i3c_lines.specs.declared.command.Command.{Command}
 use Rattle.i3c_lines.specs.declared.names.Name.{Name}
 use Rattle.i3c_lines.specs.declared.names.Place.{Place}
@@ -31,19 +31,19 @@ use Rattle.i3c_facts.specs.declared.before.Before.{Before}
 use Rattle.i3c_scene.specs.declared.line.Line.{Line}
 use Rattle.i3c_scene.specs.declared.risk.Risk.{Risk}
 use Rattle.i3c_scene.specs.declared.ways.Ways.{Ways}
-use Rattle.i3c_script.specs.declared.settings.Settings.{Settings}
-use Rattle.i3c_scene.specs.declared.named.Named.{Named}
 use Rattle.i3c_scene.specs.Going.{Assigns, Does, Moves, cut_in, risked, sends}
-use Rattle.i3c_scene.specs.Latest.{last_bit, last_cut, last_of_frame, latest, tried_as}
-use Rattle.i3c_scene.specs.Pairs.{pair, two_ways}
+use Rattle.i3c_scene.specs.Latest.{last_bit, last_of_frame, latest, tried_as}
+use Rattle.i3c_scene.specs.Pairs.{pair, two_ways, within}
 use Rattle.i3c_scene.specs.Scenes.{Seen, place_in, seen}
 use Rattle.i3c_scene.specs.Trying.{LineBreaks, LineSteps, Runs, RunsIn, all_hold, slot_at_risk, ways_of}
 use Rattle.i3c_scene.proofs.Pairs.{placed}
 
--- two late cuts of a slot allow the same steps
-step_late : (old : State) (event : Event) (reply : Reply) (new : State) (s bit more : ℕ) → most_bits old event < bit → most_bits old event < more → Step old (recut (and_cut s bit) event) reply new → Step old (recut (and_cut s more) event) reply new
-step_late old event reply new s bit more late later h =
-    step_alike old event (and_cut s bit) (and_cut s more) reply new (each_alike old event (and_cut s bit) (and_cut s more) (λ cuts. both_alike old cuts s bit more (most_bits old event) late later)) h
+-- a late cut of another device than the active controller allows the same steps
+step_late : (old : State) (event : Event) (reply : Reply) (new : State) (s bit : ℕ) → s ≢ old.active → most_bits old event < bit → Step old event reply new → Step old (recut (and_cut s bit) event) reply new
+step_late old event reply new s bit other late h =
+    let same = λ (cuts : CutList). cuts in
+    step_alike old event same (and_cut s bit) reply new (each_alike old event same (and_cut s bit) (λ cuts. late_alike old cuts s bit (most_bits old event) other late))
+    (subst (λ (e : Event). Step old e reply new) (sym (recut_same event)) h)
 
 -- no datum has more than six bytes
 told_at_most : (what : Datum) (entry : Option Entry) → told_length what entry ≤ 6
@@ -80,31 +80,34 @@ length_at_most st way a = go (is_some (legacy_target_at st a)) (least_length_fro
     go true least l = omega arith
     go false least l = l
 
--- so do they in a frame under the role
-frame_late : (old : State) (frame : Frame) (policy : Fixed) (cuts : CutList) (reply : Reply) (new : State) (s bit more : ℕ) → last_of_frame old frame < bit → last_of_frame old frame < more
-    → Step old (event_of frame policy (cut_at cuts s bit)) reply new → Step old (event_of frame policy (cut_at cuts s more)) reply new
-frame_late old Frame.Serve policy cuts reply new s bit more late later h = step_late old (Event.Serve policy cuts) reply new s bit more late later h
-frame_late old (Frame.Enec None kinds) policy cuts reply new s bit more late later h = step_late old (Event.Enec None kinds policy cuts) reply new s bit more (omega (arith, late)) (omega (arith, later)) h
-frame_late old (Frame.Enec (Some a) kinds) policy cuts reply new s bit more late later h = step_late old (Event.Enec (Some a) kinds policy cuts) reply new s bit more late later h
-frame_late old (Frame.Disec None kinds) policy cuts reply new s bit more late later h = step_late old (Event.Disec None kinds policy cuts) reply new s bit more (omega (arith, late)) (omega (arith, later)) h
-frame_late old (Frame.Disec (Some a) kinds) policy cuts reply new s bit more late later h = step_late old (Event.Disec (Some a) kinds policy cuts) reply new s bit more late later h
-frame_late old Frame.Reset policy cuts reply new s bit more late later h = step_late old (Event.Reset policy cuts) reply new s bit more late later h
-frame_late old Frame.SendList policy cuts reply new s bit more late later h = step_late old (Event.SendList policy cuts) reply new s bit more late later h
-frame_late old (Frame.ReadFrom a) policy cuts reply new s bit more late later h =
-    let few = length_at_most old Direction.Read a in step_late old (Event.ReadFrom a policy cuts) reply new s bit more (omega (arith, late, few)) (omega (arith, later, few)) h
-frame_late old (Frame.WriteTo a bytes) policy cuts reply new s bit more late later h = step_late old (Event.WriteTo a bytes policy cuts) reply new s bit more (omega (arith, late)) (omega (arith, later)) h
-frame_late old (Frame.SetStatic f to) policy cuts reply new s bit more late later h = step_late old (Event.SetStatic f to policy cuts) reply new s bit more late later h
-frame_late old (Frame.SetNew a to) policy cuts reply new s bit more late later h = step_late old (Event.SetNew a to policy cuts) reply new s bit more late later h
-frame_late old (Frame.Get what a) policy cuts reply new s bit more late later h =
-    let few = get_at_most what (entry_at old a) in step_late old (Event.Get what a policy cuts) reply new s bit more (omega (arith, late, few)) (omega (arith, later, few)) h
-frame_late old (Frame.SetLength way most None) policy cuts reply new s bit more late later h =
-    step_late old (Event.SetLength way most None policy cuts) reply new s bit more (omega (arith, late)) (omega (arith, later)) h
-frame_late old (Frame.SetLength way most (Some a)) policy cuts reply new s bit more late later h = step_late old (Event.SetLength way most (Some a) policy cuts) reply new s bit more late later h
+-- so does it in a frame under the role
+frame_late : (old : State) (frame : Frame) (policy : Fixed) (cuts : CutList) (reply : Reply) (new : State) (s bit : ℕ) → s ≢ old.active → last_of_frame old frame < bit
+    → Step old (event_of frame policy cuts) reply new → Step old (event_of frame policy (cut_at cuts s bit)) reply new
+frame_late old Frame.Serve policy cuts reply new s bit other late h = step_late old (Event.Serve policy cuts) reply new s bit other late h
+frame_late old (Frame.Enec None kinds) policy cuts reply new s bit other late h = step_late old (Event.Enec None kinds policy cuts) reply new s bit other (omega (arith, late)) h
+frame_late old (Frame.Enec (Some a) kinds) policy cuts reply new s bit other late h = step_late old (Event.Enec (Some a) kinds policy cuts) reply new s bit other late h
+frame_late old (Frame.Disec None kinds) policy cuts reply new s bit other late h = step_late old (Event.Disec None kinds policy cuts) reply new s bit other (omega (arith, late)) h
+frame_late old (Frame.Disec (Some a) kinds) policy cuts reply new s bit other late h = step_late old (Event.Disec (Some a) kinds policy cuts) reply new s bit other late h
+frame_late old Frame.Reset policy cuts reply new s bit other late h = step_late old (Event.Reset policy cuts) reply new s bit other late h
+frame_late old Frame.SendList policy cuts reply new s bit other late h = step_late old (Event.SendList policy cuts) reply new s bit other late h
+frame_late old (Frame.ReadFrom a) policy cuts reply new s bit other late h =
+    let few = length_at_most old Direction.Read a in step_late old (Event.ReadFrom a policy cuts) reply new s bit other (omega (arith, late, few)) h
+frame_late old (Frame.WriteTo a bytes) policy cuts reply new s bit other late h = step_late old (Event.WriteTo a bytes policy cuts) reply new s bit other (omega (arith, late)) h
+frame_late old (Frame.SetStatic f to) policy cuts reply new s bit other late h = step_late old (Event.SetStatic f to policy cuts) reply new s bit other late h
+frame_late old (Frame.SetNew a to) policy cuts reply new s bit other late h = step_late old (Event.SetNew a to policy cuts) reply new s bit other late h
+frame_late old (Frame.Get what a) policy cuts reply new s bit other late h =
+    let few = get_at_most what (entry_at old a) in step_late old (Event.Get what a policy cuts) reply new s bit other (omega (arith, late, few)) h
+frame_late old (Frame.SetLength way most None) policy cuts reply new s bit other late h = step_late old (Event.SetLength way most None policy cuts) reply new s bit other (omega (arith, late)) h
+frame_late old (Frame.SetLength way most (Some a)) policy cuts reply new s bit other late h = step_late old (Event.SetLength way most (Some a) policy cuts) reply new s bit other late h
 
--- a step of events that take the same cuts
-moves_as : (st : State) (settings : Settings) (c d : CutList) (names : List Named) (e f : Event) (reply : Reply) (new : Seen) → cuts_left e c ≡ cuts_left f d → (Step st e reply new.state → Step st f reply new.state)
-    → Moves (seen st settings c names) e reply new → Moves (seen st settings d names) f reply new
-moves_as st settings c d names e f reply new left step h = record { step = step h.step; fed = h.fed; settings = h.settings; cuts = h.cuts ∙ left; names = h.names }
+-- a scene with other cuts
+abbrev with_cuts : Seen → CutList → Seen
+with_cuts old cuts = seen old.state old.settings cuts old.names
+
+-- a step of events that take all cuts
+moves_as : (old : Seen) (d : CutList) (e f : Event) (reply : Reply) (new : Seen) → cuts_left e old.cuts ≡ cuts_left f d → (Step old.state e reply new.state → Step old.state f reply new.state)
+    → Moves old e reply new → Moves (with_cuts old d) f reply new
+moves_as old d e f reply new left step h = record { step = step h.step; fed = h.fed; settings = h.settings; cuts = h.cuts ∙ left; names = h.names }
 
 frame_left : (frame : Frame) (policy : Fixed) (c d : CutList) → cuts_left (event_of frame policy c) c ≡ cuts_left (event_of frame policy d) d
 frame_left Frame.Serve policy c d = refl
@@ -120,9 +123,8 @@ frame_left (Frame.Get what a) policy c d = refl
 frame_left (Frame.SetLength way most to) policy c d = refl
 
 -- and in a whole session, in which only the opening frame takes the cuts
-assigns_late : (st : State) (settings : Settings) (cuts : CutList) (names : List Named) (refused : Option Refusal) (new : Seen) (s bit more : ℕ) → 18 < bit → 18 < more
-    → Assigns (seen st settings (cut_at cuts s bit) names) refused new → Assigns (seen st settings (cut_at cuts s more) names) refused new
-assigns_late st settings cuts names refused new s bit more late later (is, inl (complete, session, told)) = (
+assigns_late : (old : Seen) (refused : Option Refusal) (new : Seen) (s bit : ℕ) → s ≢ old.state.active → 18 < bit → Assigns old refused new → Assigns (with_cuts old (cut_at old.cuts s bit)) refused new
+assigns_late old refused new s bit other late (is, inl (complete, session, told)) = (
   is,
   inl (
     complete,
@@ -131,97 +133,138 @@ assigns_late st settings cuts names refused new s bit more late later (is, inl (
       given = session.given;
       opened = session.opened;
       last = session.last;
-      opens = step_late st (Event.OpenDaa cuts) (Reply.Opened session.served) session.opened s bit more late later session.opens;
+      opens = step_late old.state (Event.OpenDaa old.cuts) (Reply.Opened session.served) session.opened s bit other late session.opens;
       gives = session.gives;
       ends = session.ends;
     },
     told,
   ),
 )
-assigns_late st settings cuts names refused new s bit more late later (is, inr (why, step, told)) =
-    (is, inr (why, step_late st (Event.OpenDaa cuts) (Reply.Refused why) new.state s bit more late later step, told))
+assigns_late old refused new s bit other late (is, inr (why, step, told)) = (is, inr (why, step_late old.state (Event.OpenDaa old.cuts) (Reply.Refused why) new.state s bit other late step, told))
 
--- a command that sends a frame does the same with two late cuts of a slot
-does_late : (old : Seen) (command : Command) (refused : Option Refusal) (new : Seen) (s bit more : ℕ) → sends command ≡ true → last_bit old.state command < bit → last_bit old.state command < more
-    → Does (cut_in old (Some s) (suc bit)) command refused new → Does (cut_in old (Some s) (suc more)) command refused new
-does_late old (Command.Frame frame) refused new s bit more e late later (fixed, accepts, (reply, moves, told)) = (
+-- a command that sends a frame does the same with such a cut
+does_late : (old : Seen) (command : Command) (refused : Option Refusal) (new : Seen) (s bit : ℕ) → sends command ≡ true → s ≢ old.state.active → last_bit old.state command < bit
+    → Does old command refused new → Does (with_cuts old (cut_at old.cuts s bit)) command refused new
+does_late old (Command.Frame frame) refused new s bit e other late (fixed, accepts, (reply, moves, told)) = (
   fixed,
   accepts,
   (
     reply,
-    moves_as old.state old.settings (cut_at old.cuts s bit) (cut_at old.cuts s more) old.names (event_of frame fixed (cut_at old.cuts s bit)) (event_of frame fixed (cut_at old.cuts s more)) reply new
-        (frame_left frame fixed (cut_at old.cuts s bit) (cut_at old.cuts s more)) (frame_late old.state frame fixed old.cuts reply new.state s bit more late later) moves,
+    moves_as old (cut_at old.cuts s bit) (event_of frame fixed old.cuts) (event_of frame fixed (cut_at old.cuts s bit)) reply new
+        (frame_left frame fixed old.cuts (cut_at old.cuts s bit)) (frame_late old.state frame fixed old.cuts reply new.state s bit other late) moves,
     told,
   ),
 )
-does_late old (Command.HandOver to) refused new s bit more e late later (reply, moves, told) = (
+does_late old (Command.HandOver to) refused new s bit e other late (reply, moves, told) = (
   reply,
-  moves_as old.state old.settings (cut_at old.cuts s bit) (cut_at old.cuts s more) old.names (Event.HandOver to (cut_at old.cuts s bit)) (Event.HandOver to (cut_at old.cuts s more)) reply new refl
-      (step_late old.state (Event.HandOver to old.cuts) reply new.state s bit more late later) moves,
+  moves_as old (cut_at old.cuts s bit) (Event.HandOver to old.cuts) (Event.HandOver to (cut_at old.cuts s bit)) reply new refl
+      (step_late old.state (Event.HandOver to old.cuts) reply new.state s bit other late) moves,
   told,
 )
-does_late old Command.Open refused new s bit more e late later (reply, moves, told) = (
+does_late old Command.Open refused new s bit e other late (reply, moves, told) = (
   reply,
-  moves_as old.state old.settings (cut_at old.cuts s bit) (cut_at old.cuts s more) old.names (Event.OpenDaa (cut_at old.cuts s bit)) (Event.OpenDaa (cut_at old.cuts s more)) reply new refl
-      (step_late old.state (Event.OpenDaa old.cuts) reply new.state s bit more late later) moves,
+  moves_as old (cut_at old.cuts s bit) (Event.OpenDaa old.cuts) (Event.OpenDaa (cut_at old.cuts s bit)) reply new refl
+      (step_late old.state (Event.OpenDaa old.cuts) reply new.state s bit other late) moves,
   told,
 )
-does_late old Command.Round refused new s bit more e late later (reply, moves, told) = (
+does_late old Command.Round refused new s bit e other late (reply, moves, told) = (
   reply,
-  moves_as old.state old.settings (cut_at old.cuts s bit) (cut_at old.cuts s more) old.names (Event.Round (cut_at old.cuts s bit)) (Event.Round (cut_at old.cuts s more)) reply new refl
-      (step_late old.state (Event.Round old.cuts) reply new.state s bit more late later) moves,
+  moves_as old (cut_at old.cuts s bit) (Event.Round old.cuts) (Event.Round (cut_at old.cuts s bit)) reply new refl
+      (step_late old.state (Event.Round old.cuts) reply new.state s bit other late) moves,
   told,
 )
-does_late old Command.Daa refused new s bit more e late later assigns = assigns_late old.state old.settings old.cuts old.names refused new s bit more late later assigns
-does_late old (Command.Attach name setup) refused new s bit more e late later does = absurd cc
-does_late old (Command.DropOff name) refused new s bit more e late later does = absurd cc
-does_late old (Command.Raise name byte) refused new s bit more e late later does = absurd cc
-does_late old (Command.AskJoin name) refused new s bit more e late later does = absurd cc
-does_late old (Command.AskRole name) refused new s bit more e late later does = absurd cc
-does_late old Command.End refused new s bit more e late later does = absurd cc
-does_late old (Command.Policy kinds) refused new s bit more e late later does = absurd cc
-does_late old (Command.Cut name at) refused new s bit more e late later does = absurd cc
-does_late old (Command.PolicyBut kinds but) refused new s bit more e late later does = absurd cc
-does_late old (Command.Forget last) refused new s bit more e late later does = absurd cc
-does_late old Command.Show refused new s bit more e late later does = absurd cc
-does_late old Command.ShowAll refused new s bit more e late later does = absurd cc
-does_late old (Command.ShowFrom first) refused new s bit more e late later does = absurd cc
-does_late old Command.Symbols refused new s bit more e late later does = absurd cc
-does_late old (Command.Frames count) refused new s bit more e late later does = absurd cc
-does_late old (Command.Legacy name address lvr) refused new s bit more e late later does = absurd cc
-does_late old (Command.Declare address identity) refused new s bit more e late later does = absurd cc
-does_late old (Command.Main name setup) refused new s bit more e late later does = absurd cc
+does_late old Command.Daa refused new s bit e other late assigns = assigns_late old refused new s bit other late assigns
+does_late old (Command.Attach name setup) refused new s bit e other late does = absurd cc
+does_late old (Command.DropOff name) refused new s bit e other late does = absurd cc
+does_late old (Command.Raise name byte) refused new s bit e other late does = absurd cc
+does_late old (Command.AskJoin name) refused new s bit e other late does = absurd cc
+does_late old (Command.AskRole name) refused new s bit e other late does = absurd cc
+does_late old Command.End refused new s bit e other late does = absurd cc
+does_late old (Command.Policy kinds) refused new s bit e other late does = absurd cc
+does_late old (Command.Cut name at) refused new s bit e other late does = absurd cc
+does_late old (Command.PolicyBut kinds but) refused new s bit e other late does = absurd cc
+does_late old (Command.Forget last) refused new s bit e other late does = absurd cc
+does_late old Command.Show refused new s bit e other late does = absurd cc
+does_late old Command.ShowAll refused new s bit e other late does = absurd cc
+does_late old (Command.ShowFrom first) refused new s bit e other late does = absurd cc
+does_late old Command.Symbols refused new s bit e other late does = absurd cc
+does_late old (Command.Frames count) refused new s bit e other late does = absurd cc
+does_late old (Command.Legacy name address lvr) refused new s bit e other late does = absurd cc
+does_late old (Command.Declare address identity) refused new s bit e other late does = absurd cc
+does_late old (Command.Main name setup) refused new s bit e other late does = absurd cc
 
--- a way that cuts behind the last bit does what each later one does
-at_risk : (old : Seen) (command : Command) (refused : Option Refusal) (new : Seen) (slot : Option ℕ) (way : ℕ) → sends command ≡ true → last_bit old.state command + 2 ≤ way
-    → Does (cut_in old slot (last_bit old.state command + 2)) command refused new → Does (cut_in old slot way) command refused new
-at_risk old command refused new None way e late does = does
-at_risk old command refused new (Some s) zero e late does = absurd (omega (arith, late))
-at_risk old command refused new (Some s) (suc more) e late does =
-    let last : last_bit old.state command + 2 ≡ suc (last_bit old.state command + 1) = omega arith in
-    does_late old command refused new s (last_bit old.state command + 1) more e (omega arith) (omega (arith, late)) (subst (λ (w : ℕ). Does (cut_in old (Some s) w) command refused new) last does)
+-- a slot that may be cut in a command's frame: the command sends one, its last bit is below `last`, and the slot isn't the active controller's
+record MayLose (st : State) (command : Command) (slot : Option ℕ) (last : ℕ) : Type 0 where
+  sent : (s : ℕ) → slot ≡ Some s → sends command ≡ true
+  other : (s : ℕ) → slot ≡ Some s → s ≢ st.active
+  ended : last_bit st command < last
 
--- the slot of the device at a place, if a frame is sent
-abbrev risked_if : State → Option Place → Bool → Option ℕ
-risked_if st place false = None
-risked_if st place true = risked st place
+risked_other : (st : State) (place : Option Place) (s : ℕ) → risked st place ≡ Some s → s ≢ st.active
+risked_other st None s is = absurd cc
+risked_other st (Some (Place.Legacy a)) s is = absurd cc
+risked_other st (Some Place.Gone) s is = absurd cc
+risked_other st (Some (Place.Slot t)) s is = go (is_some (device_at st t)) (t == st.active) refl is
+  where
+    go : (there same : Bool) → (t == st.active) ≡ same → (if there && not same then Some t else None) ≡ Some s → s ≢ st.active
+    go true true e h = absurd cc
+    go false same e h = absurd cc
+    go true false e h = λ active.
+        let is : t ≡ st.active = cc in
+        let both : (t == st.active) ≡ true = eq-eqb t st.active is in absurd cc
 
--- the same, whether or not the command sends a frame
-by_sends : (old : Seen) (command : Command) (place : Option Place) (refused : Option Refusal) (new : Seen) (way : ℕ) (b : Bool) → sends command ≡ b → last_bit old.state command + 2 ≤ way
-    → Does (cut_in old (risked_if old.state place b) (last_bit old.state command + 2)) command refused new → Does (cut_in old (risked_if old.state place b) way) command refused new
-by_sends old command place refused new way false e late does = does
-by_sends old command place refused new way true e late does = at_risk old command refused new (risked old.state place) way e late does
+slot_sent : (old : Seen) (b : Bool) (name : Name) (s : ℕ) → slot_at_risk old b name ≡ Some s → b ≡ true
+slot_sent old true name s is = refl
+slot_sent old false name s is = absurd cc
 
--- a way, or the last one of its device that has to be tried if that comes before it, stands for the way
-stands_for : (old : Seen) (command : Command) (place : Option Place) (refused : Option Refusal) (new : Seen) (way : ℕ)
-    → Does (cut_in old (risked_if old.state place (sends command)) (min way (last_bit old.state command + 2))) command refused new → Does (cut_in old (risked_if old.state place (sends command)) way) command refused new
-stands_for old command place refused new way does =
-    let last = last_bit old.state command + 2 in
-    let slot = risked_if old.state place (sends command) in
-    elim (leb_tells way last) [
-      | inl (_, le) ↦ subst (λ (w : ℕ). Does (cut_in old slot w) command refused new) (min-eq_left le) does
-      | inr (_, gt) ↦ by_sends old command place refused new way (sends command) refl (omega (arith, gt)) (subst (λ (w : ℕ). Does (cut_in old slot w) command refused new) (min-eq_right (omega (arith, gt))) does)
-    ]
+slot_other : (old : Seen) (b : Bool) (name : Name) (s : ℕ) → slot_at_risk old b name ≡ Some s → s ≢ old.state.active
+slot_other old true name s is = risked_other old.state (place_in old.names name) s is
+slot_other old false name s is = absurd cc
+
+may_lose : (old : Seen) (command : Command) (name : Name) → MayLose old.state command (slot_at_risk old (sends command) name) (suc (last_bit old.state command))
+may_lose old command name = record { sent = slot_sent old (sends command) name; other = slot_other old (sends command) name; ended = omega arith }
+
+-- a way stands for another, in each scene of this bus: what it does, the other does too
+abbrev Stands : State → Command → Option ℕ → ℕ → ℕ → Type 0
+Stands st command slot tried way = (old : Seen) → old.state ≡ st → (refused : Option Refusal) → (new : Seen) → Does (cut_in old slot tried) command refused new → Does (cut_in old slot way) command refused new
+
+-- the way in which nobody is cut stands for each way over the last one
+late_way : (old : Seen) (command : Command) (slot : Option ℕ) (last way : ℕ) (refused : Option Refusal) (new : Seen) → MayLose old.state command slot last → last < way
+    → Does (cut_in old slot 0) command refused new → Does (cut_in old slot way) command refused new
+late_way old command None last way refused new may late does = does
+late_way old command (Some s) last zero refused new may late does = does
+late_way old command (Some s) last (suc bit) refused new may late does = does_late old command refused new s bit (may.sent s refl) (may.other s refl) (omega (arith, late, may.ended)) does
+
+within_is : (last way : ℕ) → (within last way ≡ way) ⊎ ((within last way ≡ 0) × (last < way))
+within_is last way = elim (leb_tells way last) [
+  | inl (e, le) ↦ inl (ap (λ (b : Bool). if b then way else 0) e)
+  | inr (e, gt) ↦ inr (ap (λ (b : Bool). if b then way else 0) e, gt)
+]
+
+within_stands : (st : State) (command : Command) (slot : Option ℕ) (last way : ℕ) → MayLose st command slot last → Stands st command slot (within last way) way
+within_stands st command slot last way may old same refused new does = elim (within_is last way) [
+  | inl is ↦ subst (λ (w : ℕ). Does (cut_in old slot w) command refused new) is does
+  | inr (is, late) ↦
+      late_way old command slot last way refused new (subst (λ (at : State). MayLose at command slot last) (sym same) may) late (subst (λ (w : ℕ). Does (cut_in old slot w) command refused new) is does)
+]
+
+-- the way that is tried for a way of a slot's device; without a slot it is way 0
+abbrev tried_for : Option ℕ → ℕ → ℕ → ℕ
+tried_for None last way = 0
+tried_for (Some s) last way = within last way
+
+tried_stands : (st : State) (command : Command) (slot : Option ℕ) (last way : ℕ) → MayLose st command slot last → Stands st command slot (tried_for slot last way) way
+tried_stands st command None last way may old same refused new does = does
+tried_stands st command (Some s) last way may old same refused new does = within_stands st command (Some s) last way may old same refused new does
+
+within_last : (last way : ℕ) → within last way ≤ last
+within_last last way = elim (leb_tells way last) [
+  | inl (e, le) ↦ subst (λ (w : ℕ). w ≤ last) (sym (ap (λ (b : Bool). if b then way else 0) e)) le
+  | inr (e, gt) ↦ subst (λ (w : ℕ). w ≤ last) (sym (ap (λ (b : Bool). if b then way else 0) e)) (omega arith)
+]
+
+tried_last : (slot : Option ℕ) (last way : ℕ) → tried_for slot last way ≤ (if is_some slot then last else 0)
+tried_last None last way = omega arith
+tried_last (Some s) last way = within_last last way
 
 -- two cuts come to the same in both orders
 earlier_both : (had : Option ℕ) (bit more : ℕ) → earlier (Some (earlier had bit)) more ≡ earlier (Some (earlier had more)) bit
@@ -248,76 +291,79 @@ cut_keeps old None way = refl
 cut_keeps old (Some s) zero = refl
 cut_keeps old (Some s) (suc way) = refl
 
--- so a way stands for a later one where another device is cut
-stands_for_other : (old mid : Seen) (command : Command) (place : Option Place) (refused : Option Refusal) (new : Seen) (way : ℕ) → mid.state ≡ old.state
-    → Does (cut_in mid (risked_if old.state place (sends command)) (min way (last_bit old.state command + 2))) command refused new → Does (cut_in mid (risked_if old.state place (sends command)) way) command refused new
-stands_for_other old mid command place refused new way same does =
-    subst (λ (st : State). Does (cut_in mid (risked_if st place (sends command)) way) command refused new) same
-    (stands_for mid command place refused new way (subst (λ (st : State). Does (cut_in mid (risked_if st place (sends command)) (min way (last_bit st command + 2))) command refused new) (sym same) does))
-
--- and two ways for two later ones
-both_stand_for : (old : Seen) (command : Command) (place more : Option Place) (refused : Option Refusal) (new : Seen) (one other : ℕ)
-    → Does (cut_in (cut_in old (risked_if old.state place (sends command)) (min one (last_bit old.state command + 2))) (risked_if old.state more (sends command)) (min other (last_bit old.state command + 2))) command refused new
-    → Does (cut_in (cut_in old (risked_if old.state place (sends command)) one) (risked_if old.state more (sends command)) other) command refused new
-both_stand_for old command place more refused new one other does =
-    let last = last_bit old.state command + 2 in
-    let first = risked_if old.state place (sends command) in
-    let second = risked_if old.state more (sends command) in
-    let later = stands_for_other old (cut_in old first (min one last)) command more refused new other (cut_keeps old first (min one last)) does in
-    let turned = subst (λ (s : Seen). Does s command refused new) (cut_in_commutes old first second (min one last) other) later in
-    let both = stands_for_other old (cut_in old second other) command place refused new one (cut_keeps old second other) turned in
+-- two ways stand for two others
+both_stand : (old : Seen) (command : Command) (first second : Option ℕ) (tried tested one other : ℕ) → Stands old.state command first tried one → Stands old.state command second tested other → (refused : Option Refusal) (new : Seen)
+    → Does (cut_in (cut_in old first tried) second tested) command refused new → Does (cut_in (cut_in old first one) second other) command refused new
+both_stand old command first second tried tested one other for_one for_other refused new does =
+    let later = for_other (cut_in old first tried) (cut_keeps old first tried) refused new does in
+    let turned = subst (λ (s : Seen). Does s command refused new) (cut_in_commutes old first second tried other) later in
+    let both = for_one (cut_in old second other) (cut_keeps old second other) refused new turned in
     subst (λ (s : Seen). Does s command refused new) (cut_in_commutes old second first other one) both
-
--- the slot of a name's device, by its place
-placed_risk : (old : Seen) (name : Name) (b : Bool) → slot_at_risk old b name ≡ risked_if old.state (place_in old.names name) b
-placed_risk old name false = refl
-placed_risk old name true = refl
 
 -- the ways that are tried for a way do what that does
 pub runs_tried : (old : Seen) (command : Option Command) (risk : Risk) (before : Before) (new : Seen) (way : ℕ) → RunsIn old command risk (tried_as old.state risk command way) before new → Runs old command risk way before new
 runs_tried old None risk before new way runs = runs
 runs_tried old (Some command) Risk.Nobody before new way runs = runs
 runs_tried old (Some command) (Risk.One name) before new way (refused, does, came) =
-    let is = placed_risk old name (sends command) in (
-      refused,
-      subst (λ (s : Option ℕ). Does (cut_in old s way) command refused new) (sym is)
-          (stands_for old command (place_in old.names name) refused new way (subst (λ (s : Option ℕ). Does (cut_in old s (min way (last_bit old.state command + 2))) command refused new) is does)),
-      came,
-    )
+    let last = suc (last_bit old.state command) in
+    let slot = slot_at_risk old (sends command) name in
+    (refused, within_stands old.state command slot last way (may_lose old command name) old refl refused new does, came)
 runs_tried old (Some command) (Risk.Two name other) before new way (refused, does, came) =
     let ways = pair way in
-    let last = last_bit old.state command + 2 in
-    let is = placed_risk old name (sends command) in
-    let and = placed_risk old other (sends command) in
-    let moved = subst (λ (s : Option ℕ). Does (cut_in (cut_in old (risked_if old.state (place_in old.names name) (sends command)) (min ways.one last)) s (min ways.other last)) command refused new) and
-    (subst (λ (s : Option ℕ). Does (cut_in (cut_in old s (min ways.one last)) (slot_at_risk old (sends command) other) (min ways.other last)) command refused new) is does) in
-    let both = both_stand_for old command (place_in old.names name) (place_in old.names other) refused new ways.one ways.other moved in (
+    let last = suc (last_bit old.state command) in
+    let first = slot_at_risk old (sends command) name in
+    let second = slot_at_risk old (sends command) other in (
       refused,
-      subst (λ (s : Option ℕ). Does (cut_in (cut_in old (slot_at_risk old (sends command) name) ways.one) s ways.other) command refused new) (sym and)
-          (subst (λ (s : Option ℕ). Does (cut_in (cut_in old s ways.one) (risked_if old.state (place_in old.names other) (sends command)) ways.other) command refused new) (sym is) both),
+      both_stand old command first second (within last ways.one) (within last ways.other) ways.one ways.other
+          (within_stands old.state command first last ways.one (may_lose old command name)) (within_stands old.state command second last ways.other (may_lose old command other)) refused new does,
       came,
     )
 
--- a way up to the last one has the ways that are tried for a way
-pub way_tried : (st : State) (risk : Risk) (command : Option Command) (way : ℕ) → (tried : ℕ) × (tried ≤ latest st risk command) × (ways_of risk tried ≡ tried_as st risk command way)
-way_tried st Risk.Nobody command way = (0, omega arith, refl)
-way_tried st (Risk.One name) command way =
-    let last = last_cut st command in
-    let least : 0 ≤ last = omega arith in
-    (min way last, min-le_right way last, ap (λ (n : ℕ). two_ways (min way last) n) (sym (min-eq_left least)))
-way_tried st (Risk.Two name other) command way =
+-- a way up to the last one stands for a way of a line
+abbrev IsTriedFor : Seen → Option Command → Risk → ℕ → ℕ → Type 0
+IsTriedFor old command risk way tried = (tried ≤ latest old risk command) × ((before : Before) → (new : Seen) → Runs old command risk tried before new → Runs old command risk way before new)
+
+pub way_tried : (old : Seen) (command : Option Command) (risk : Risk) (way : ℕ) → (tried : ℕ) × IsTriedFor old command risk way tried
+way_tried old None risk way = (0, (omega arith, λ before new runs. runs))
+way_tried old (Some command) Risk.Nobody way = (0, (omega arith, λ before new runs. runs))
+way_tried old (Some command) (Risk.One name) way =
+    let last = suc (last_bit old.state command) in
+    let slot = slot_at_risk old (sends command) name in (
+      tried_for slot last way,
+      (
+        tried_last slot last way,
+        λ before new (refused, does, came). (refused, tried_stands old.state command slot last way (may_lose old command name) old refl refused new does, came),
+      ),
+    )
+way_tried old (Some command) (Risk.Two name other) way =
     let ways = pair way in
-    let last = last_cut st command in
-    placed last (min ways.one last) (min ways.other last) (min-le_right ways.one last) (min-le_right ways.other last)
+    let last = suc (last_bit old.state command) in
+    let first = slot_at_risk old (sends command) name in
+    let second = slot_at_risk old (sends command) other in
+    let one = tried_for first last ways.one in
+    let two = tried_for second last ways.other in
+    let most = if is_some first then last else 0 in
+    let more = if is_some second then last else 0 in
+    let fits : one ≤ max most more = omega (arith, tried_last first last ways.one, le-max_left most more) in
+    let fits_too : two ≤ max most more = omega (arith, tried_last second last ways.other, le-max_right most more) in
+    let (number, le, is) = placed (max most more) one two fits fits_too in (
+      number,
+      (
+        le,
+        λ before new runs. let (refused, does, came) = subst (λ (w : Ways). RunsIn old (Some command) (Risk.Two name other) w before new) is runs in (
+          refused,
+          both_stand old command first second one two ways.one ways.other
+              (tried_stands old.state command first last ways.one (may_lose old command name)) (tried_stands old.state command second last ways.other (may_lose old command other)) refused new does,
+          came,
+        ),
+      ),
+    )
 
 -- so each way of a line does what one of those up to the last one does
-pub line_late : (old : Seen) (line : Line) (way : ℕ) → (tried : ℕ) × (tried ≤ latest old.state line.risk line.command) × ((new : Seen) → LineSteps old line tried new → LineSteps old line way new)
+pub line_late : (old : Seen) (line : Line) (way : ℕ) → (tried : ℕ) × (tried ≤ latest old line.risk line.command) × ((new : Seen) → LineSteps old line tried new → LineSteps old line way new)
 line_late old line way =
-    let (tried, le, is) = way_tried old.state line.risk line.command way in (
-      tried,
-      le,
-      λ new (before, runs, held). (before, runs_tried old line.command line.risk before new way (subst (λ (ways : Ways). RunsIn old line.command line.risk ways before new) is runs), held),
-    )
+    let (tried, (le, leads)) = way_tried old line.command line.risk way in
+    (tried, le, λ new (before, runs, held). (before, leads before new runs, held))
 
 -- the result of a line that was tried in a way
 pub tried_of : (old live : Seen) (line : Line) (way : ℕ) (tried : Ways) (result : Result Bool AllocError) (held : Bool) (new : Seen) → live ≡ old → tried ≡ tried_as old.state line.risk line.command way → result ≡ Ok held

@@ -1,12 +1,16 @@
 -- The last way of a line that has to be tried: each later way does what some way up to this one does.
-use Rattle.std.specs.Prelude.{ℕ, ◌+◌, ◌*◌, length, Option, None, Some}
+use Rattle.std.specs.Prelude.{ℕ, suc, ◌+◌, ◌*◌, length, max, Option, None, Some, is_some, if◌then◌else◌}
 use Rattle.i3c_base.specs.State.{State}
 use Rattle.i3c_base.specs.Frames.{list_bits}
 use Rattle.i3c_step.specs.declared.events.Command.{Command as Frame}
 use Rattle.i3c_lines.specs.declared.command.Command.{Command}
+use Rattle.i3c_lines.specs.declared.names.Name.{Name}
 use Rattle.i3c_scene.specs.declared.risk.Risk.{Risk}
 use Rattle.i3c_scene.specs.declared.ways.Ways.{Ways}
-use Rattle.i3c_scene.specs.Pairs.{last_pair, pair, two_ways, up_to}
+use Rattle.i3c_scene.specs.Going.{sends}
+use Rattle.i3c_scene.specs.Pairs.{both_within, last_pair, pair, two_ways}
+use Rattle.i3c_scene.specs.Scenes.{Seen}
+use Rattle.i3c_scene.specs.Trying.{slot_at_risk}
 
 -- the number of the last bit that a frame under the role can have: a request that is served on the way takes 18 bits
 abbrev pub last_of_frame : State → Frame → ℕ
@@ -31,19 +35,24 @@ last_bit st Command.Daa = 18
 last_bit st Command.Round = 73
 last_bit st _ = 0
 
--- the last way of a device at risk that has to be tried: it is cut one bit behind the frame's last one
+-- the last way in which a device is cut at a bit of the command's frame
 abbrev pub last_cut : State → Option Command → ℕ
 last_cut st None = 0
-last_cut st (Some command) = last_bit st command + 2
+last_cut st (Some command) = suc (last_bit st command)
+
+-- the last way of a name's device that has to be tried. A device that isn't at risk has way 0 alone
+abbrev pub last_of : Seen → Option Command → Name → ℕ
+last_of old None name = 0
+last_of old (Some command) name = if is_some (slot_at_risk old (sends command) name) then last_cut old.state (Some command) else 0
 
 -- the last way of a line that has to be tried
-abbrev pub latest : State → Risk → Option Command → ℕ
-latest st Risk.Nobody command = 0
-latest st (Risk.One name) command = last_cut st command
-latest st (Risk.Two one other) command = last_pair (last_cut st command)
+abbrev pub latest : Seen → Risk → Option Command → ℕ
+latest old Risk.Nobody command = 0
+latest old (Risk.One name) command = last_of old command name
+latest old (Risk.Two one other) command = last_pair (max (last_of old command one) (last_of old command other))
 
--- the ways that are tried for a way of a line
+-- the ways that are tried for a way of a line: a device that would be cut behind the frame's last bit isn't cut
 abbrev pub tried_as : State → Risk → Option Command → ℕ → Ways
 tried_as st Risk.Nobody command way = two_ways 0 0
-tried_as st (Risk.One name) command way = up_to (last_cut st command) (two_ways way 0)
-tried_as st (Risk.Two one other) command way = up_to (last_cut st command) (pair way)
+tried_as st (Risk.One name) command way = both_within (last_cut st command) (two_ways way 0)
+tried_as st (Risk.Two one other) command way = both_within (last_cut st command) (pair way)

@@ -1,5 +1,5 @@
 -- The ways of two devices in one frame, by a number.
-use Rattle.std.specs.Prelude.{◌≡◌, ℕ, zero, suc, ◌+◌, ◌*◌, ◌==◌, min, nat_le, if◌then◌else◌}
+use Rattle.std.specs.Prelude.{◌≡◌, ℕ, zero, suc, ◌+◌, ◌*◌, ◌==◌, nat_le, if◌then◌else◌}
 use Rattle.i3c_scene.specs.declared.ways.Ways.{Ways}
 
 abbrev pub two_ways : ℕ → ℕ → Ways
@@ -18,9 +18,13 @@ pair (suc number) = next_pair (pair number).one (pair number).other
 abbrev pub last_pair : ℕ → ℕ
 last_pair last = last * last + (last + last)
 
--- these ways, each at most the last
-abbrev pub up_to : ℕ → Ways → Ways
-up_to last ways = two_ways (min ways.one last) (min ways.other last)
+-- a way, or way 0 if it is over the last one
+abbrev pub within : ℕ → ℕ → ℕ
+within last way = if nat_le way last then way else 0
+
+-- these ways, each of them 0 if it is over the last one
+abbrev pub both_within : ℕ → Ways → Ways
+both_within last ways = two_ways (within last ways.one) (within last ways.other)
 
 -- each pair of ways has a number
 abbrev pub EachIsAPair : Type 0

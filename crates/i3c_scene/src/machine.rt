@@ -1,15 +1,15 @@
 use crate::line::Line;
+use crate::live::sends;
 use crate::risk::Risk;
 use crate::runner::Runner;
 use crate::scene::Scene;
 use crate::ways::{Ways, ways_of};
+use i3c_base::Slot;
 use i3c_explore::Machine;
-use i3c_lines::Command;
+use i3c_facts::Naming;
+use i3c_lines::{Command, Name, Place};
 use i3c_step::Command as Frame;
 use std::alloc::{AllocError, Global};
-
-/// Way 1 cuts at bit 0, and a cut one bit behind the last one does nothing.
-const BEHIND: usize = 2;
 
 impl Machine for Scene {
     ghost use Rattle.std.specs.Prelude.{◌≡◌, IfOk, IfSome};
@@ -76,9 +76,10 @@ impl Machine for Scene {
 }
 
 impl Scene {
-    ghost use Rattle.std.specs.Prelude.{◌≡◌, ◌<◌, ◌≤◌, ◌+◌, ◌^◌, None, IfOk, IfSome};
-    ghost use Rattle.i3c_scene.specs.Latest.{last_bit, last_cut, last_of_frame, latest, tried_as};
-    ghost use Rattle.i3c_scene.specs.Trying.{LineBreaks, LineSteps};
+    ghost use Rattle.std.specs.Prelude.{◌≡◌, ◌<◌, ◌≤◌, ◌+◌, ◌^◌, None, is_some, IfOk, IfSome};
+    ghost use Rattle.i3c_scene.specs.Going.{risked};
+    ghost use Rattle.i3c_scene.specs.Latest.{last_bit, last_cut, last_of, last_of_frame, latest, tried_as};
+    ghost use Rattle.i3c_scene.specs.Trying.{LineBreaks, LineSteps, slot_at_risk};
 
     /// The scene after a line in a way, or none if the line breaks an expectation.
     ///
@@ -99,32 +100,65 @@ impl Scene {
 
     /// The last way of a line that has to be tried.
     fn latest(&self, line: &Line) -> usize
-        ensures way { result ≡ latest self.now.state line.now.risk line.now.command }
+        ensures way { result ≡ latest self.now line.now.risk line.now.command }
         ensures small { result < 2 ^ 32 }
     {
-        match line.risk {
+        match &line.risk {
             Risk::Nobody => 0,
-            Risk::One(_) => self.last_cut(line),
-            Risk::Two(..) => {
-                let last = self.last_cut(line);
+            Risk::One(name) => self.last_of(line, name),
+            Risk::Two(one, other) => {
+                let last = self.last_of(line, one).max(self.last_of(line, other));
                 last * last + (last + last)
             }
         }
     }
 
-    /// The last way of a device at risk that has to be tried.
-    fn last_cut(&self, line: &Line) -> usize
-        ensures way { result ≡ last_cut self.now.state line.now.command }
-        ensures small { result ≤ 4502 }
+    /// The last way of a name's device that has to be tried.
+    fn last_of(&self, line: &Line, name: &Name) -> usize
+        ensures way { result ≡ last_of self.now line.now.command name.now }
+        ensures small { result ≤ 4501 }
     {
         match &line.command {
-            Some(command) => self.last_bit(command) + BEHIND,
+            Some(command) if self.is_at_risk(sends(command), name) => self.last_cut(line),
+            _ => 0,
+        }
+    }
+
+    /// Whether a name's device may lose power in the line's frame.
+    fn is_at_risk(&self, sends: bool, name: &Name) -> bool
+        ensures { result ≡ is_some (slot_at_risk self.now sends name.now) }
+    {
+        sends && self.risked(self.rest.known.place_of(name)).is_some()
+    }
+
+    /// The slot of a present device at this place, unless it is the active controller.
+    fn risked(&self, place: Option<Place>) -> Option<Slot>
+        ensures { result ≡ risked self.now.state place }
+    {
+        let Place::Slot(slot) = place? else {
+            return None;
+        };
+        let still = &*self.rest.still;
+        if still.present(slot) && slot != still.active() {
+            Some(slot)
+        } else {
+            None
+        }
+    }
+
+    /// The last way in which a device is cut at a bit of the line's frame.
+    fn last_cut(&self, line: &Line) -> usize
+        ensures way { result ≡ last_cut self.now.state line.now.command }
+        ensures small { result ≤ 4501 }
+    {
+        match &line.command {
+            Some(command) => self.last_bit(command) + 1,
             None => 0,
         }
     }
 
-    /// The ways of the devices at risk that are tried for a way of their line. A device's way over its last one is replaced
-    /// by that, which does the same.
+    /// The ways of the devices at risk that are tried for a way of their line. A device that would be cut behind the frame's
+    /// last bit isn't cut, which does the same.
     pub(crate) fn ways_tried(&self, line: &Line, way: usize) -> Ways
         ensures ways { result ≡ tried_as self.now.state line.now.risk line.now.command way }
         ensures one { result.one < 2 ^ 16 }
@@ -132,7 +166,7 @@ impl Scene {
     {
         match line.risk {
             Risk::Nobody => Ways { one: 0, other: 0 },
-            Risk::One(_) | Risk::Two(..) => { ways_of(&line.risk, way).up_to(self.last_cut(line)) }
+            Risk::One(_) | Risk::Two(..) => { ways_of(&line.risk, way).within(self.last_cut(line)) }
         }
     }
 

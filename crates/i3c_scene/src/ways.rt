@@ -1,5 +1,5 @@
 ghost use Rattle.std.specs.Prelude.{◌≡◌, ◌≤◌};
-ghost use Rattle.i3c_scene.specs.Pairs.{EachIsAPair, pair, up_to};
+ghost use Rattle.i3c_scene.specs.Pairs.{EachIsAPair, both_within, pair, within};
 ghost use Rattle.i3c_scene.specs.Trying.{ways_of};
 
 use crate::risk::Risk;
@@ -34,15 +34,22 @@ impl Ways {
         }
     }
 
-    /// These ways, each at most `last`.
-    pub(crate) fn up_to(self, last: usize) -> Ways
-        ensures { result ≡ up_to last self }
+    /// These ways, each 0 if it is over `last`.
+    pub(crate) fn within(self, last: usize) -> Ways
+        ensures { result ≡ both_within last self }
     {
         Ways {
-            one: self.one.min(last),
-            other: self.other.min(last),
+            one: within(last, self.one),
+            other: within(last, self.other),
         }
     }
+}
+
+/// A way, or 0 if it is over `last`.
+fn within(last: usize, way: usize) -> usize
+    ensures { result ≡ within last way }
+{
+    if way <= last { way } else { 0 }
 }
 
 /// The ways of the devices at risk, by the way of their line.

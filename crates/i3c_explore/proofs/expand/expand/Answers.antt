@@ -12,7 +12,7 @@ use Rattle.i3c_explore.proofs.expand.expand.Goals as goal
 pub loop-track-preserved : goal.loop-track-preserved
 loop-track-preserved g c =
     let done = c.in-Ok.ensures in let was = c.loop-track.invariant in
-    let steps = g.M.Machine.steps in let tracks = c.args.tracks.now in let lines = own c.args.owners.now.jobs.items (length tracks) c.args.job (opening c.args.part tracks) c.args.index in let node = c.args.node.now in
+    let steps = g.M.Machine.steps in let tracks = c.args.tracks.now in let lines = own c.args.owners.now (length tracks) c.args.job (opening c.args.part tracks) c.args.index in let node = c.args.node.now in
     let old = c.args.next.now.nodes.items in let mid = c.loop-track.next.nodes.items in let new = c.take_turn.new.next.nodes.items in record {
       keeps = keeps_both old mid new was.keeps done.keeps;
       expanded = below_more _ _ (expanded_kept steps lines c.loop-track.track node mid new done.keeps was.expanded) done.tracked;
@@ -34,4 +34,4 @@ pub returns-clause-counted : goal.returns-clause-counted
 returns-clause-counted g c =
     let tracks = c.args.tracks.now in let node = c.args.node.now in
     let all : c.loop-track.track ≡ length tracks = omega arith in
-    subst (λ (count : ℕ). Gains g.M.Machine.steps tracks node c.args.next.now.nodes.items c.loop-track.next.nodes.items (by_tracks (own c.args.owners.now.jobs.items (length tracks) c.args.job (opening c.args.part tracks) c.args.index) node.places.items count)) all c.loop-track.invariant.counted
+    subst (λ (count : ℕ). Gains g.M.Machine.steps tracks node c.args.next.now.nodes.items c.loop-track.next.nodes.items (by_tracks (own c.args.owners.now (length tracks) c.args.job (opening c.args.part tracks) c.args.index) node.places.items count)) all c.loop-track.invariant.counted

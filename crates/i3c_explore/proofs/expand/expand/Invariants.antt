@@ -9,8 +9,8 @@ use Rattle.i3c_explore.proofs.expand.expand.Given as goal
 abbrev pub invariant-loop-track : goal.invariant-loop-track
 invariant-loop-track g l = record {
   keeps : Keeps l.initial.next.nodes.items l.next.nodes.items;
-  expanded : IsExpanded g.M.Machine.steps (own l.fn.owners.jobs.items (length l.fn.tracks) l.fn.job (opening l.fn.part l.fn.tracks) l.fn.index) l.track l.fn.node l.next.nodes.items;
-  counted : Gains g.M.Machine.steps l.fn.tracks l.fn.node l.initial.next.nodes.items l.next.nodes.items (by_tracks (own l.fn.owners.jobs.items (length l.fn.tracks) l.fn.job (opening l.fn.part l.fn.tracks) l.fn.index) l.fn.node.places.items l.track);
+  expanded : IsExpanded g.M.Machine.steps (own l.fn.owners (length l.fn.tracks) l.fn.job (opening l.fn.part l.fn.tracks) l.fn.index) l.track l.fn.node l.next.nodes.items;
+  counted : Gains g.M.Machine.steps l.fn.tracks l.fn.node l.initial.next.nodes.items l.next.nodes.items (by_tracks (own l.fn.owners (length l.fn.tracks) l.fn.job (opening l.fn.part l.fn.tracks) l.fn.index) l.fn.node.places.items l.track);
   near : IsTrue l.again → g.M.Machine.near l.runner l.fn.node.state;
   from : AreFrom g.M.Machine.steps (opening l.fn.part l.fn.tracks) l.fn.node l.initial.next.nodes.items l.next.nodes.items;
 }

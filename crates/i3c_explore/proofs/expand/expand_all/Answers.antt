@@ -7,5 +7,5 @@ use Rattle.i3c_explore.proofs.expand.expand_all.Goals as goal
 
 pub returns-in-Ok-clause-next : goal.returns-in-Ok-clause-next
 returns-in-Ok-clause-next g c =
-    let tracks = c.args.tracks.now in let lines = opening c.args.part tracks in let layer = c.args.layer.now in let owners = c.none-owners.result.jobs.items in
+    let tracks = c.args.tracks.now in let lines = opening c.args.part tracks in let layer = c.args.layer.now in let owners = c.none-owners.result in
     next_alike g.M.Machine.steps tracks lines (own owners (length tracks) 0 lines) (λ _. lines) layer 0 (length layer) c.in-Ok.next.nodes.items (own_alone owners (length tracks) lines c.none-owners.ensures) c.in-Ok.ensures.next

@@ -11,12 +11,12 @@ use Rattle.i3c_explore.proofs.expand.expand_turns.Goals as goal
 pub loop-index-init : goal.loop-index-init
 loop-index-init g c =
     let tracks = c.args.tracks.now in let lines = opening c.args.part tracks in
-    next_none g.M.Machine.steps tracks lines (own c.args.owners.now.jobs.items (length tracks) c.args.job lines) c.args.layer.now 0 c.new-next.result.nodes.items (ap length c.new-next.ensures.nodes)
+    next_none g.M.Machine.steps tracks lines (own c.args.owners.now (length tracks) c.args.job lines) c.args.layer.now 0 c.new-next.result.nodes.items (ap length c.new-next.ensures.nodes)
 
 pub loop-index-preserved : goal.loop-index-preserved
 loop-index-preserved g c =
     let done = c.in-Ok.ensures in let was = c.loop-index.invariant in
-    let steps = g.M.Machine.steps in let tracks = c.args.tracks.now in let lines = opening c.args.part tracks in let count = length tracks in let ran = own c.args.owners.now.jobs.items count c.args.job lines in let layer = c.args.layer.now in let index = c.loop-index.index in
+    let steps = g.M.Machine.steps in let tracks = c.args.tracks.now in let lines = opening c.args.part tracks in let count = length tracks in let ran = own c.args.owners.now count c.args.job lines in let layer = c.args.layer.now in let index = c.loop-index.index in
     let old = c.loop-index.next.nodes.items in let new = c.expand.new.next.nodes.items in let node = c.index-layer-index.result in
     let lt : index < length layer = omega arith in record {
       expanded = below_more _ _ (passed_kept steps ran count layer 0 index old new done.keeps was.expanded) (λ le. passed_here steps (ran index) count layer index node new c.index-layer-index.is done.expanded);
@@ -34,4 +34,4 @@ pub returns-clause-next : goal.returns-clause-next
 returns-clause-next g c =
     let tracks = c.args.tracks.now in let lines = opening c.args.part tracks in
     let all : c.loop-index.index ≡ length c.args.layer.now = omega arith in
-    subst (λ (k : ℕ). IsNextOf g.M.Machine.steps tracks lines (own c.args.owners.now.jobs.items (length tracks) c.args.job lines) c.args.layer.now 0 k c.loop-index.next.nodes.items) all c.loop-index.invariant
+    subst (λ (k : ℕ). IsNextOf g.M.Machine.steps tracks lines (own c.args.owners.now (length tracks) c.args.job lines) c.args.layer.now 0 k c.loop-index.next.nodes.items) all c.loop-index.invariant

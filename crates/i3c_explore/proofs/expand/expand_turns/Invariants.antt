@@ -6,4 +6,4 @@ use Rattle.i3c_explore.proofs.expand.expand_turns.Given as goal
 
 -- the layer follows the nodes so far
 abbrev pub invariant-loop-index : goal.invariant-loop-index
-invariant-loop-index g l = IsNextOf g.M.Machine.steps l.fn.tracks (opening l.fn.part l.fn.tracks) (own l.fn.owners.jobs.items (length l.fn.tracks) l.fn.job (opening l.fn.part l.fn.tracks)) l.fn.layer 0 l.index l.next.nodes.items
+invariant-loop-index g l = IsNextOf g.M.Machine.steps l.fn.tracks (opening l.fn.part l.fn.tracks) (own l.fn.owners (length l.fn.tracks) l.fn.job (opening l.fn.part l.fn.tracks)) l.fn.layer 0 l.index l.next.nodes.items

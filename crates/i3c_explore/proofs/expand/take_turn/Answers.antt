@@ -21,7 +21,7 @@ returns-in-Ok-clause-from g c =
 
 pub returns-in-Ok-clause-counted : goal.returns-in-Ok-clause-counted
 returns-in-Ok-clause-counted g c =
-    let steps = g.M.Machine.steps in let tracks = c.args.tracks.now in let lines = opening c.args.part tracks in let owners = c.args.owners.now.jobs.items in let node = c.args.node.now in
+    let steps = g.M.Machine.steps in let tracks = c.args.tracks.now in let lines = opening c.args.part tracks in let owners = c.args.owners.now in let node = c.args.node.now in
     let new = c.run_track.new.next.nodes.items in
     let is : takes owners (length tracks) c.args.job c.args.index c.args.track ≡ true = (let e = c.takes.ensures in let f = c.if-not-takes.false in search rules) in
     let more = subst (λ (v : VecValue (NodeValue g.row.M.Denot)). Gains steps tracks node v.items new (by_track lines node.places.items c.args.track)) c.turn_to.ensures c.in-Ok.ensures.counted in

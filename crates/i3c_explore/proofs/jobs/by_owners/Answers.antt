@@ -13,7 +13,7 @@ use Rattle.i3c_explore.proofs.jobs.by_owners.Goals as goal
 pub returns-in-Ok : goal.returns-in-Ok
 returns-in-Ok g c =
     let steps = g.M.Machine.steps in let tracks = c.args.tracks.now in let count = length tracks in let lines = opening c.args.part tracks in let layer = c.args.layer.now in
-    let made = c.in_ok-layers.layers.items in let owners = c.in_ok-owners.owners.jobs.items in let jobs = c.args.jobs in let new = c.in-Ok.next.nodes.items in
+    let made = c.in_ok-layers.layers.items in let owners = c.in_ok-owners.owners in let jobs = c.args.jobs in let new = c.in-Ok.next.nodes.items in
     let (joined, are, moved) = c.in-Ok.ensures in
     let all = jobs_follow steps tracks lines owners layer c.in_ok-all.all.items made 0 jobs [] joined (let e = c.in_ok-layers.ensures.len in search rules)
     (λ i lt job one.
