@@ -12,6 +12,7 @@ use Rattle.i3c_explore.specs.declared.stop.Stop.{Stop}
 use Rattle.i3c_explore.specs.declared.twin.Twin.{Twin}
 use Rattle.i3c_explore.specs.Layers.{ArePut, IsAlikeAt, IsPut}
 use Rattle.i3c_explore.specs.Jobs.{AreJoined, AreNodesOf}
+use Rattle.i3c_explore.specs.Moves.{AreMoved}
 use Rattle.i3c_explore.specs.Twins.{AllTwins, AreFound, AreTwins}
 use Rattle.i3c_explore.proofs.Joining.{put_more}
 use Rattle.i3c_explore.proofs.Lists.{contains_get, get_before_push, get_contains, get_push, get_set_other, push_cases}
@@ -34,6 +35,13 @@ joined_of_all {S} [] nodes old new none put = subst (λ (l : List (Node S)). Are
 joined_of_all {S} (Ok layer ∷ made) nodes old new (later, is, rest) put =
     let (mid, front, back) = put_parts old layer.nodes.items later new (subst (λ (l : List (Node S)). ArePut old l new) is put) in (mid, front, joined_of_all made later mid new rest back)
 joined_of_all (Err stop ∷ made) nodes old new never put = absurd never
+
+-- so a layer with the nodes that were put, in whatever order, has those of all layers
+pub joined_in_order : {S : Type 0} (made : List (Result (Layer S) Stop)) (nodes : List (Node S)) (result : Result (Layer S) Stop) → AreNodesOf made nodes
+    → IfOk result (λ (both : Layer S). (put : List (Node S)) × ArePut [] nodes put × AreMoved put both.nodes.items)
+    → IfOk result (λ (both : Layer S). (joined : List (Node S)) × AreJoined [] made joined × AreMoved joined both.nodes.items)
+joined_in_order made nodes (Ok both) are (put, is, moved) = (put, joined_of_all made nodes [] put are is, moved)
+joined_in_order made nodes (Err stop) are done = tt
 
 -- what is known of a place stays known where a node is put
 pub alike_kept : {S : Type 0} (old new : List (Node S)) (node : Node S) → IsPut old node new → (place : ℕ) (places : List ℕ) (state : S) → IsAlikeAt old place places state → IsAlikeAt new place places state

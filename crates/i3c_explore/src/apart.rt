@@ -3,7 +3,6 @@ ghost use Rattle.i3c_explore.specs.Fronts.{nodes_left};
 ghost use Rattle.i3c_explore.specs.Jobs.{AreNodesOf};
 
 use crate::front::Front;
-use crate::gathered::take_steps;
 use crate::layer::{Found, Layer};
 use crate::limits::Limits;
 use crate::machine::Machine;
@@ -24,6 +23,18 @@ pub(crate) struct Apart<M> {
     pub limits: Limits,
 }
 
+/// Takes the steps of a job, by the limits with which it began and those that are left to it.
+fn take_steps(limits: &mut Limits, begun: Limits, left: Limits) -> Result<(), Stop> {
+    let steps = begun.steps.saturating_sub(left.steps);
+    match limits.steps.checked_sub(steps) {
+        Some(left) => {
+            limits.steps = left;
+            Ok(())
+        }
+        None => Err(Stop::Most),
+    }
+}
+
 impl<M: Machine> Apart<M> {
     /// Adds what a job found that began with these limits.
     fn add(&mut self, layer: Layer<M>, limits: Limits) -> Result<(), Stop>
@@ -33,14 +44,14 @@ impl<M: Machine> Apart<M> {
             nodes,
             limits: left,
             mut spares,
-            index: _,
+            index,
             ranks,
             codes,
         } = layer.taken_apart();
         take_steps(&mut self.limits, limits, left)?;
         self.count = self.count.saturating_add(nodes.len());
         self.spares.append(&mut spares)?;
-        match self.fronts.push(Front::new(nodes, ranks, codes)) {
+        match self.fronts.push(Front::new(nodes, index, ranks, codes)) {
             Ok(()) => Ok(()),
             Err(_) => Err(Stop::Memory),
         }

@@ -1,6 +1,7 @@
 ghost use Rattle.std.specs.Prelude.{◌≡◌, ◌++◌, ◌∷◌, List, Contains, IfOk, IfSome, OnOk, Some, [], length, slice_get};
 ghost use Rattle.i3c_explore.specs.declared.node.Node.{Node as NodeValue};
 ghost use Rattle.i3c_explore.specs.declared.twin.Twin.{Twin as TwinValue};
+ghost use Rattle.i3c_explore.specs.Fronts.{nodes_left};
 ghost use Rattle.i3c_explore.specs.Layers.{ArePut, IsAlikeAt, IsPut};
 ghost use Rattle.i3c_explore.specs.Jobs.{AreJoined};
 ghost use Rattle.i3c_explore.specs.Moves.{AreMoved};
@@ -130,25 +131,21 @@ where
     M::Runner: Send,
     ensures { IfOk result (λ both. (joined : List (NodeValue M)) × AreJoined [] layers.items joined × AreMoved joined both.nodes.items) }
 {
-    if overlap {
-        overlapping(rt, alloc, layers, limits)
-    } else {
-        joined(alloc, layers, limits)
-    }
-}
-
-/// The layers of all jobs as one, where no lines of two jobs lead to the same places.
-fn joined<M: Machine>(
-    alloc: Global,
-    layers: Vec<Result<Layer<M>, Stop>>,
-    limits: Limits,
-) -> Result<Layer<M>, Stop>
-    ensures { IfOk result (λ both. (joined : List (NodeValue M)) × AreJoined [] layers.items joined × AreMoved joined both.nodes.items) }
-{
     let all = match kept_apart(alloc, layers, limits) {
         Ok(all) => all,
         Err(stop) => return Err(stop),
     };
+    if overlap {
+        overlapping(rt, alloc, all)
+    } else {
+        joined(alloc, all)
+    }
+}
+
+/// What all jobs found, as one layer, where no lines of two jobs lead to the same places.
+fn joined<M: Machine>(alloc: Global, all: Apart<M>) -> Result<Layer<M>, Stop>
+    ensures { IfOk result (λ both. (put : List (NodeValue M)) × ArePut [] (nodes_left all.fronts.items) put × AreMoved put both.nodes.items) }
+{
     let Apart {
         fronts,
         count,
@@ -166,23 +163,19 @@ fn joined<M: Machine>(
     Ok(layer)
 }
 
-/// The layers of all jobs as one, where some of their nodes can be like one another.
+/// What all jobs found, as one layer, where some of their nodes can be like one another.
 fn overlapping<R: Threads + Sync, M: Machine + Send + Sync>(
     rt: &R,
     alloc: Global,
-    layers: Vec<Result<Layer<M>, Stop>>,
-    limits: Limits,
+    all: Apart<M>,
 ) -> Result<Layer<M>, Stop>
 where
     M::Line: Sync,
     M::Runner: Send,
-    ensures { IfOk result (λ both. (joined : List (NodeValue M)) × AreJoined [] layers.items joined × AreMoved joined both.nodes.items) }
+    ensures { IfOk result (λ both. (put : List (NodeValue M)) × ArePut [] (nodes_left all.fronts.items) put × AreMoved put both.nodes.items) }
 {
-    let all = match gather(alloc, layers, limits) {
-        Ok(all) => all,
-        Err(stop) => return Err(stop),
-    };
-    let mut layer = match without_twins(rt, alloc, all) {
+    let gathered = gather(alloc, all)?;
+    let mut layer = match without_twins(rt, alloc, gathered) {
         Ok(layer) => layer,
         Err(stop) => return Err(stop),
     };

@@ -1,5 +1,5 @@
 use borrow.Author.Count.{below_more}
-use Rattle.std.proofs.Common.{◌≡◌, ◌<◌, ◌≤◌, suc, arith, length, subst, None, Some}
+use Rattle.std.proofs.Common.{◌≡◌, ◌<◌, arith, length, subst, None, Some}
 use Rattle.i3c_explore.specs.Shares.{IsLed}
 use Rattle.i3c_explore.proofs.Counting.{gains_line, gains_no_line, gains_way}
 use Rattle.i3c_explore.proofs.Sharing.{added_none}

@@ -1,12 +1,9 @@
-use Rattle.std.proofs.Common.{◌++◌, ◌∷◌, [], Result, subst, sym}
-use Rattle.i3c_explore.specs.declared.layer.Layer.{Layer}
-use Rattle.i3c_explore.specs.declared.stop.Stop.{Stop}
-use Rattle.i3c_explore.specs.Jobs.{AreNodesOf}
-use Rattle.i3c_explore.proofs.Merging.{nodes_more}
+use Rattle.std.proofs.Common.{◌++◌, ◌∙◌, List, ap, sym}
+use Rattle.i3c_explore.specs.declared.node.Node.{Node}
+use Rattle.i3c_explore.proofs.Fronts.{left_more}
 use Rattle.i3c_explore.proofs.gathered.gather.Goals as goal
 
-pub loop-made-preserved : goal.loop-made-preserved
-loop-made-preserved g c =
-    let layers = c.loop-made.yielded in let layer = c.in-Ok.layer in let new = c.add.new.self.nodes.items in
-    subst (λ (made : Result (Layer g.row.M.Denot) Stop). AreNodesOf (layers ++ made ∷ []) new) (sym c.in-Ok.is)
-    (nodes_more layers layer c.loop-made.all.nodes.items new c.loop-made.invariant c.in-Ok-add.ensures)
+pub loop-front-preserved : goal.loop-front-preserved
+loop-front-preserved g c =
+    let front = c.in-Some.front in
+    c.in_ok-add.ensures ∙ ap (λ (l : List (Node g.row.M.Denot)). l ++ front.nodes.items) c.loop-front.invariant ∙ sym (left_more c.loop-front.yielded front)

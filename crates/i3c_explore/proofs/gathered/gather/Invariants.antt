@@ -1,6 +1,7 @@
-use Rattle.i3c_explore.specs.Jobs.{AreNodesOf}
+use Rattle.std.proofs.Common.{◌≡◌}
+use Rattle.i3c_explore.specs.Fronts.{nodes_left}
 use Rattle.i3c_explore.proofs.gathered.gather.Given as goal
 
--- the nodes are those of the layers so far
-abbrev pub invariant-loop-made : goal.invariant-loop-made
-invariant-loop-made g l = AreNodesOf l.yielded l.all.nodes.items
+-- the nodes are those of the jobs so far
+abbrev pub invariant-loop-front : goal.invariant-loop-front
+invariant-loop-front g l = l.gathered.nodes.items ≡ nodes_left l.yielded

@@ -1,10 +1,9 @@
 use Rattle.std.proofs.Common.{[], refl}
 use Rattle.i3c_explore.specs.Fronts.{nodes_left}
 use Rattle.i3c_explore.proofs.Following.{put_first}
-use Rattle.i3c_explore.proofs.Merging.{joined_of_all}
 use Rattle.i3c_explore.proofs.merged.joined.Goals as goal
 
 pub returns : goal.returns
 returns g c =
-    let nodes = nodes_left c.in-Ok.all.fronts.items in
-    (nodes, joined_of_all c.args.layers.items nodes [] nodes c.in-Ok.ensures (put_first [] nodes refl), c.in_ok-nodes.ensures)
+    let nodes = nodes_left c.args.all.fronts.items in
+    (nodes, put_first [] nodes refl, c.in_ok-nodes.ensures)

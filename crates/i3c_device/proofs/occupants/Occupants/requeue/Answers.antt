@@ -1,5 +1,5 @@
 -- What waits changes, and nothing else.
-use Rattle.std.proofs.Common.{ℕ, ◌<◌, ◌∙◌, ap, arith, length, length-set, None, option_map, Some, List}
+use Rattle.std.proofs.Common.{◌<◌, ◌∙◌, ap, arith, length, length-set, None, option_map, List}
 use Rattle.std.proofs.lemmas.List.{get_or_default, get_or-set_same}
 use Rattle.i3c_base.specs.declared.device.Waiting.{Waiting}
 use Rattle.i3c_base.specs.State.{Device, in_slot}
