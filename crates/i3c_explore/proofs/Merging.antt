@@ -30,7 +30,7 @@ put_parts old [] other new put = (old, refl, put)
 put_parts old (n ∷ one) other new (next, first, rest) = let (mid, front, back) = put_parts next one other new rest in (mid, (next, first, front), back)
 
 -- the nodes of all layers, put one after another, are those layers joined
-pub joined_of_all : {S : Type 0} (made : List (Result (Layer S) Stop)) (nodes old new : List (Node S)) → AreNodesOf made nodes → ArePut old nodes new → AreJoined old made new
+joined_of_all : {S : Type 0} (made : List (Result (Layer S) Stop)) (nodes old new : List (Node S)) → AreNodesOf made nodes → ArePut old nodes new → AreJoined old made new
 joined_of_all {S} [] nodes old new none put = subst (λ (l : List (Node S)). ArePut old l new) none put
 joined_of_all {S} (Ok layer ∷ made) nodes old new (later, is, rest) put =
     let (mid, front, back) = put_parts old layer.nodes.items later new (subst (λ (l : List (Node S)). ArePut old l new) is put) in (mid, front, joined_of_all made later mid new rest back)

@@ -131,6 +131,7 @@ pub(crate) struct Boundary {
     // the track that counts most
     track: u32,
     target: u64,
+    /// 0 unless jobs share these places.
     pub node: usize,
 }
 
@@ -254,7 +255,8 @@ fn behind(bundles: &mut Vec<Bundle>, division: Division) -> Result<Vec<Bundle>, 
     Ok(later)
 }
 
-/// The boundary in front of some sorted bundles. Where the first of them was divided, it begins at a node.
+/// The boundary in front of some sorted bundles. If the first of them was divided, it is at that bundle's first node.
+/// Otherwise it is in front of all lines of the bundle.
 fn boundary_before(later: &[Bundle], track: u32, divided: bool) -> Boundary {
     match later.first() {
         Some(first) => Boundary {

@@ -25,7 +25,7 @@ pub(crate) struct Gathered<M> {
 }
 
 impl<M: Machine> Gathered<M> {
-    /// Adds what is left of a job's nodes.
+    /// Adds the nodes of a job, none of which was taken yet.
     fn add(&mut self, front: Front<M>) -> Result<(), AllocError>
         ensures { OnOk result (self.new.nodes.items ≡ self.old.nodes.items ++ front.nodes.items) }
     {

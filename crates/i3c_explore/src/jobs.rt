@@ -42,7 +42,7 @@ struct Job<M> {
     number: usize,
     // nodes whose room the job may take
     spares: Vec<Node<M>>,
-    // nodes that the job lets go
+    // nodes that the job frees
     surplus: Vec<Node<M>>,
 }
 
@@ -121,7 +121,7 @@ fn expand_job<M: Machine>(
     }
 }
 
-/// The nodes behind as many as a layer can take the room of.
+/// The spare nodes beyond as many as the layer has.
 fn surplus_of<M: Machine>(
     spares: &mut Vec<Node<M>>,
     layer: &[Node<M>],
@@ -129,7 +129,7 @@ fn surplus_of<M: Machine>(
     spares.split_off(layer.len().min(spares.len()))
 }
 
-/// The layer that follows all nodes of a layer. Each job runs the lines that it owns, on a thread of its own.
+/// The layer that follows all nodes of a layer. Each job runs the lines that it owns.
 fn by_owners<R: Threads + Sync, M: Machine + Send + Sync>(
     rt: &R,
     alloc: Global,

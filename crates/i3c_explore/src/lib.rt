@@ -14,7 +14,7 @@
 //! [`explore_part`] tries the orders of one [`Part`] alone. Each order is in exactly one part, and the parts' numbers of
 //! orders add up ([`parts_share_all`]).
 //!
-//! [`explore_on`] does so by several jobs, each on a thread of its own. Each line that runs from a node of a layer is of
+//! [`explore_on`] does so by several jobs: one on the calling thread, each other one on a thread of its own. Each line that runs from a node of a layer is of
 //! one job, by the places that it leads to. So equal states are found by one job, which keeps them once. Only where many
 //! lines lead to the same places, several jobs share these, and states that two of them found are merged. Then the nodes
 //! are brought into the order in which one thread finds them. Where a job breaks an expectation or reaches a limit, one

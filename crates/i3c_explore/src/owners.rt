@@ -156,8 +156,8 @@ fn owners_by_node(
 }
 
 /// Shares out the lines that run from a layer's nodes among `jobs` jobs, by the places that they lead to. One job then
-/// finds equal states, unless `overlap` says that some are shared. The jobs run about as many lines, each counted in all
-/// its ways.
+/// finds equal states, unless `overlap` says that some are shared. The jobs run about as many lines, each counted in the
+/// ways of the first node at its places.
 pub(crate) fn owners_of<M: Machine>(
     alloc: Global,
     layer: &[Node<M>],

@@ -171,7 +171,7 @@ pub fn explore_part<M: Machine>(
     }
 }
 
-/// Tries every order of a part by `jobs` jobs, each on a thread of its own. The answer is that of [`explore_part`], with
+/// Tries every order of a part by `jobs` jobs. The answer is that of [`explore_part`], with
 /// the same nodes, orders and numbers. A watcher is told how far it is, and when it is over.
 ///
 /// # Errors

@@ -38,7 +38,7 @@ use Rattle.i3c_scene.specs.Scenes.{Seen, place_in, seen}
 use Rattle.i3c_scene.specs.Trying.{LineBreaks, LineSteps, Runs, RunsIn, all_hold, slot_at_risk, ways_of}
 use Rattle.i3c_scene.proofs.Pairs.{placed}
 
--- a late cut of another device than the active controller allows the same steps
+-- with a late cut of a device that isn't the active controller, each step of the uncut frame is allowed
 step_late : (old : State) (event : Event) (reply : Reply) (new : State) (s bit : ℕ) → s ≢ old.active → most_bits old event < bit → Step old event reply new → Step old (recut (and_cut s bit) event) reply new
 step_late old event reply new s bit other late h =
     let same = λ (cuts : CutList). cuts in
@@ -80,13 +80,13 @@ length_at_most st way a = go (is_some (legacy_target_at st a)) (least_length_fro
     go true least l = omega arith
     go false least l = l
 
--- so does it in a frame under the role
+-- the same in a frame under the role
 frame_late : (old : State) (frame : Frame) (policy : Fixed) (cuts : CutList) (reply : Reply) (new : State) (s bit : ℕ) → s ≢ old.active → last_of_frame old frame < bit
     → Step old (event_of frame policy cuts) reply new → Step old (event_of frame policy (cut_at cuts s bit)) reply new
 frame_late old Frame.Serve policy cuts reply new s bit other late h = step_late old (Event.Serve policy cuts) reply new s bit other late h
-frame_late old (Frame.Enec None kinds) policy cuts reply new s bit other late h = step_late old (Event.Enec None kinds policy cuts) reply new s bit other (omega (arith, late)) h
+frame_late old (Frame.Enec None kinds) policy cuts reply new s bit other late h = step_late old (Event.Enec None kinds policy cuts) reply new s bit other late h
 frame_late old (Frame.Enec (Some a) kinds) policy cuts reply new s bit other late h = step_late old (Event.Enec (Some a) kinds policy cuts) reply new s bit other late h
-frame_late old (Frame.Disec None kinds) policy cuts reply new s bit other late h = step_late old (Event.Disec None kinds policy cuts) reply new s bit other (omega (arith, late)) h
+frame_late old (Frame.Disec None kinds) policy cuts reply new s bit other late h = step_late old (Event.Disec None kinds policy cuts) reply new s bit other late h
 frame_late old (Frame.Disec (Some a) kinds) policy cuts reply new s bit other late h = step_late old (Event.Disec (Some a) kinds policy cuts) reply new s bit other late h
 frame_late old Frame.Reset policy cuts reply new s bit other late h = step_late old (Event.Reset policy cuts) reply new s bit other late h
 frame_late old Frame.SendList policy cuts reply new s bit other late h = step_late old (Event.SendList policy cuts) reply new s bit other late h
@@ -97,14 +97,14 @@ frame_late old (Frame.SetStatic f to) policy cuts reply new s bit other late h =
 frame_late old (Frame.SetNew a to) policy cuts reply new s bit other late h = step_late old (Event.SetNew a to policy cuts) reply new s bit other late h
 frame_late old (Frame.Get what a) policy cuts reply new s bit other late h =
     let few = get_at_most what (entry_at old a) in step_late old (Event.Get what a policy cuts) reply new s bit other (omega (arith, late, few)) h
-frame_late old (Frame.SetLength way most None) policy cuts reply new s bit other late h = step_late old (Event.SetLength way most None policy cuts) reply new s bit other (omega (arith, late)) h
+frame_late old (Frame.SetLength way most None) policy cuts reply new s bit other late h = step_late old (Event.SetLength way most None policy cuts) reply new s bit other late h
 frame_late old (Frame.SetLength way most (Some a)) policy cuts reply new s bit other late h = step_late old (Event.SetLength way most (Some a) policy cuts) reply new s bit other late h
 
 -- a scene with other cuts
 abbrev with_cuts : Seen → CutList → Seen
 with_cuts old cuts = seen old.state old.settings cuts old.names
 
--- a step of events that take all cuts
+-- a step of an event is one of another event with other cuts, if both leave the same cuts
 moves_as : (old : Seen) (d : CutList) (e f : Event) (reply : Reply) (new : Seen) → cuts_left e old.cuts ≡ cuts_left f d → (Step old.state e reply new.state → Step old.state f reply new.state)
     → Moves old e reply new → Moves (with_cuts old d) f reply new
 moves_as old d e f reply new left step h = record { step = step h.step; fed = h.fed; settings = h.settings; cuts = h.cuts ∙ left; names = h.names }
@@ -142,7 +142,7 @@ assigns_late old refused new s bit other late (is, inl (complete, session, told)
 )
 assigns_late old refused new s bit other late (is, inr (why, step, told)) = (is, inr (why, step_late old.state (Event.OpenDaa old.cuts) (Reply.Refused why) new.state s bit other late step, told))
 
--- a command that sends a frame does the same with such a cut
+-- a command that sends a frame does the same with a late cut
 does_late : (old : Seen) (command : Command) (refused : Option Refusal) (new : Seen) (s bit : ℕ) → sends command ≡ true → s ≢ old.state.active → last_bit old.state command < bit
     → Does old command refused new → Does (with_cuts old (cut_at old.cuts s bit)) command refused new
 does_late old (Command.Frame frame) refused new s bit e other late (fixed, accepts, (reply, moves, told)) = (
@@ -223,11 +223,11 @@ slot_other old false name s is = absurd cc
 may_lose : (old : Seen) (command : Command) (name : Name) → MayLose old.state command (slot_at_risk old (sends command) name) (suc (last_bit old.state command))
 may_lose old command name = record { sent = slot_sent old (sends command) name; other = slot_other old (sends command) name; ended = omega arith }
 
--- a way stands for another, in each scene of this bus: what it does, the other does too
-abbrev Stands : State → Command → Option ℕ → ℕ → ℕ → Type 0
-Stands st command slot tried way = (old : Seen) → old.state ≡ st → (refused : Option Refusal) → (new : Seen) → Does (cut_in old slot tried) command refused new → Does (cut_in old slot way) command refused new
+-- a way covers another, in each scene of this bus: what it does, the other does too
+abbrev Covers : State → Command → Option ℕ → ℕ → ℕ → Type 0
+Covers st command slot tried way = (old : Seen) → old.state ≡ st → (refused : Option Refusal) → (new : Seen) → Does (cut_in old slot tried) command refused new → Does (cut_in old slot way) command refused new
 
--- the way in which nobody is cut stands for each way over the last one
+-- the way in which nobody is cut covers each way over the last one
 late_way : (old : Seen) (command : Command) (slot : Option ℕ) (last way : ℕ) (refused : Option Refusal) (new : Seen) → MayLose old.state command slot last → last < way
     → Does (cut_in old slot 0) command refused new → Does (cut_in old slot way) command refused new
 late_way old command None last way refused new may late does = does
@@ -240,8 +240,8 @@ within_is last way = elim (leb_tells way last) [
   | inr (e, gt) ↦ inr (ap (λ (b : Bool). if b then way else 0) e, gt)
 ]
 
-within_stands : (st : State) (command : Command) (slot : Option ℕ) (last way : ℕ) → MayLose st command slot last → Stands st command slot (within last way) way
-within_stands st command slot last way may old same refused new does = elim (within_is last way) [
+within_covers : (st : State) (command : Command) (slot : Option ℕ) (last way : ℕ) → MayLose st command slot last → Covers st command slot (within last way) way
+within_covers st command slot last way may old same refused new does = elim (within_is last way) [
   | inl is ↦ subst (λ (w : ℕ). Does (cut_in old slot w) command refused new) is does
   | inr (is, late) ↦
       late_way old command slot last way refused new (subst (λ (at : State). MayLose at command slot last) (sym same) may) late (subst (λ (w : ℕ). Does (cut_in old slot w) command refused new) is does)
@@ -252,9 +252,9 @@ abbrev tried_for : Option ℕ → ℕ → ℕ → ℕ
 tried_for None last way = 0
 tried_for (Some s) last way = within last way
 
-tried_stands : (st : State) (command : Command) (slot : Option ℕ) (last way : ℕ) → MayLose st command slot last → Stands st command slot (tried_for slot last way) way
-tried_stands st command None last way may old same refused new does = does
-tried_stands st command (Some s) last way may old same refused new does = within_stands st command (Some s) last way may old same refused new does
+tried_covers : (st : State) (command : Command) (slot : Option ℕ) (last way : ℕ) → MayLose st command slot last → Covers st command slot (tried_for slot last way) way
+tried_covers st command None last way may old same refused new does = does
+tried_covers st command (Some s) last way may old same refused new does = within_covers st command (Some s) last way may old same refused new does
 
 within_last : (last way : ℕ) → within last way ≤ last
 within_last last way = elim (leb_tells way last) [
@@ -291,10 +291,10 @@ cut_keeps old None way = refl
 cut_keeps old (Some s) zero = refl
 cut_keeps old (Some s) (suc way) = refl
 
--- two ways stand for two others
-both_stand : (old : Seen) (command : Command) (first second : Option ℕ) (tried tested one other : ℕ) → Stands old.state command first tried one → Stands old.state command second tested other → (refused : Option Refusal) (new : Seen)
+-- two ways cover two others
+both_cover : (old : Seen) (command : Command) (first second : Option ℕ) (tried tested one other : ℕ) → Covers old.state command first tried one → Covers old.state command second tested other → (refused : Option Refusal) (new : Seen)
     → Does (cut_in (cut_in old first tried) second tested) command refused new → Does (cut_in (cut_in old first one) second other) command refused new
-both_stand old command first second tried tested one other for_one for_other refused new does =
+both_cover old command first second tried tested one other for_one for_other refused new does =
     let later = for_other (cut_in old first tried) (cut_keeps old first tried) refused new does in
     let turned = subst (λ (s : Seen). Does s command refused new) (cut_in_commutes old first second tried other) later in
     let both = for_one (cut_in old second other) (cut_keeps old second other) refused new turned in
@@ -307,19 +307,19 @@ runs_tried old (Some command) Risk.Nobody before new way runs = runs
 runs_tried old (Some command) (Risk.One name) before new way (refused, does, came) =
     let last = suc (last_bit old.state command) in
     let slot = slot_at_risk old (sends command) name in
-    (refused, within_stands old.state command slot last way (may_lose old command name) old refl refused new does, came)
+    (refused, within_covers old.state command slot last way (may_lose old command name) old refl refused new does, came)
 runs_tried old (Some command) (Risk.Two name other) before new way (refused, does, came) =
     let ways = pair way in
     let last = suc (last_bit old.state command) in
     let first = slot_at_risk old (sends command) name in
     let second = slot_at_risk old (sends command) other in (
       refused,
-      both_stand old command first second (within last ways.one) (within last ways.other) ways.one ways.other
-          (within_stands old.state command first last ways.one (may_lose old command name)) (within_stands old.state command second last ways.other (may_lose old command other)) refused new does,
+      both_cover old command first second (within last ways.one) (within last ways.other) ways.one ways.other
+          (within_covers old.state command first last ways.one (may_lose old command name)) (within_covers old.state command second last ways.other (may_lose old command other)) refused new does,
       came,
     )
 
--- a way up to the last one stands for a way of a line
+-- a way up to the last one covers a way of a line
 abbrev IsTriedFor : Seen → Option Command → Risk → ℕ → ℕ → Type 0
 IsTriedFor old command risk way tried = (tried ≤ latest old risk command) × ((before : Before) → (new : Seen) → Runs old command risk tried before new → Runs old command risk way before new)
 
@@ -332,7 +332,7 @@ way_tried old (Some command) (Risk.One name) way =
       tried_for slot last way,
       (
         tried_last slot last way,
-        λ before new (refused, does, came). (refused, tried_stands old.state command slot last way (may_lose old command name) old refl refused new does, came),
+        λ before new (refused, does, came). (refused, tried_covers old.state command slot last way (may_lose old command name) old refl refused new does, came),
       ),
     )
 way_tried old (Some command) (Risk.Two name other) way =
@@ -352,8 +352,8 @@ way_tried old (Some command) (Risk.Two name other) way =
         le,
         λ before new runs. let (refused, does, came) = subst (λ (w : Ways). RunsIn old (Some command) (Risk.Two name other) w before new) is runs in (
           refused,
-          both_stand old command first second one two ways.one ways.other
-              (tried_stands old.state command first last ways.one (may_lose old command name)) (tried_stands old.state command second last ways.other (may_lose old command other)) refused new does,
+          both_cover old command first second one two ways.one ways.other
+              (tried_covers old.state command first last ways.one (may_lose old command name)) (tried_covers old.state command second last ways.other (may_lose old command other)) refused new does,
           came,
         ),
       ),

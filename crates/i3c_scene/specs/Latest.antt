@@ -15,8 +15,10 @@ use Rattle.i3c_scene.specs.Trying.{slot_at_risk}
 -- the number of the last bit that a frame under the role can have: a request that is served on the way takes 18 bits
 abbrev pub last_of_frame : State → Frame → ℕ
 last_of_frame st Frame.Serve = 9
-last_of_frame st (Frame.Enec to kinds) = 45
-last_of_frame st (Frame.Disec to kinds) = 45
+last_of_frame st (Frame.Enec None kinds) = 36
+last_of_frame st (Frame.Enec (Some at) kinds) = 45
+last_of_frame st (Frame.Disec None kinds) = 36
+last_of_frame st (Frame.Disec (Some at) kinds) = 45
 last_of_frame st Frame.Reset = 27
 last_of_frame st Frame.SendList = 18 + list_bits st
 last_of_frame st (Frame.ReadFrom at) = 171
@@ -24,7 +26,8 @@ last_of_frame st (Frame.WriteTo at bytes) = 27 + 9 * length bytes.items
 last_of_frame st (Frame.SetStatic at to) = 45
 last_of_frame st (Frame.SetNew at to) = 45
 last_of_frame st (Frame.Get what at) = 90
-last_of_frame st (Frame.SetLength way most to) = 54
+last_of_frame st (Frame.SetLength way most None) = 45
+last_of_frame st (Frame.SetLength way most (Some at)) = 54
 
 -- the number of the last bit that a command's frame can have; 0 if it sends none
 abbrev pub last_bit : State → Command → ℕ
@@ -40,7 +43,7 @@ abbrev pub last_cut : State → Option Command → ℕ
 last_cut st None = 0
 last_cut st (Some command) = suc (last_bit st command)
 
--- the last way of a name's device that has to be tried. A device that isn't at risk has way 0 alone
+-- the last way of a name's device that has to be tried. A device that can't be cut in the frame has way 0 alone
 abbrev pub last_of : Seen → Option Command → Name → ℕ
 last_of old None name = 0
 last_of old (Some command) name = if is_some (slot_at_risk old (sends command) name) then last_cut old.state (Some command) else 0

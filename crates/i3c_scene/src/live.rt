@@ -286,7 +286,7 @@ impl Live {
         }
     }
 
-    /// The slot of a present device at this place, unless it is the active controller.
+    /// The slot of a present device at this place, unless that device is the active controller.
     fn risked(&self, place: Option<Place>) -> Option<Slot>
         ensures { result ≡ risked self.now.state place }
     {

@@ -131,7 +131,7 @@ impl Scene {
         sends && self.risked(self.rest.known.place_of(name)).is_some()
     }
 
-    /// The slot of a present device at this place, unless it is the active controller.
+    /// The slot of a present device at this place, unless that device is the active controller.
     fn risked(&self, place: Option<Place>) -> Option<Slot>
         ensures { result ≡ risked self.now.state place }
     {
@@ -191,12 +191,15 @@ impl Scene {
     {
         match frame {
             Frame::Serve => 9,
-            Frame::Enec(..) | Frame::Disec(..) | Frame::SetStatic(..) | Frame::SetNew(..) => 45,
+            Frame::Enec(None, _) | Frame::Disec(None, _) => 36,
+            Frame::Enec(Some(_), _) | Frame::Disec(Some(_), _) => 45,
+            Frame::SetStatic(..) | Frame::SetNew(..) => 45,
             Frame::Reset => 27,
             Frame::SendList => 18 + usize::from(self.rest.still.list_bits()),
             Frame::ReadFrom(_) => 171,
             Frame::Get(..) => 90,
-            Frame::SetLength(..) => 54,
+            Frame::SetLength(_, _, None) => 45,
+            Frame::SetLength(_, _, Some(_)) => 54,
             Frame::WriteTo(_, bytes) => 27 + 9 * bytes.len(),
         }
     }

@@ -1,65 +1,11 @@
 -- What a run of the program came to, and its exit status.
-use Rattle.std.specs.Prelude.{ℕ, ◌==◌, Bool, true, false, Option, Some, None, Result, Ok, Err, if◌then◌else◌}
-use Rattle.i3c_frame.specs.declared.traces.TraceFault.{TraceFault}
+use Rattle.std.specs.Prelude.{ℕ, Bool, true, false, Result, Ok, Err}
+use Rattle.i3c_cli.specs.declared.fault.Fault.{Fault}
+use Rattle.i3c_cli.specs.Endings.{tally_status, told_as}
 use Rattle.i3c_scenario.specs.declared.faults.ScriptFault.{ScriptFault}
 use Rattle.i3c_scenario.specs.declared.script.Tally.{Tally}
-use Rattle.i3c_scenario.specs.declared.report.StressFault.{StressFault}
 use Rattle.i3c_tracks.specs.declared.answer.Answer.{Answer}
-use Rattle.i3c_wave.specs.declared.capture_fault.CaptureFault.{CaptureFault}
-use Rattle.i3c_wave.specs.declared.fault.WaveFault.{WaveFault}
-use Rattle.i3cbus.specs.declared.fault.Fault.{Fault}
 use Rattle.i3cbus.specs.declared.ending.Ending.{Ending}
-
--- a script's fault, as standard error is told
-abbrev pub told_as : ScriptFault → Fault
-told_as ScriptFault.Memory = Fault.Memory
-told_as ScriptFault.Read = Fault.Read
-told_as ScriptFault.Write = Fault.Write
-told_as ScriptFault.TooLarge = Fault.TooLarge
-
--- the program's fault for a fault of devices on threads
-abbrev pub stress_told_as : StressFault → Fault
-stress_told_as StressFault.Memory = Fault.Memory
-stress_told_as StressFault.NotBalanced = Fault.NotBalanced
-
--- the program's fault for a fault of a waveform
-abbrev pub wave_told_as : WaveFault → Fault
-wave_told_as WaveFault.Memory = Fault.Memory
-wave_told_as WaveFault.Read = Fault.Read
-wave_told_as WaveFault.Write = Fault.Write
-wave_told_as WaveFault.TooLarge = Fault.TooLarge
-
--- the program's fault for a fault of a capture
-abbrev pub capture_told_as : CaptureFault → Fault
-capture_told_as CaptureFault.Memory = Fault.Memory
-capture_told_as CaptureFault.Read = Fault.Read
-capture_told_as fault = Fault.Capture fault
-
--- a fault of the command line is want of memory, or told in the parser's own words
-abbrev pub IsOfWords : Fault → Type 0
-IsOfWords Fault.Memory = Unit {0}
-IsOfWords (Fault.Usage words) = Unit {0}
-IsOfWords Fault.Read = ⊥
-IsOfWords Fault.Write = ⊥
-IsOfWords Fault.TooLarge = ⊥
-IsOfWords Fault.NotBalanced = ⊥
-IsOfWords Fault.Legacy = ⊥
-IsOfWords Fault.Part = ⊥
-IsOfWords (Fault.Capture fault) = ⊥
-IsOfWords (Fault.NoForm reason) = ⊥
-
--- a script's own fault comes first; output that isn't taken to its end is lost
-abbrev pub ending : Result Tally ScriptFault → Bool → Result Tally Fault
-ending (Err fault) flushed = Err (told_as fault)
-ending (Ok tally) true = Ok tally
-ending (Ok tally) false = Err Fault.Write
-
--- a waveform's own fault comes first; a trace with a fault is a refused line
-abbrev pub wave_ending : Result (Option TraceFault) WaveFault → Bool → Result Tally Fault
-wave_ending (Err fault) flushed = Err (wave_told_as fault)
-wave_ending (Ok fault) false = Err Fault.Write
-wave_ending (Ok None) true = Ok (record { refused = 0; unmet = 0 })
-wave_ending (Ok (Some fault)) true = Ok (record { refused = 1; unmet = 0 })
 
 -- an exploration's own fault comes first; output that isn't taken to its end is lost
 abbrev pub explore_ending : Result Answer ScriptFault → Bool → Result Ending Fault
@@ -77,11 +23,6 @@ abbrev pub answer_status : Answer → ℕ
 answer_status Answer.Holds = 0
 answer_status Answer.Refused = 1
 answer_status Answer.Breaks = 3
-
--- 0 if each line was done and each expectation met, 1 if a line was refused, 3 if an expectation wasn't met, refused lines or
--- not
-abbrev pub tally_status : Tally → ℕ
-tally_status tally = if tally.unmet == 0 then (if tally.refused == 0 then 0 else 1) else 3
 
 -- the status of lines, or of an exploration; 2 if the script or the exploration wasn't done to its end
 abbrev pub exit_status : Result Ending Fault → ℕ

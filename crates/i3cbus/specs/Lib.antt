@@ -1,4 +1,1 @@
-pub mod Drawings
 pub mod Endings
-pub mod Wavings
-pub mod Words

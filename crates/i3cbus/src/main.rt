@@ -7,16 +7,9 @@
 //! end. A script ends with 3 if an expectation isn't met, and `explore` if an order breaks one.
 #![tactic(auto)]
 
-mod drawing;
 mod ending;
-mod fault;
 mod run;
-mod standard_error;
-mod stressing;
-mod task;
-mod version;
 mod watcher;
-mod waving;
 
 use std::io::IsTerminal;
 use std::process::ExitCode;

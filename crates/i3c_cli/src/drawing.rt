@@ -1,6 +1,6 @@
 ghost use Rattle.std.specs.Prelude.{◌≡◌, ◌++◌, codes, OnOk};
 ghost use Rattle.i3c_draw.specs.Pictures.{head_text, line, picture_text};
-ghost use Rattle.i3cbus.specs.Drawings.{IsDrawn, IsWritten};
+ghost use Rattle.i3c_cli.specs.Drawings.{IsDrawn, IsWritten};
 
 use i3c_draw::Picture;
 use i3c_frame::Symbol;
@@ -14,7 +14,7 @@ const MOST_BYTES: usize = 16_777_216;
 
 /// Runs a script, and writes a picture of it once it was run to its end. With a fault nothing is written, unless writing is what
 /// failed.
-pub(crate) fn draw_script<R: Read, W: Write>(
+pub fn draw_script<R: Read, W: Write>(
     alloc: Global,
     reader: &mut R,
     out: &mut W,
@@ -38,7 +38,7 @@ struct Drawing {
 }
 
 impl Drawing {
-    ghost use Rattle.i3cbus.specs.Drawings.{IsBlank};
+    ghost use Rattle.i3c_cli.specs.Drawings.{IsBlank};
 
     /// A picture without rows.
     fn new(alloc: Global) -> Drawing
@@ -52,7 +52,7 @@ impl Drawing {
 
 // A line that is empty has no row.
 impl Viewer for Drawing {
-    ghost use Rattle.i3cbus.specs.Drawings.{Draws, DrawsNot};
+    ghost use Rattle.i3c_cli.specs.Drawings.{Draws, DrawsNot};
 
     ghost view_gives = { Draws };
 

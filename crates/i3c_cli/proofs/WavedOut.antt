@@ -13,7 +13,7 @@ use Rattle.i3c_scenario.specs.Viewed.{AreRun, AreSeen, Fails, Shown, ViewedGoes,
 use Rattle.i3c_scenario.proofs.Gathered.{flush_all, flush_some, puts_both, puts_none, some_puts}
 use Rattle.i3c_scenario.proofs.TraceWritten.{front_out}
 use Rattle.i3c_scenario.proofs.ViewRuns.{bytes_more}
-use Rattle.i3cbus.specs.Wavings.{Dumping, FailsLine, GoesLast, IsWaved, WavesLine, WentOut, after_wire, dump_at, script_dump, seen_dump, shown_dump}
+use Rattle.i3c_cli.specs.Wavings.{Dumping, FailsLine, GoesLast, IsWaved, WavesLine, WentOut, after_wire, dump_at, script_dump, seen_dump, shown_dump}
 
 -- the dump after lines, one after another
 abbrev after_lines : ℕ → Wave → List Shown → Wave

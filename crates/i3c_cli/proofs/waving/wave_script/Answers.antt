@@ -2,9 +2,9 @@ use Rattle.std.proofs.Common.{◌∙◌, ◌++◌, ap, sym}
 use Rattle.i3c_wave.specs.Dump.{free_bus}
 use Rattle.i3c_wave.specs.Scripts.{script_preamble}
 use Rattle.i3c_scenario.specs.Outcomes.{output}
-use Rattle.i3cbus.specs.Wavings.{dump_at}
-use Rattle.i3cbus.proofs.WavedOut.{waved_by}
-use Rattle.i3cbus.proofs.waving.wave_script.Goals as goal
+use Rattle.i3c_cli.specs.Wavings.{dump_at}
+use Rattle.i3c_cli.proofs.WavedOut.{waved_by}
+use Rattle.i3c_cli.proofs.waving.wave_script.Goals as goal
 
 pub returns : goal.returns
 returns g c =

@@ -5,7 +5,7 @@ use thiserror::Error;
 
 /// Why the program gives up, as standard error is told.
 #[derive(Debug, Drop, Error)]
-pub(crate) enum Fault {
+pub enum Fault {
     /// The words of the command line mean nothing, or ask for help: the parser's own text, line feeds and all.
     #[error("{0}")]
     Usage(clap::Error),
@@ -33,7 +33,7 @@ pub(crate) enum Fault {
 
 impl From<ScriptFault> for Fault {
     ghost use Rattle.std.specs.Prelude.{◌≡◌};
-    ghost use Rattle.i3cbus.specs.Endings.{told_as};
+    ghost use Rattle.i3c_cli.specs.Endings.{told_as};
 
     ghost from_gives = { λ fault told. told ≡ told_as fault };
 
@@ -49,7 +49,7 @@ impl From<ScriptFault> for Fault {
 
 impl From<WaveFault> for Fault {
     ghost use Rattle.std.specs.Prelude.{◌≡◌};
-    ghost use Rattle.i3cbus.specs.Endings.{wave_told_as};
+    ghost use Rattle.i3c_cli.specs.Endings.{wave_told_as};
 
     ghost from_gives = { λ fault told. told ≡ wave_told_as fault };
 
@@ -65,7 +65,7 @@ impl From<WaveFault> for Fault {
 
 impl From<CaptureFault> for Fault {
     ghost use Rattle.std.specs.Prelude.{◌≡◌};
-    ghost use Rattle.i3cbus.specs.Endings.{capture_told_as};
+    ghost use Rattle.i3c_cli.specs.Endings.{capture_told_as};
 
     ghost from_gives = { λ fault told. told ≡ capture_told_as fault };
 
@@ -80,7 +80,7 @@ impl From<CaptureFault> for Fault {
 
 impl From<AllocError> for Fault {
     ghost use Rattle.std.specs.Prelude.{◌≡◌};
-    ghost use Rattle.i3cbus.specs.declared.fault.Fault.TheVariants.{Memory};
+    ghost use Rattle.i3c_cli.specs.declared.fault.Fault.TheVariants.{Memory};
 
     ghost from_gives = { λ _ fault. fault ≡ Memory };
 
@@ -91,7 +91,7 @@ impl From<AllocError> for Fault {
 
 // The parser's want of memory isn't told in its words.
 impl From<clap::Error> for Fault {
-    ghost use Rattle.i3cbus.specs.Endings.{IsOfWords};
+    ghost use Rattle.i3c_cli.specs.Endings.{IsOfWords};
 
     ghost from_gives = { λ _ fault. IsOfWords fault };
 

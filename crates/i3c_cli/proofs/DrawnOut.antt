@@ -3,7 +3,7 @@ use Rattle.std.proofs.Common.{◌≡◌, ℕ, Bool, false, nat_eq, length, List,
 use Rattle.std.specs.Io.KnownBytes.{Appends}
 use Rattle.i3c_frame.specs.declared.symbols.Symbol.{Symbol}
 use Rattle.i3c_draw.specs.declared.picture.Picture.{Picture}
-use Rattle.i3cbus.specs.Drawings.{DrawsLine, DrawsRow, IsWritten}
+use Rattle.i3c_cli.specs.Drawings.{DrawsLine, DrawsRow, IsWritten}
 use Rattle.i3c_scenario.specs.declared.faults.ScriptFault.{ScriptFault}
 use Rattle.i3c_scenario.specs.Outcomes.{AppendsSome}
 use Rattle.i3c_scenario.proofs.Gathered.{nothing_out, some_after}

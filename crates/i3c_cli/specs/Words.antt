@@ -1,7 +1,7 @@
 -- What the words of the command line ask for.
 use Rattle.std.specs.Prelude.{◌≡◌, codes}
-use Rattle.i3cbus.specs.declared.task.Task.{Task}
-use Rattle.i3cbus.specs.declared.task.Work.{Work}
+use Rattle.i3c_cli.specs.declared.task.Task.{Task}
+use Rattle.i3c_cli.specs.declared.task.Work.{Work}
 
 -- the script on standard input is run
 abbrev pub RunsInput : Task → Type 0

@@ -5,8 +5,8 @@ use Rattle.i3c_draw.specs.Pictures.{head_text, line}
 use Rattle.i3c_scenario.specs.declared.faults.ScriptFault.{ScriptFault}
 use Rattle.i3c_scenario.specs.Outcomes.{AppendsSome}
 use Rattle.i3c_scenario.proofs.TraceWritten.{some_out}
-use Rattle.i3cbus.proofs.DrawnOut.{first_cut, three_out}
-use Rattle.i3cbus.proofs.drawing.write_picture.Goals as goal
+use Rattle.i3c_cli.proofs.DrawnOut.{first_cut, three_out}
+use Rattle.i3c_cli.proofs.drawing.write_picture.Goals as goal
 
 pub returns-in-Err-write_out : goal.returns-in-Err-write_out
 returns-in-Err-write_out g c =

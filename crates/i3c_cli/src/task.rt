@@ -1,5 +1,5 @@
 ghost use Rattle.std.specs.Prelude.{◌≡◌, ◌<◌, length, IsOkAnd};
-ghost use Rattle.i3cbus.specs.Words.{RunsInput};
+ghost use Rattle.i3c_cli.specs.Words.{RunsInput};
 
 use crate::fault::Fault;
 use clap::{Arg, ArgAction, ArgGroup, ArgMatches, Command, value_parser};
@@ -14,7 +14,7 @@ use std::alloc::Global;
 const PROGRAM: &str = "i3cbus";
 
 /// The file that stands for standard input.
-pub(crate) const STANDARD_INPUT: &str = "-";
+pub const STANDARD_INPUT: &str = "-";
 
 /// The command that runs a script.
 const RUN: &str = "run";
@@ -187,7 +187,7 @@ docs/EXPLORING.md has all of it; examples/explore/ has files.";
 
 /// What the program does.
 #[derive(Clone, Copy)]
-pub(crate) enum Task<'a> {
+pub enum Task<'a> {
     /// Reads this file, and does this with it.
     File(Work, &'a str),
     /// Reads this file as a capture, and tells its symbols.
@@ -202,7 +202,7 @@ pub(crate) enum Task<'a> {
 
 /// What the program does with a file.
 #[derive(Clone, Copy, Debug, PartialEq, Eq)]
-pub(crate) enum Work {
+pub enum Work {
     /// Runs it as a script.
     Run,
     /// Runs it as a script, and shows more of it.
@@ -223,7 +223,7 @@ pub(crate) enum Work {
 
 /// How a trace is told.
 #[derive(Clone, Copy, Debug, PartialEq, Eq)]
-pub(crate) enum Telling {
+pub enum Telling {
     /// What it means.
     Plain,
     /// With its faults. Legacy targets have these addresses.
@@ -234,7 +234,7 @@ pub(crate) enum Telling {
 
 /// How a capture is to be read.
 #[derive(Clone, Copy)]
-pub(crate) struct Capturing<'a> {
+pub struct Capturing<'a> {
     /// The names of the signals that are SCL and SDA.
     pub scl: &'a str,
     pub sda: &'a str,
@@ -246,7 +246,7 @@ pub(crate) struct Capturing<'a> {
 
 /// How many devices post, and how often each tries to.
 #[derive(Clone, Copy)]
-pub(crate) struct Stress {
+pub struct Stress {
     pub devices: u8,
     pub posts: u64,
     /// Whether the totals of the posts are printed too.
@@ -254,7 +254,7 @@ pub(crate) struct Stress {
 }
 
 /// What the command line's words ask for, which come without the program's. No words at all mean `run -`.
-pub(crate) fn task_named<'a>(alloc: Global, words: &'a [String]) -> Result<Task<'a>, Fault>
+pub fn task_named<'a>(alloc: Global, words: &'a [String]) -> Result<Task<'a>, Fault>
     ensures none { length words.now ≡ 0 → IsOkAnd result RunsInput }
 {
     if words.is_empty() {

@@ -9,7 +9,7 @@ use Rattle.i3c_scenario.specs.declared.faults.ScriptFault.{ScriptFault}
 use Rattle.i3c_scenario.specs.declared.script.Tally.{Tally}
 use Rattle.i3c_scenario.specs.Outcomes.{AppendsSome}
 use Rattle.i3c_scenario.specs.Viewed.{ViewedGoes}
-use Rattle.i3cbus.specs.declared.drawing.Drawing.{Drawing}
+use Rattle.i3c_cli.specs.declared.drawing.Drawing.{Drawing}
 
 -- a picture without rows: the first is below the legend
 abbrev pub IsBlank : Picture → Type 0

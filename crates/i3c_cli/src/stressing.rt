@@ -29,7 +29,7 @@ impl<R: Eprint> Gate for Progress<'_, R> {
 
 /// Lets devices post from threads of their own, and prints that each post is accounted for. Tells its progress if standard
 /// error is a terminal.
-pub(crate) fn run_stress<R: Threads + Wait + Sync + Print + Eprint + AllocGlobal>(
+pub fn run_stress<R: Threads + Wait + Sync + Print + Eprint + AllocGlobal>(
     rt: &R,
     asked: &Stress,
     is_watched: bool,
@@ -83,7 +83,7 @@ fn print_report<R: Print>(
 
 impl From<StressFault> for Fault {
     ghost use Rattle.std.specs.Prelude.{◌≡◌};
-    ghost use Rattle.i3cbus.specs.Endings.{stress_told_as};
+    ghost use Rattle.i3c_cli.specs.Endings.{stress_told_as};
 
     ghost from_gives = { λ fault told. told ≡ stress_told_as fault };
 

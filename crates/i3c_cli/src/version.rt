@@ -12,7 +12,7 @@ const COMMIT: &str = "0863153";
 const KIT: &str = "rattle-kit-13f logic dac8208d650f15bf";
 
 /// Prints which program this is.
-pub(crate) fn print_version<R: Print>(rt: &R) -> Result<Tally, Fault> {
+pub fn print_version<R: Print>(rt: &R) -> Result<Tally, Fault> {
     match println!(rt; "i3cbus {VERSION}\ncommit {COMMIT} or later\nkit {KIT}") {
         Ok(()) => Ok(Tally {
             refused: 0,

@@ -1,7 +1,7 @@
 use Rattle.std.proofs.Common.{◌≡◌, ◌++◌, length}
 use Rattle.i3c_wave.specs.Dump.{symbols_dump}
-use Rattle.i3cbus.specs.Wavings.{after_wire}
-use Rattle.i3cbus.proofs.waving.push_wire.Given as goal
+use Rattle.i3c_cli.specs.Wavings.{after_wire}
+use Rattle.i3c_cli.proofs.waving.push_wire.Given as goal
 
 -- the symbols that are left to append
 abbrev pub invariant-loop-rest : goal.invariant-loop-rest

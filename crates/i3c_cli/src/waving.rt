@@ -1,7 +1,7 @@
 ghost use Rattle.std.specs.Prelude.{◌≡◌, ◌++◌, MatchResult, OnOk};
 ghost use Rattle.i3c_wave.specs.Dump.{symbols_dump};
 ghost use Rattle.i3c_scenario.specs.Outcomes.{AppendsSome, PutsOrFails, WritesFront, output};
-ghost use Rattle.i3cbus.specs.Wavings.{GoesLast, IsWaved, after_wire, line_dump};
+ghost use Rattle.i3c_cli.specs.Wavings.{GoesLast, IsWaved, after_wire, line_dump};
 
 use i3c_base::Addresses;
 use i3c_frame::Symbol;
@@ -16,7 +16,7 @@ const GATHERED: usize = 1024;
 
 /// Runs a script, and writes the value change dump (IEEE 1364) of its wire, with its lines and what they printed, to a writer that
 /// it gives back. Legacy targets have these addresses. What lines sent before a fault goes out too.
-pub(crate) fn wave_script<R: Read, W: Write>(
+pub fn wave_script<R: Read, W: Write>(
     alloc: Global,
     legacies: Addresses,
     reader: &mut R,
@@ -59,7 +59,7 @@ struct Waving<W> {
 
 // A line without symbols isn't in the dump.
 impl<W: Write> Viewer for Waving<W> {
-    ghost use Rattle.i3cbus.specs.Wavings.{FailsLine, WavesLine, dump_at};
+    ghost use Rattle.i3c_cli.specs.Wavings.{FailsLine, WavesLine, dump_at};
 
     ghost view_gives = { λ old line printed wire new. WavesLine (dump_at old.legacies.0 old.wave (W.contents old.out) old.text) line printed wire (dump_at new.legacies.0 new.wave (W.contents new.out) new.text) };
 

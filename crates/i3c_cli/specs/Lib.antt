@@ -1,0 +1,4 @@
+pub mod Drawings
+pub mod Endings
+pub mod Wavings
+pub mod Words
