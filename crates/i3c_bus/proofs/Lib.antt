@@ -20,3 +20,4 @@ mod Asked
 pub mod RoundsMore
 mod Settings
 pub mod Nearby
+mod Differing

@@ -15,8 +15,11 @@ use std::alloc::{AllocError, Global};
 use std::marker::Model;
 use std::mem;
 
-/// Of how many of the last records the slots are hashed.
+/// Of how many of the last records the slots and bytes are hashed.
 const HASHED: usize = 8;
+
+/// For how many more records a copy has room, so that it is refilled and not made anew where the log has grown.
+const SPARE: usize = 4;
 
 /// A bus at rest. Nobody has its role in hand, so it can be dropped, and it can be woken more than once.
 ///
@@ -71,7 +74,8 @@ impl Bus {
         key = key_with(key, self.devices.key());
         let first = self.records.len().saturating_sub(HASHED);
         for record in &self.records[first..] {
-            key = key_with(key, record.slot.index() as u64);
+            let byte = u64::from(record.byte.unwrap_or(0));
+            key = key_with(key, record.slot.index() as u64 ^ byte << 8);
         }
         // one pass without a branch; a device that still waits or wishes is in the devices' key, by its slot
         let mut raises = 0u64;
@@ -337,16 +341,16 @@ fn key_with(key: u64, more: u64) -> u64 {
         .rotate_left(23)
 }
 
-/// Whether both are the same numbers, slot by slot. All are looked at, which is faster than to stop at the first that
-/// differs.
+/// Whether both are the same numbers, slot by slot. All are looked at, and bits that differ are gathered in one word: that
+/// is faster than to stop at the first number that differs.
 fn are_equal(numbers: &[u64; SLOTS], others: &[u64; SLOTS]) -> bool
     ensures { IsTrue result ↔ (numbers.now ≡ others.now) }
 {
-    let mut same = true;
+    let mut differing = 0;
     for index in 0..SLOTS {
-        same = same & (numbers[index] == others[index]);
+        differing |= numbers[index] ^ others[index];
     }
-    same
+    differing == 0
 }
 
 /// Whether both are the same records, in the same order.
@@ -459,11 +463,11 @@ fn settle_targets(
     }
 }
 
-/// The same records once more.
+/// The same records once more, with room for some more.
 fn records_again(alloc: Global, records: &Vec<Record>) -> Result<Vec<Record>, AllocError>
     ensures { IfOk result (λ copy. copy.items ≡ records.now.items) }
 {
-    let mut copy = Vec::with_capacity(alloc, records.len())?;
+    let mut copy = Vec::with_capacity(alloc, records.len().saturating_add(SPARE))?;
     copy.extend_from_slice(records.as_slice())?;
     Ok(copy)
 }

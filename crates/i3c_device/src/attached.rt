@@ -7,7 +7,7 @@ ghost use Rattle.i3c_device.specs.ByteFields.{HaveSameByteFields, FitBytes, fiel
 use crate::answering::NOWHERE;
 use crate::byte_address::ByteAddress;
 use crate::flag::Flag;
-use crate::queues::{are_same, copied, copy_from};
+use crate::queues::{are_same, copied, copy_from, queue_key};
 use arrayvec::ArrayVec;
 use i3c_base::{
     Addr7, Datum, Direction, Identity, Length, REGISTERS, RaiseRefusal, Request, Setup, WAITING,
@@ -237,6 +237,11 @@ impl Attached {
         ensures { result ≡ length self.now.waiting }
     {
         self.waiting.len()
+    }
+
+    /// A number that equal queues have in common, of its interrupts that wait.
+    pub fn queue_key(&self) -> u64 {
+        queue_key(&self.waiting)
     }
 
     /// Whether it takes the controller role when it is offered.

@@ -4,7 +4,7 @@ use crate::driven_requests::{enter_requests, slots_with};
 use crate::enabled::Enabled;
 use crate::kinds::named;
 use crate::occupants::Occupants;
-use crate::places::{address_in, byte_in, front_in, identity_in, waiting_in};
+use crate::places::{address_in, byte_in, front_in, identity_in, queue_key, waiting_in};
 use crate::resting::Resting;
 use crate::slot_set::{SlotSet, lost_slots};
 use crate::slot_update::{
@@ -185,7 +185,8 @@ impl Devices {
         present.and(self.enabled.roles).has(slot.index())
     }
 
-    /// A number that equal devices have in common: of their enabled kinds of events, and of their wishes.
+    /// A number that equal devices have in common: of their enabled kinds of events, of their wishes, and of the interrupts
+    /// of one slot that wait.
     pub fn key(&self) -> u64 {
         let marks = self.occupants.marks();
         let interrupts = marks.present.and(self.enabled.interrupts).bits();
@@ -194,7 +195,16 @@ impl Devices {
         let kinds = interrupts ^ roles.rotate_left(21) ^ joins.rotate_left(42);
         let wishes = marks.interrupting.bits() ^ marks.asking.bits().rotate_left(21);
         let others = marks.joining.bits() ^ marks.unaddressed.bits().rotate_left(21);
-        kinds ^ wishes.rotate_left(11) ^ others.rotate_left(33)
+        let queue = self.queue_key(marks.interrupting).rotate_left(55);
+        kinds ^ wishes.rotate_left(11) ^ others.rotate_left(33) ^ queue
+    }
+
+    // The same of the interrupts that wait in the lowest of these slots.
+    fn queue_key(&self, slots: SlotSet) -> u64 {
+        match slots.lowest() {
+            Some(slot) => queue_key(self.occupants.at(slot)),
+            None => 0,
+        }
     }
 
     /// A device enters a slot.

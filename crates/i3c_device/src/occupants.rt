@@ -63,11 +63,22 @@ impl Occupants {
         let mut left = self.marks.present.or(kept.present());
         while let Some(index) = left.take_lowest() {
             let slot = Slot::from_index(index);
-            self.wake_at(slot, kept.at(slot));
+            self.wake_place(slot, kept.at(slot));
         }
     }
 
-    /// Puts a device into a slot, or none.
+    /// Puts a device into a slot, or none. Where the same is there already, nothing is written.
+    fn wake_place(&mut self, slot: Slot, device: Option<&Attached>)
+        ensures put { self.new ≡ slice_set self.old slot (option_copied device.entry) }
+        ensures slots { length self.old ≡ SLOT_COUNT }
+    {
+        match device {
+            Some(device) if is_here(device, self.at(slot)) => {}
+            _ => self.wake_at(slot, device),
+        }
+    }
+
+    /// Puts a device into a slot, or none. Mostly a device is there that differs from it in its queue alone.
     pub fn wake_at(&mut self, slot: Slot, device: Option<&Attached>)
         ensures put { self.new ≡ slice_set self.old slot (option_copied device.entry) }
         ensures slots { length self.old ≡ SLOT_COUNT }
@@ -78,18 +89,14 @@ impl Occupants {
         }
     }
 
-    /// Puts a device into a slot. Where it is there already, nothing is written.
+    /// Puts a device into a slot.
     fn wake_device(&mut self, slot: Slot, device: &Attached)
         ensures put { self.new ≡ slice_set self.old slot (Some device.now) }
         ensures slots { length self.old ≡ SLOT_COUNT }
     {
-        if is_here(device, self.at(slot)) {
-            return;
+        if !self.requeue(slot, device) {
+            self.put(slot, Some(device.copied()));
         }
-        if self.requeue(slot, device) {
-            return;
-        }
-        self.put(slot, Some(device.copied()));
     }
 
     /// Copies only the queue of a device into a slot, if the device there differs in nothing else. Answers whether it
@@ -97,6 +104,7 @@ impl Occupants {
     fn requeue(&mut self, slot: Slot, device: &Attached) -> bool
         ensures put { IsTrue result → self.new ≡ slice_set self.old slot (Some device.now) }
         ensures kept { result ≡ false → self.new ≡ self.old }
+        ensures slots { length self.old ≡ SLOT_COUNT }
     {
         let index = slot.index();
         if !requeue(&mut self.places[index], device) {

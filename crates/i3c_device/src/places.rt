@@ -113,6 +113,14 @@ pub(crate) fn address_in(place: &Option<Attached>) -> Option<Addr7>
     }
 }
 
+/// A number that equal queues have in common, of the interrupts of the device here.
+pub(crate) fn queue_key(place: &Option<Attached>) -> u64 {
+    match place {
+        Some(device) => device.queue_key(),
+        None => 0,
+    }
+}
+
 /// How many interrupts of the device here wait.
 pub(crate) fn waiting_in(place: &Option<Attached>) -> usize
     ensures { result ≡ waiting_in place.now }

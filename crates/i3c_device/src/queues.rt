@@ -65,3 +65,13 @@ fn have_same_items(
 {
     waiting.as_slice() == others.as_slice()
 }
+
+/// A number that equal queues have in common, of the bytes of their interrupts.
+pub(crate) fn queue_key(waiting: &ArrayVec<Waiting, WAITING>) -> u64 {
+    let mut key = waiting.len() as u64;
+    for interrupt in waiting.iter() {
+        let byte = u64::from(interrupt.byte.unwrap_or(0));
+        key = key.wrapping_mul(31).wrapping_add(byte);
+    }
+    key
+}

@@ -192,6 +192,8 @@ pub(crate) fn expand_turns<M: Machine, W: Watch>(
     ensures broken { IfErr result (λ stop. (order : VecValue TurnValue) → stop ≡ StopValue.Breaks order → BreaksNext M.breaks tracks.now part layer.now order.items) }
 {
     let mut next = Layer::new(alloc, limits);
+    // about as many as the layer has, and no more than there were in an earlier one
+    next.make_room(alloc, spares.len().min(layer.len()))?;
     next.spares = spares;
     next.weights = owners.weights(alloc, tracks.len())?;
     for index in 0..layer.len() {

@@ -58,9 +58,24 @@ impl Index {
         Ok(())
     }
 
+    /// Makes room for this many nodes more.
+    pub(crate) fn make_room(&mut self, alloc: Global, count: usize) -> Result<(), AllocError> {
+        self.keys.reserve(count)?;
+        let nodes = self.keys.len().saturating_add(count);
+        match nodes.saturating_mul(2).checked_next_power_of_two() {
+            Some(size) if size > self.slots.len() => self.resize(alloc, size.max(SMALL)),
+            _ => Ok(()),
+        }
+    }
+
     /// Makes the table twice as large.
     fn grow(&mut self, alloc: Global) -> Result<(), AllocError> {
         let size = self.slots.len().saturating_mul(2).max(SMALL);
+        self.resize(alloc, size)
+    }
+
+    /// Makes the table one of this many slots: a power of two.
+    fn resize(&mut self, alloc: Global, size: usize) -> Result<(), AllocError> {
         let mut slots = vec![in alloc; 0usize; size]?;
         for (index, key) in self.keys.iter().enumerate() {
             fill(&mut slots, *key, index + 1);

@@ -143,6 +143,16 @@ impl<M: Machine> Layer<M> {
         }
     }
 
+    /// It makes room for this many nodes more.
+    pub(crate) fn make_room(&mut self, alloc: Global, count: usize) -> Result<(), AllocError>
+        ensures nodes { self.new.nodes.items ≡ self.old.nodes.items }
+        ensures limits { self.new.limits ≡ self.old.limits }
+    {
+        self.index.make_room(alloc, count)?;
+        self.nodes.reserve(count)?;
+        Ok(())
+    }
+
     /// New nodes have this rank among those of all jobs, from now on.
     pub(crate) fn turn_to(&mut self, rank: usize)
         ensures { self.new.nodes ≡ self.old.nodes }

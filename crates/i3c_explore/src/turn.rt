@@ -11,6 +11,9 @@ pub struct Turn {
     pub way: usize,
 }
 
+/// For how many more turns a new order has room, so that the room serves in later layers too.
+const SPARE: usize = 16;
+
 /// An order with one more turn at its end.
 pub(crate) fn extended(order: &Vec<Turn>, turn: Turn) -> Result<Vec<Turn>, AllocError>
     ensures { IfOk result (λ longer. longer.items ≡ order.now.items ++ turn ∷ []) }
@@ -30,6 +33,9 @@ pub(crate) fn extended_in(
 {
     let mut longer = room;
     longer.clear();
+    if longer.capacity() <= order.len() {
+        longer.reserve(order.len().saturating_add(SPARE))?;
+    }
     longer.extend_from_slice(order)?;
     longer.push(turn)?;
     Ok(longer)

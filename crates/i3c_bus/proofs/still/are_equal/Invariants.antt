@@ -1,6 +1,6 @@
-use Rattle.std.proofs.Common.{◌≡◌, ◌<◌, ℕ, Decides, get_or}
+use Rattle.std.proofs.Common.{◌≡◌, ◌<◌, ◌↔◌, ℕ, get_or}
 use Rattle.i3c_bus.proofs.still.are_equal.Given as goal
 
--- whether both begin alike
+-- no bit differs so far just if both begin alike
 abbrev pub invariant-loop-index : goal.invariant-loop-index
-invariant-loop-index l = Decides l.same ((k : ℕ) → k < l.index → get_or l.fn.numbers k 0 ≡ get_or l.fn.others k 0)
+invariant-loop-index l = (l.differing ≡ 0) ↔ ((k : ℕ) → k < l.index → get_or l.fn.numbers k 0 ≡ get_or l.fn.others k 0)

@@ -1,5 +1,5 @@
 use borrow.Author.Count.{below_more}
-use Rattle.std.proofs.Common.{◌≡◌, ◌<◌, ℕ, ap, arith, inl, inr, length, subst, sym}
+use Rattle.std.proofs.Common.{◌≡◌, ◌<◌, ◌∙◌, ℕ, ap, arith, inl, inr, length, subst, sym}
 use Rattle.i3c_explore.proofs.Expanding.{like_successor, passed_here, passed_kept}
 use Rattle.i3c_explore.specs.Nexts.{IsNextOf}
 use Rattle.i3c_explore.specs.Owners.{own}
@@ -11,7 +11,7 @@ use Rattle.i3c_explore.proofs.expand.expand_turns.Goals as goal
 pub loop-index-init : goal.loop-index-init
 loop-index-init g c =
     let tracks = c.args.tracks.now in let lines = opening c.args.part tracks in
-    next_none g.M.Machine.steps tracks lines (own c.args.owners.now (length tracks) c.args.job lines) c.args.layer.now 0 c.new-next.result.nodes.items (ap length c.new-next.ensures.nodes)
+    next_none g.M.Machine.steps tracks lines (own c.args.owners.now (length tracks) c.args.job lines) c.args.layer.now 0 c.make_room.new.self.nodes.items (ap length (c.make_room.ensures.nodes ∙ c.new-next.ensures.nodes))
 
 pub loop-index-preserved : goal.loop-index-preserved
 loop-index-preserved g c =
