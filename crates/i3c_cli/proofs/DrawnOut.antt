@@ -4,11 +4,11 @@ use Rattle.std.specs.Io.KnownBytes.{Appends}
 use Rattle.i3c_frame.specs.declared.symbols.Symbol.{Symbol}
 use Rattle.i3c_draw.specs.declared.picture.Picture.{Picture}
 use Rattle.i3c_cli.specs.Drawings.{DrawsLine, DrawsRow, IsWritten}
-use Rattle.i3c_scenario.specs.declared.faults.ScriptFault.{ScriptFault}
-use Rattle.i3c_scenario.specs.Outcomes.{AppendsSome}
+use Rattle.i3c_streams.specs.declared.faults.ScriptFault.{ScriptFault}
+use Rattle.i3c_streams.specs.Outcomes.{AppendsSome}
 use Rattle.i3c_scenario.proofs.Gathered.{nothing_out, some_after}
 use Rattle.i3c_scenario.proofs.TraceWritten.{some_out}
-use Rattle.i3c_scenario.proofs.Written.{appends_both}
+use Rattle.i3c_streams.proofs.Written.{appends_both}
 
 -- the bytes that three writes append; the last may fail
 pub three_out : (a b c d : Option (List ℕ)) (first second last : List ℕ) (result : Result (Unit {0}) ScriptFault) → Appends a b first → Appends b c second

@@ -5,9 +5,9 @@ use Rattle.i3c_scenario.specs.Expecting.{HasBegun}
 use Rattle.i3c_wave.specs.declared.wave.Wave.{Wave}
 use Rattle.i3c_wave.specs.Dump.{free_bus}
 use Rattle.i3c_wave.specs.Scripts.{script_preamble}
-use Rattle.i3c_scenario.specs.declared.faults.ScriptFault.{ScriptFault}
+use Rattle.i3c_streams.specs.declared.faults.ScriptFault.{ScriptFault}
 use Rattle.i3c_scenario.specs.declared.script.Tally.{Tally}
-use Rattle.i3c_scenario.specs.Outcomes.{AppendsSome, Puts, PutsOrFails, output}
+use Rattle.i3c_streams.specs.Outcomes.{AppendsSome, Puts, PutsOrFails, output}
 use Rattle.i3c_scenario.specs.ScriptSteps.{Progress}
 use Rattle.i3c_scenario.specs.Viewed.{AreRun, AreSeen, Fails, Shown, ViewedGoes, Views, bytes_of}
 use Rattle.i3c_scenario.proofs.Gathered.{flush_all, flush_some, puts_both, puts_none, some_puts}

@@ -1,7 +1,7 @@
 -- Why the program gives up, and what lines came to.
 use Rattle.std.specs.Prelude.{ℕ, ◌==◌, Bool, true, false, Option, Some, None, Result, Ok, Err, if◌then◌else◌}
 use Rattle.i3c_frame.specs.declared.traces.TraceFault.{TraceFault}
-use Rattle.i3c_scenario.specs.declared.faults.ScriptFault.{ScriptFault}
+use Rattle.i3c_streams.specs.declared.faults.ScriptFault.{ScriptFault}
 use Rattle.i3c_scenario.specs.declared.script.Tally.{Tally}
 use Rattle.i3c_scenario.specs.declared.report.StressFault.{StressFault}
 use Rattle.i3c_wave.specs.declared.capture_fault.CaptureFault.{CaptureFault}

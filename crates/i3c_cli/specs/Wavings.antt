@@ -5,9 +5,9 @@ use Rattle.i3c_frame.specs.declared.symbols.Symbol.{Symbol}
 use Rattle.i3c_wave.specs.declared.wave.Wave.{Wave}
 use Rattle.i3c_wave.specs.Dump.{after_symbol, free_bus, symbols_dump}
 use Rattle.i3c_wave.specs.Scripts.{script_preamble, string_text}
-use Rattle.i3c_scenario.specs.declared.faults.ScriptFault.{ScriptFault}
+use Rattle.i3c_streams.specs.declared.faults.ScriptFault.{ScriptFault}
 use Rattle.i3c_scenario.specs.declared.script.Tally.{Tally}
-use Rattle.i3c_scenario.specs.Outcomes.{AppendsSome, Output, Puts, PutsOrFails, output}
+use Rattle.i3c_streams.specs.Outcomes.{AppendsSome, Output, Puts, PutsOrFails, output}
 use Rattle.i3c_scenario.specs.Expecting.{HasBegun}
 use Rattle.i3c_scenario.specs.ScriptSteps.{Progress}
 use Rattle.i3c_scenario.specs.Viewed.{AreRun, Shown, bytes_of}

@@ -1,6 +1,6 @@
 ghost use Rattle.std.specs.Prelude.{◌≡◌, ◌++◌, MatchResult, OnOk};
 ghost use Rattle.i3c_wave.specs.Dump.{symbols_dump};
-ghost use Rattle.i3c_scenario.specs.Outcomes.{AppendsSome, PutsOrFails, WritesFront, output};
+ghost use Rattle.i3c_streams.specs.Outcomes.{AppendsSome, PutsOrFails, WritesFront, output};
 ghost use Rattle.i3c_cli.specs.Wavings.{GoesLast, IsWaved, after_wire, line_dump};
 
 use i3c_base::Addresses;

@@ -14,17 +14,16 @@ use Rattle.i3c_drive.specs.Steps.{Closes, Fails, IsAnswer, IsCut, IsTold, Knows,
 use Rattle.i3c_lines.specs.Capitals.{in_capitals}
 use Rattle.i3c_lines.specs.Gathering.{gathered}
 use Rattle.i3c_lines.specs.declared.refusals.Refusal.{Refusal}
-use Rattle.i3c_scenario.specs.declared.faults.ScriptFault.{ScriptFault}
-use Rattle.i3c_scenario.specs.Outcomes.{HasNoFeed}
+use Rattle.i3c_streams.specs.declared.faults.ScriptFault.{ScriptFault}
+use Rattle.i3c_streams.specs.Outcomes.{HasNoFeed}
 use Rattle.i3c_scenario.specs.Scripts.{Lead, LineDoes, LineRun, lines_bytes, lines_refused, refusals_of}
 use Rattle.i3c_script.specs.Obeying.{IsBegun, ScriptState}
 use Rattle.i3c_lines.proofs.CapitalLaws.{capitals_have_no_feed, capitals_length, long_capitals}
+use Rattle.i3c_streams.proofs.BytesRead.{ended_is, more_read, none_read, script_is, unread}
 use Rattle.i3c_scenario.proofs.CheckRuns.{some_out}
 use Rattle.i3c_scenario.proofs.Gathered.{nothing_out, some_after}
-use Rattle.i3c_scenario.proofs.ScriptRead.{ended_is, script_is, unread}
 use Rattle.i3c_scenario.proofs.ScriptRuns.{bytes_both, refused_both}
-use Rattle.i3c_scenario.proofs.TraceRead.{more_read, none_read}
-use Rattle.i3c_scenario.proofs.Written.{appends_both}
+use Rattle.i3c_streams.proofs.Written.{appends_both}
 
 -- the line that one stands for has no line feed either
 one_line : (line written : List ℕ) → StandsFor line written → HasNoFeed line → HasNoFeed written

@@ -4,7 +4,7 @@ use Rattle.std.specs.Io.KnownBytes.{Consumes, IsAtEnd}
 use Rattle.i3c_drive.specs.declared.input.Input.{Input}
 use Rattle.i3c_drive.specs.declared.input.Next.{Next}
 use Rattle.i3c_lines.specs.Gathering.{gathered}
-use Rattle.i3c_scenario.specs.Outcomes.{HasNoFeed}
+use Rattle.i3c_streams.specs.Outcomes.{HasNoFeed}
 
 -- the bytes that were read and belong to no line yet
 abbrev pub pending : Input → List ℕ

@@ -1,5 +1,5 @@
 -- A text in which each byte that isn't ASCII becomes a question mark, one byte after another.
-use Rattle.std.proofs.Common.{◌≡◌, ℕ, zero, suc, ◌+◌, ◌<◌, List, [], ◌∷◌, ◌++◌, drop, length, get_or, map, take, arith, refl, ap, ◌∙◌}
+use Rattle.std.proofs.Common.{◌≡◌, ℕ, zero, suc, ◌+◌, ◌<◌, List, [], ◌∷◌, ◌++◌, drop, length, get_or, map, take, arith, refl, ap, ◌∙◌, Option, Some, None, IfSome}
 use Rattle.std.proofs.Math.ListN.{set}
 use Rattle.std.proofs.lemmas.List.{take-append-le, take_all}
 use Rattle.i3c_scenario.specs.Traces.{ascii}
@@ -45,3 +45,8 @@ put_back items new len long = take-append-le len new (drop (length new) items) (
 pub length-ascii : (xs : List ℕ) → length (map ascii xs) ≡ length xs
 length-ascii [] = refl
 length-ascii (x ∷ xs) = ap suc (length-ascii xs)
+
+-- the same text, borrowed
+pub read_as : (known : Option (List ℕ)) (items text : List ℕ) → text ≡ items → IfSome known (λ bytes. items ≡ map ascii bytes) → IfSome known (λ bytes. text ≡ map ascii bytes)
+read_as None items text same read = tt
+read_as (Some bytes) items text same read = same ∙ read

@@ -4,15 +4,14 @@ use Rattle.std.proofs.lemmas.List.{take_all}
 use Rattle.std.specs.Fmt.{decimal}
 use Rattle.std.specs.Io.KnownBytes.{Appends}
 use Rattle.i3c_lines.specs.declared.names.Names.{Names}
-use Rattle.i3c_scenario.specs.declared.script_lines.ScriptLines.{ScriptLines}
+use Rattle.i3c_streams.specs.declared.script_lines.ScriptLines.{ScriptLines}
 use Rattle.i3c_scenario.specs.Checks.{Checked, ChecksPart, ChecksWhole, LineCheck, IsToldLine, LineChecked, checks_bytes, checks_out, checks_told, tells}
-use Rattle.i3c_scenario.specs.Lines.{GivesLine, IsGivenOut, IsReadFrom, given, line_in_hand}
-use Rattle.i3c_scenario.specs.Outcomes.{AppendsSome, HasNoFeed}
+use Rattle.i3c_streams.specs.Lines.{GivesLine, IsGivenOut, IsReadFrom, given, line_in_hand}
+use Rattle.i3c_streams.specs.Outcomes.{AppendsSome, HasNoFeed}
+use Rattle.i3c_streams.proofs.BytesRead.{none_read, script_is, unread}
 use Rattle.i3c_scenario.proofs.Gathered.{some_after}
-use Rattle.i3c_scenario.proofs.LinesRead.{all_given, first_given}
-use Rattle.i3c_scenario.proofs.ScriptRead.{script_is, unread}
-use Rattle.i3c_scenario.proofs.TraceRead.{none_read}
-use Rattle.i3c_scenario.proofs.Written.{appends_both}
+use Rattle.i3c_streams.proofs.LinesRead.{all_given, first_given}
+use Rattle.i3c_streams.proofs.Written.{appends_both}
 
 abbrev of : List ℕ → List ℕ → LineCheck
 of line told = record { line = line; told = told }

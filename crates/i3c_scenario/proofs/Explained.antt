@@ -1,7 +1,7 @@
 -- A text that was read before it is told.
 use Rattle.std.proofs.Common.{◌≡◌, ◌∙◌, ℕ, List, [], ◌∷◌, map, arith, inl, inr, Option, Some, None, IfSome, Result, Ok, Err, ap, refl, ⊎_elim}
 use Rattle.i3c_base.specs.declared.addresses.Addresses.{Addresses}
-use Rattle.i3c_scenario.specs.declared.faults.ScriptFault.{ScriptFault}
+use Rattle.i3c_streams.specs.declared.faults.ScriptFault.{ScriptFault}
 use Rattle.i3c_scenario.specs.declared.script.Tally.{Tally}
 use Rattle.i3c_scenario.specs.Linted.{CameToLinted, GoesOutAs}
 use Rattle.i3c_scenario.specs.Traces.{ascii, CameTo}

@@ -1,10 +1,7 @@
-pub mod Written
 pub mod TraceWritten
-pub mod TraceRead
 pub mod TraceOut
 pub mod LintWritten
 pub mod Explained
-pub mod Feeds
 pub mod Gathered
 mod Expected
 mod Outlasting
@@ -14,7 +11,6 @@ pub mod AsciiLaws
 mod Counted
 mod Reaching
 mod Reported
-pub mod LinesRead
 pub mod CheckRuns
 pub mod WatchRuns
 pub mod ViewRuns

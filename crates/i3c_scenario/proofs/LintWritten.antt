@@ -12,11 +12,11 @@ use Rattle.i3c_monitor.specs.Lint.{LintLine}
 use Rattle.i3c_monitor.specs.Lint.LintLine.{Faulty}
 use Rattle.i3c_monitor.specs.LintLines.{lint_line_text, lint_text}
 use Rattle.i3c_monitor.specs.Linting.{report_lines}
-use Rattle.i3c_scenario.specs.declared.faults.ScriptFault.{ScriptFault}
+use Rattle.i3c_streams.specs.declared.faults.ScriptFault.{ScriptFault}
 use Rattle.i3c_scenario.specs.declared.script.Tally.{Tally}
 use Rattle.i3c_scenario.specs.Faults.{IsLineFault}
 use Rattle.i3c_scenario.specs.Linted.{GoesOutLinted, all_faults, faults_in, frames_faults, frames_text}
-use Rattle.i3c_scenario.specs.Outcomes.{AppendsSome}
+use Rattle.i3c_streams.specs.Outcomes.{AppendsSome}
 use Rattle.i3c_scenario.specs.Traces.{ascii}
 use Rattle.i3c_scenario.proofs.TraceWritten.{count_on, gathered_on}
 

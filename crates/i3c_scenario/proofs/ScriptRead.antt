@@ -3,35 +3,15 @@ use Rattle.std.proofs.Common.{◌≡◌, ◌<◌, ◌≤◌, ◌∙◌, ℕ, ◌
 use Rattle.std.proofs.lemmas.List.{length-take, take-append-drop, take-take}
 use Rattle.std.proofs.Math.Seq.{take-append_seam}
 use Rattle.std.specs.Io.KnownBytes.{Consumes, IsAtEnd, Keeps}
-use Rattle.i3c_scenario.specs.declared.faults.ScriptFault.{ScriptFault}
-use Rattle.i3c_scenario.specs.Reading.{Leaves}
+use Rattle.i3c_streams.specs.declared.faults.ScriptFault.{ScriptFault}
+use Rattle.i3c_streams.specs.Reading.{Leaves}
 use Rattle.i3c_scenario.specs.Scripts.{IsPart, LineRun, LinesGoOut, OutBefore, lines_bytes, lines_out}
 use Rattle.i3c_scenario.specs.Expecting.{HasBegun, Standing}
 use Rattle.i3c_scenario.specs.ScriptSteps.{OutOf, Progress, ReadPart, ReadSoFar, ReadsAll, ReadWhole, Runs, RunsTo, RunStops}
-use Rattle.i3c_scenario.specs.Outcomes.{written}
+use Rattle.i3c_streams.specs.Outcomes.{written}
+use Rattle.i3c_streams.proofs.BytesRead.{ended_is, more_read, none_read, script_is, unread}
 use Rattle.i3c_scenario.proofs.Gathered.{nothing_out, puts_whole}
 use Rattle.i3c_scenario.proofs.ScriptRuns.{no_feed_in_none, no_line, runs_both, runs_stop, stops_before}
-use Rattle.i3c_scenario.proofs.TraceRead.{more_read, none_read}
-
--- the known bytes that are left
-pub unread : Option (List ℕ) → List ℕ
-unread None = []
-unread (Some bytes) = bytes
-
--- what was read, with what is left and a last feed, is the script
-pub script_is : (known left : Option (List ℕ)) (read front rest : List ℕ) → Consumes known left read → read ≡ front ++ rest → IfSome known (λ script. front ++ (rest ++ (unread left ++ 10 ∷ [])) ≡ script ++ 10 ∷ [])
-unfolding unread
-script_is None left read front rest consumed same = tt
-script_is (Some xs) None read front rest consumed same = absurd consumed
-script_is (Some xs) (Some ys) read front rest consumed same =
-    sym (append_assoc front rest (ys ++ 10 ∷ [])) ∙ ap (λ bytes. bytes ++ (ys ++ 10 ∷ [])) (sym same) ∙ sym (append_assoc read ys (10 ∷ [])) ∙ ap (λ bytes. bytes ++ 10 ∷ []) (sym consumed)
-
--- the same when nothing is left
-pub ended_is : (known left : Option (List ℕ)) (read bytes : List ℕ) → Consumes known left read → IsAtEnd left → read ++ 10 ∷ [] ≡ bytes → IfSome known (λ script. bytes ≡ script ++ 10 ∷ [])
-ended_is None left read bytes consumed end same = tt
-ended_is (Some xs) None read bytes consumed end same = absurd consumed
-ended_is (Some xs) (Some ys) read bytes consumed end same =
-    sym same ∙ ap (λ b. b ++ 10 ∷ []) (sym (append-nil read) ∙ ap (λ b. read ++ b) (sym end) ∙ sym consumed)
 
 -- a fault at a line
 out_of : (fault : ScriptFault) (known left old new : Option (List ℕ)) (lines : List LineRun) → OutOf fault lines (written old) (written new) → OutBefore fault known left old new lines

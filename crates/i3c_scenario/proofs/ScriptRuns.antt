@@ -4,14 +4,14 @@ use Rattle.std.proofs.lemmas.Bool.{cases_lt}
 use Rattle.std.proofs.lemmas.List.{length-drop, take_all}
 use Rattle.std.proofs.lemmas.List.Elements.{All-append}
 use Rattle.i3c_lines.specs.declared.refusals.Refusal.{Refusal}
-use Rattle.i3c_scenario.specs.declared.faults.ScriptFault.{ScriptFault}
+use Rattle.i3c_streams.specs.declared.faults.ScriptFault.{ScriptFault}
 use Rattle.i3c_text.specs.declared.stop.Stop.{Stop}
 use Rattle.std.specs.Io.KnownBytes.{Appends}
 use Rattle.i3c_lines.specs.Forms.{HasNoForm, IsCommand, IsSkipped}
 use Rattle.i3c_script.specs.Obeying.{ScriptState}
 use Rattle.i3c_facts.specs.Forms.{IsMark}
 use Rattle.i3c_scenario.specs.Expecting.{IsBad, IsMarked, Standing}
-use Rattle.i3c_scenario.specs.Outcomes.{AppendsSome, GoesLast, HasNoFeed, Output, Puts, PutsOrFails, PutsSome, written}
+use Rattle.i3c_streams.specs.Outcomes.{AppendsSome, GoesLast, HasNoFeed, Output, Puts, PutsOrFails, PutsSome, written}
 use Rattle.i3c_script.specs.Printed.{end_text}
 use Rattle.i3c_scenario.specs.Scripts.{LineDoes, LineRun, LineRuns, LinesLead, lines_bytes, lines_out, lines_refused, refusals_of, refused_text, run_text}
 use Rattle.i3c_scenario.specs.ScriptSteps.{LineDone, LineEnds, LineLost, LineStops, OutOf, Progress, Reads, Runs, RunsTo, RunStops, Takes}

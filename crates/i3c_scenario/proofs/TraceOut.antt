@@ -7,9 +7,9 @@ use Rattle.i3c_frame.specs.Parts.{parts}
 use Rattle.i3c_frame.specs.Texts.{IsInRange, text_of}
 use Rattle.i3c_frame.specs.Traces.{IsFirstFault, IsTrace}
 use Rattle.i3c_monitor.specs.Trace.{trace_told}
-use Rattle.i3c_scenario.specs.declared.faults.ScriptFault.{ScriptFault}
+use Rattle.i3c_streams.specs.declared.faults.ScriptFault.{ScriptFault}
 use Rattle.i3c_scenario.specs.declared.script.Tally.{Tally}
-use Rattle.i3c_scenario.specs.Outcomes.{AppendsSome}
+use Rattle.i3c_streams.specs.Outcomes.{AppendsSome}
 use Rattle.i3c_scenario.specs.Faults.{IsLineFault}
 use Rattle.i3c_scenario.specs.Traces.{ascii, fault_line, refused_in, trace_text, GoesOut}
 

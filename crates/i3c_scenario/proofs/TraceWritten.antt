@@ -3,8 +3,8 @@ use Rattle.std.proofs.Common.{◌≡◌, ◌≤◌, ◌∙◌, ℕ, ◌+◌, Lis
 use Rattle.std.proofs.Math.Seq.{take-append-add}
 use Rattle.std.proofs.lemmas.List.{append-nil, take-append-le, take_all}
 use Rattle.std.specs.Io.KnownBytes.{Appends, Keeps}
-use Rattle.i3c_scenario.specs.Outcomes.{AppendsSome}
-use Rattle.i3c_scenario.proofs.Written.{appends_both}
+use Rattle.i3c_streams.specs.Outcomes.{AppendsSome}
+use Rattle.i3c_streams.proofs.Written.{appends_both}
 
 -- where nothing was written
 pub same_out : (a : Option (List ℕ)) → Keeps a a

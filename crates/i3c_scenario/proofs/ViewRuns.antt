@@ -6,16 +6,15 @@ use Rattle.i3c_text.specs.declared.stop.Stop.{Stop}
 use Rattle.i3c_script.specs.Obeying.{wire_on}
 use Rattle.i3c_script.specs.Printed.{end_text}
 use Rattle.i3c_script.specs.Stops.{refusals}
-use Rattle.i3c_scenario.specs.declared.faults.ScriptFault.{ScriptFault}
-use Rattle.i3c_scenario.specs.declared.script_lines.ScriptLines.{ScriptLines}
-use Rattle.i3c_scenario.specs.Lines.{GivesLine, IsGivenOut, IsReadFrom, given, line_in_hand}
-use Rattle.i3c_scenario.specs.Outcomes.{HasNoFeed}
+use Rattle.i3c_streams.specs.declared.faults.ScriptFault.{ScriptFault}
+use Rattle.i3c_streams.specs.declared.script_lines.ScriptLines.{ScriptLines}
+use Rattle.i3c_streams.specs.Lines.{GivesLine, IsGivenOut, IsReadFrom, given, line_in_hand}
+use Rattle.i3c_streams.specs.Outcomes.{HasNoFeed}
 use Rattle.i3c_scenario.specs.Scripts.{LineRuns}
 use Rattle.i3c_scenario.specs.ScriptSteps.{Progress}
 use Rattle.i3c_scenario.specs.Viewed.{AreRun, AreSeen, Fails, LineFailed, LineRan, LineViewed, Shown, ViewedEnds, ViewedPart, ViewedWhole, Views, bytes_of, kept}
-use Rattle.i3c_scenario.proofs.LinesRead.{all_given, first_given}
-use Rattle.i3c_scenario.proofs.ScriptRead.{script_is, unread}
-use Rattle.i3c_scenario.proofs.TraceRead.{none_read}
+use Rattle.i3c_streams.proofs.LinesRead.{all_given, first_given}
+use Rattle.i3c_streams.proofs.BytesRead.{none_read, script_is, unread}
 use Rattle.i3c_scenario.proofs.ScriptRuns.{its_refusals, its_text, refusal_in}
 
 -- the lines that were run and shown so far

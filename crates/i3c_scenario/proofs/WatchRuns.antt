@@ -6,21 +6,20 @@ use Rattle.i3c_lines.specs.declared.refusals.Refusal.{Refusal}
 use Rattle.i3c_text.specs.declared.stop.Stop.{Stop}
 use Rattle.i3c_script.specs.Printed.{end_text}
 use Rattle.i3c_script.specs.Stops.{refusals}
-use Rattle.i3c_scenario.specs.declared.script_lines.ScriptLines.{ScriptLines}
+use Rattle.i3c_streams.specs.declared.script_lines.ScriptLines.{ScriptLines}
 use Rattle.i3c_scenario.specs.declared.watched.Watching.{Watching}
 use Rattle.i3c_scenario.specs.declared.watched.WatchFault.{WatchFault}
-use Rattle.i3c_scenario.specs.Lines.{GivesLine, IsGivenOut, IsReadFrom, given, line_in_hand}
-use Rattle.i3c_scenario.specs.Outcomes.{AppendsSome}
+use Rattle.i3c_streams.specs.Lines.{GivesLine, IsGivenOut, IsReadFrom, given, line_in_hand}
+use Rattle.i3c_streams.specs.Outcomes.{AppendsSome}
 use Rattle.i3c_scenario.specs.Scripts.{LinesLead, LineRuns, LineRun, lines_bytes, lines_out, lines_refused, run_text}
 use Rattle.i3c_scenario.specs.ScriptSteps.{Progress}
 use Rattle.i3c_scenario.specs.Watched.{AreFormed, EndsAt, IsFormed, LineCut, LineFails, LineRan, LineWatched, WatchedEnds, WatchedPart, WatchedWhole, echo_text, echoed, numbered, numbered_by, shown, shown_out}
+use Rattle.i3c_streams.proofs.BytesRead.{none_read, script_is, unread}
 use Rattle.i3c_scenario.proofs.CheckRuns.{nothing_out, some_out}
 use Rattle.i3c_scenario.proofs.Gathered.{some_after}
-use Rattle.i3c_scenario.proofs.LinesRead.{all_given, first_given}
-use Rattle.i3c_scenario.proofs.ScriptRead.{script_is, unread}
+use Rattle.i3c_streams.proofs.LinesRead.{all_given, first_given}
 use Rattle.i3c_scenario.proofs.ScriptRuns.{bytes_both, its_refusals, its_text, refusal_in, refused_both, run_both}
-use Rattle.i3c_scenario.proofs.TraceRead.{none_read}
-use Rattle.i3c_scenario.proofs.Written.{appends_both}
+use Rattle.i3c_streams.proofs.Written.{appends_both}
 
 shown_more : (watching : Watching) (lines : List LineRun) (number at : ℕ) (run : LineRun) → at ≡ number + length lines → shown_out watching number (lines ++ run ∷ []) ≡ shown_out watching number lines ++ shown watching at run
 shown_more watching [] number at run e = let first : number ≡ at = omega (arith, e) in append-nil (shown watching number run) ∙ ap (λ n. shown watching n run) first

@@ -1,5 +1,3 @@
-pub mod Reading
-pub mod Outcomes
 pub mod Faults
 pub mod Traces
 pub mod Linted
@@ -7,7 +5,6 @@ pub mod Expecting
 pub mod Scripts
 pub mod ScriptSteps
 pub mod Legal
-pub mod Lines
 pub mod Checks
 pub mod Watched
 pub mod Counting

@@ -13,9 +13,9 @@ use Rattle.i3c_monitor.specs.Lines.{number_text}
 use Rattle.i3c_monitor.specs.Lint.{LintLine, trace_linted}
 use Rattle.i3c_monitor.specs.Lint.LintLine.{Shown, Faulty}
 use Rattle.i3c_monitor.specs.LintLines.{lint_text}
-use Rattle.i3c_scenario.specs.declared.faults.ScriptFault.{ScriptFault}
+use Rattle.i3c_streams.specs.declared.faults.ScriptFault.{ScriptFault}
 use Rattle.i3c_scenario.specs.declared.script.Tally.{Tally}
-use Rattle.i3c_scenario.specs.Outcomes.{AppendsSome}
+use Rattle.i3c_streams.specs.Outcomes.{AppendsSome}
 use Rattle.i3c_scenario.specs.Traces.{ascii, refusals_in, GoesOut}
 
 -- the symbol expected at the point where a text stops being a trace

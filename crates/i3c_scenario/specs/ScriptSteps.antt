@@ -2,14 +2,14 @@
 use Rattle.std.specs.Prelude.{◌≡◌, ⊤, ℕ, ◌+◌, List, [], ◌∷◌, ◌++◌, length, min, take, Option, IfSome, Result, Ok, Err, MatchResult}
 use Rattle.std.specs.Io.KnownBytes.{Consumes}
 use Rattle.i3c_lines.specs.declared.refusals.Refusal.{Refusal}
-use Rattle.i3c_scenario.specs.declared.faults.ScriptFault.{ScriptFault}
+use Rattle.i3c_streams.specs.declared.faults.ScriptFault.{ScriptFault}
 use Rattle.i3c_text.specs.declared.stop.Stop.{Stop}
 use Rattle.i3c_scenario.specs.declared.script.Script.{Script}
 use Rattle.i3c_script.specs.Obeying.{script}
 use Rattle.i3c_script.specs.Telling.{Prints}
 use Rattle.i3c_facts.specs.declared.before.Before.{Before}
 use Rattle.i3c_scenario.specs.Expecting.{LastsAt, Standing}
-use Rattle.i3c_scenario.specs.Outcomes.{HasNoFeed, Output, Puts, PutsSome, written}
+use Rattle.i3c_streams.specs.Outcomes.{HasNoFeed, Output, Puts, PutsSome, written}
 use Rattle.i3c_scenario.specs.Scripts.{CountedRuns, LineRun, LineRuns, LinesLead, OutBefore, lines_bytes, lines_out, lines_refused, refusals_of, refused_text}
 
 -- where a running script is, and how many of its lines were refused so far

@@ -5,13 +5,13 @@ use Rattle.i3c_lines.specs.declared.command.Command.{Command}
 use Rattle.i3c_lines.specs.declared.refusals.Refusal.{Refusal}
 use Rattle.i3c_lines.specs.Forms.{HasNoForm, IsCommand, IsSkipped}
 use Rattle.i3c_lines.specs.Refusing.{refusal_text}
-use Rattle.i3c_scenario.specs.declared.faults.ScriptFault.{ScriptFault}
+use Rattle.i3c_streams.specs.declared.faults.ScriptFault.{ScriptFault}
 use Rattle.i3c_scenario.specs.declared.script.Tally.{Tally}
 use Rattle.i3c_script.specs.Obeying.{Obeys, ScriptState}
 use Rattle.i3c_facts.specs.declared.marks.Mark.{Mark}
 use Rattle.i3c_facts.specs.Forms.{IsMark}
 use Rattle.i3c_scenario.specs.Expecting.{HasBegun, IsBad, LastsAt, MarkDoes, Standing, counted, went}
-use Rattle.i3c_scenario.specs.Outcomes.{AppendsSome, HasNoFeed}
+use Rattle.i3c_streams.specs.Outcomes.{AppendsSome, HasNoFeed}
 
 -- a line that was run: its bytes without the line feed, what it printed, and why it was refused, if it was
 pub record LineRun : Type 0 where

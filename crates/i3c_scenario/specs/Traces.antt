@@ -9,9 +9,9 @@ use Rattle.i3c_frame.specs.Traces.{IsFirstFault, IsTrace}
 use Rattle.i3c_monitor.specs.declared.decoded.Decoded.{Decoded}
 use Rattle.i3c_monitor.specs.Lines.{line_text}
 use Rattle.i3c_monitor.specs.Trace.{trace_told}
-use Rattle.i3c_scenario.specs.declared.faults.ScriptFault.{ScriptFault}
+use Rattle.i3c_streams.specs.declared.faults.ScriptFault.{ScriptFault}
 use Rattle.i3c_scenario.specs.declared.script.Tally.{Tally}
-use Rattle.i3c_scenario.specs.Outcomes.{AppendsSome}
+use Rattle.i3c_streams.specs.Outcomes.{AppendsSome}
 
 -- a byte as it is read: one that isn't ASCII is a question mark
 abbrev pub ascii : ℕ → ℕ

@@ -2,9 +2,9 @@
 use Rattle.std.specs.Prelude.{◌≡◌, ◌⊎◌, ℕ, ◌+◌, ◌-◌, drop, length, List, [], ◌∷◌, ◌++◌, min, Option, IfSome, Result, MatchResult}
 use Rattle.i3c_frame.specs.declared.symbols.Symbol.{Symbol}
 use Rattle.i3c_lines.specs.declared.refusals.Refusal.{Refusal}
-use Rattle.i3c_scenario.specs.declared.faults.ScriptFault.{ScriptFault}
+use Rattle.i3c_streams.specs.declared.faults.ScriptFault.{ScriptFault}
 use Rattle.i3c_scenario.specs.declared.script.Tally.{Tally}
-use Rattle.i3c_scenario.specs.Outcomes.{HasNoFeed}
+use Rattle.i3c_streams.specs.Outcomes.{HasNoFeed}
 use Rattle.i3c_scenario.specs.Scripts.{LineRuns, refusals_of, refused_text}
 use Rattle.i3c_scenario.specs.ScriptSteps.{Progress}
 use Rattle.i3c_script.specs.Obeying.{wire_on}

@@ -7,7 +7,7 @@ use Rattle.i3c_scenario.specs.declared.script.Tally.{Tally}
 use Rattle.i3c_scenario.specs.declared.watched.Watching.{Watching}
 use Rattle.i3c_scenario.specs.declared.watched.WatchFault.{WatchFault}
 use Rattle.i3c_scenario.specs.Expecting.{HasBegun, IsBad, Standing}
-use Rattle.i3c_scenario.specs.Outcomes.{AppendsSome}
+use Rattle.i3c_streams.specs.Outcomes.{AppendsSome}
 use Rattle.i3c_scenario.specs.Scripts.{LineRun, LineRuns, LinesLead, lines_bytes, lines_out, lines_refused, refusals_of, run_text}
 use Rattle.i3c_scenario.specs.ScriptSteps.{Progress}
 

@@ -3,13 +3,10 @@ ghost use Rattle.std.specs.Io.KnownBytes.{Appends, IsAtEnd};
 ghost use Rattle.i3c_scenario.specs.Checks.{ChecksGoOut};
 
 use crate::expecting::line_fault;
-use crate::faults::ScriptFault;
-use crate::output::write_out;
-use crate::reading::{CHUNK, MOST_BYTES};
 use crate::script::Tally;
-use crate::script_lines::ScriptLines;
 use i3c_base::Addr7;
 use i3c_lines::{FormFault, Name, Names, push_quoted, read_line};
+use i3c_streams::{CHUNK, MOST_BYTES, ScriptFault, ScriptLines, write_out};
 use i3c_text::Text;
 use std::alloc::{AllocError, Global};
 use std::io::{Read, Write};

@@ -2,14 +2,13 @@ ghost use Rattle.std.specs.Prelude.{◌≡◌, ◌<◌, ◌≤◌, length, IfOk,
 ghost use Rattle.std.specs.Io.KnownBytes.{IsAtEnd};
 ghost use Rattle.i3c_scenario.specs.Linted.{GoesOutAs};
 
-use crate::faults::ScriptFault;
 use crate::linting::run_lint;
-use crate::reading::MOST_BYTES;
 use crate::script::Tally;
 use crate::trace::{read_text, run_trace};
 use i3c_base::Addresses;
 use i3c_frame::{Break, Due, Symbol, read_frames};
 use i3c_monitor::{Decoded, Linter, Report};
+use i3c_streams::{MOST_BYTES, ScriptFault};
 use std::alloc::{AllocError, Global};
 use std::fmt::Write as _;
 use std::io::{Read, Write};

@@ -5,16 +5,14 @@ ghost use Rattle.i3c_monitor.specs.Lines.{number_text};
 ghost use Rattle.i3c_monitor.specs.LintLines.{report_text};
 ghost use Rattle.i3c_scenario.specs.Faults.{IsLineFault};
 ghost use Rattle.i3c_scenario.specs.Linted.{GoesOutLinted, break_text, breaks, broken_text, cause_text, due_text, faults_in, frames_faults, frames_text, more_text, part_text, parted_text, printable};
-ghost use Rattle.i3c_scenario.specs.Outcomes.{AppendsSome};
+ghost use Rattle.i3c_streams.specs.Outcomes.{AppendsSome};
 
-use crate::faults::ScriptFault;
-use crate::output::{write_gathered, write_out};
-use crate::reading::MOST_BYTES;
 use crate::script::Tally;
 use crate::trace::read_text;
 use i3c_base::Addresses;
 use i3c_frame::{Break, Due, Frames, Symbol, read_frames};
 use i3c_monitor::{Decoded, Linter, Report};
+use i3c_streams::{MOST_BYTES, ScriptFault, write_gathered, write_out};
 use i3c_text::Text;
 use std::alloc::{AllocError, Global};
 use std::io::{Read, Write};

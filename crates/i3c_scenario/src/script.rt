@@ -1,7 +1,7 @@
 ghost use Rattle.std.specs.Prelude.{◌≡◌, ℕ, List, ◌+◌, ◌<◌, ◌≤◌, [], ◌∷◌, ◌++◌, length, min, take, IfErr, IfSome, MatchResult, OnOk, Some};
 ghost use Rattle.std.specs.Io.KnownBytes.{IsAtEnd};
 ghost use Rattle.i3c_lines.specs.Gathering.{gathered};
-ghost use Rattle.i3c_scenario.specs.Outcomes.{HasNoFeed, output, written};
+ghost use Rattle.i3c_streams.specs.Outcomes.{HasNoFeed, output, written};
 ghost use Rattle.i3c_script.specs.Printed.{end_text};
 ghost use Rattle.i3c_facts.specs.declared.before.Before.{Before as BeforeValue};
 ghost use Rattle.i3c_text.specs.declared.stop.Stop.{Stop as StopValue};
@@ -14,13 +14,14 @@ ghost use Rattle.i3c_scenario.specs.Faults.{IsLineFault};
 ghost use Rattle.i3c_script.specs.Stops.{refusals};
 
 use crate::expecting::{push_met, push_unmet};
-use crate::faults::ScriptFault;
 use crate::lasting::{Lasting, keep, test_all, test_one};
-use crate::output::{gather, position_of_feed, show_refusal, write_last};
-use crate::reading::{CHUNK, MOST_BYTES, Piece, read_piece};
+use crate::output::show_refusal;
 use i3c_facts::{Before, Facts, Mark, read_mark};
 use i3c_lines::{Command, Line, Names, Refusal, is_skipped};
 use i3c_script::Stage;
+use i3c_streams::{
+    CHUNK, MOST_BYTES, Piece, ScriptFault, gather, position_of_feed, read_piece, write_last,
+};
 use i3c_text::{Stop, Text};
 use std::alloc::{AllocError, Global};
 use std::io::{Read, Write};

@@ -2,16 +2,14 @@ ghost use Rattle.std.specs.Prelude.{◌≡◌, ◌<◌, ◌≤◌, [], ◌++◌,
 ghost use Rattle.std.specs.Io.KnownBytes.{Appends, Consumes, IsAtEnd, Keeps};
 ghost use Rattle.i3c_monitor.specs.Lines.{line_text};
 ghost use Rattle.i3c_monitor.specs.Trace.{to_come, trace_told};
-ghost use Rattle.i3c_scenario.specs.Outcomes.{AppendsSome};
+ghost use Rattle.i3c_streams.specs.Outcomes.{AppendsSome};
 ghost use Rattle.i3c_scenario.specs.Faults.{IsLineFault};
 ghost use Rattle.i3c_scenario.specs.Traces.{ascii, fault_line, refusals_in, refused_in, trace_text, GoesOut};
 
-use crate::faults::ScriptFault;
-use crate::output::{write_gathered, write_out};
-use crate::reading::{CHUNK, MOST_BYTES, Piece, read_piece};
 use crate::script::Tally;
 use i3c_frame::{Symbol, TraceFault, read_trace_bytes};
 use i3c_monitor::{Decoded, Monitor};
+use i3c_streams::{CHUNK, MOST_BYTES, Piece, ScriptFault, read_piece, write_gathered, write_out};
 use i3c_text::Text;
 use std::alloc::{AllocError, Global};
 use std::io::{Read, Write};

@@ -1,14 +1,12 @@
 ghost use Rattle.std.specs.Prelude.{◌≡◌, ◌<◌, ◌≤◌, ◌↔◌, ℕ, List, length, IfSome, IsTrue, MatchResult, OnOk};
 ghost use Rattle.std.specs.Io.KnownBytes.{IsAtEnd};
 ghost use Rattle.i3c_frame.specs.declared.symbols.Symbol.{Symbol as SymbolValue};
-ghost use Rattle.i3c_scenario.specs.declared.faults.ScriptFault.{ScriptFault as FaultValue};
+ghost use Rattle.i3c_streams.specs.declared.faults.ScriptFault.{ScriptFault as FaultValue};
 ghost use Rattle.i3c_scenario.specs.Viewed.{ViewedGoes, kept};
 
-use crate::faults::ScriptFault;
-use crate::reading::{CHUNK, MOST_BYTES};
 use crate::script::{Script, Tally};
-use crate::script_lines::ScriptLines;
 use i3c_frame::Symbol;
+use i3c_streams::{CHUNK, MOST_BYTES, ScriptFault, ScriptLines};
 use std::alloc::Global;
 use std::io::Read;
 

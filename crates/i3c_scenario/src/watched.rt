@@ -4,13 +4,10 @@ ghost use Rattle.std.specs.Io.KnownBytes.{Appends, IsAtEnd};
 ghost use Rattle.i3c_scenario.specs.Watched.{WatchedGoesOut, numbered};
 
 use crate::expecting::line_fault;
-use crate::faults::ScriptFault;
-use crate::output::write_out;
-use crate::reading::{CHUNK, MOST_BYTES};
 use crate::reasons::Known;
 use crate::script::{Script, Tally};
-use crate::script_lines::ScriptLines;
 use i3c_lines::{FormFault, Refusal};
+use i3c_streams::{CHUNK, MOST_BYTES, ScriptFault, ScriptLines, write_out};
 use i3c_text::{Stop, Text};
 use std::alloc::{AllocError, Global};
 use std::io::{Read, Write};

@@ -3,11 +3,11 @@ use Rattle.std.proofs.Common.{◌≡◌, ◌≤◌, ◌∙◌, ℕ, All, List, [
 use Rattle.std.specs.Global.{Vec}
 use Rattle.std.proofs.lemmas.List.Elements.{All-push}
 use Rattle.std.specs.Io.KnownBytes.{Consumes}
-use Rattle.i3c_scenario.specs.declared.script_lines.Reading.{Reading}
-use Rattle.i3c_scenario.specs.declared.script_lines.ScriptLines.{ScriptLines}
-use Rattle.i3c_scenario.specs.Lines.{GivesLine, IsGivenOut, IsReadAs, IsReadFrom, given, line_in_hand}
-use Rattle.i3c_scenario.specs.Outcomes.{HasNoFeed}
-use Rattle.i3c_scenario.proofs.LinesRead.{all_given}
+use Rattle.i3c_streams.specs.declared.script_lines.Reading.{Reading}
+use Rattle.i3c_streams.specs.declared.script_lines.ScriptLines.{ScriptLines}
+use Rattle.i3c_streams.specs.Lines.{GivesLine, IsGivenOut, IsReadAs, IsReadFrom, given, line_in_hand}
+use Rattle.i3c_streams.specs.Outcomes.{HasNoFeed}
+use Rattle.i3c_streams.proofs.LinesRead.{all_given}
 use Rattle.i3c_tracks.specs.Planning.{AreLines, lines_bytes}
 
 nothing_consumed : (known : Option (List ℕ)) (items : List ℕ) → items ≡ [] → Consumes known known items

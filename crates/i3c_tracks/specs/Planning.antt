@@ -12,7 +12,7 @@ use Rattle.i3c_lines.specs.declared.command.Command.{Command}
 use Rattle.i3c_lines.specs.declared.names.Name.{Name}
 use Rattle.i3c_lines.specs.declared.names.Place.{Place}
 use Rattle.i3c_script.specs.Accepting.{at_first}
-use Rattle.i3c_scenario.specs.Outcomes.{HasNoFeed}
+use Rattle.i3c_streams.specs.Outcomes.{HasNoFeed}
 use Rattle.i3c_scene.specs.declared.line.Expectation.{Expectation}
 use Rattle.i3c_scene.specs.declared.line.Line.{Line}
 use Rattle.i3c_scene.specs.declared.risk.Risk.{Risk}

@@ -13,14 +13,11 @@ use crate::plan::{Plan, PlanFault, read_plan};
 use crate::refusal::{Reason, Refusal};
 use crate::report::push_report;
 use i3c_explore::{Limits, Part, Stop, Watch, explore_on};
-use i3c_scenario::{ScriptFault, ScriptLines, write_out};
+use i3c_streams::{CHUNK, ScriptFault, ScriptLines, write_out};
 use i3c_text::Text;
 use std::alloc::{AllocError, Global};
 use std::io::{Read, Write};
 use std::thread::Threads;
-
-/// How many bytes are read at once.
-const CHUNK: usize = 8192;
 
 /// Explores every order of a part of a file's orders. It prints the ends that they lead to, or an order that breaks an
 /// expectation, or why the file is refused.

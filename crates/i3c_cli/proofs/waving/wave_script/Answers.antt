@@ -1,7 +1,7 @@
 use Rattle.std.proofs.Common.{◌∙◌, ◌++◌, ap, sym}
 use Rattle.i3c_wave.specs.Dump.{free_bus}
 use Rattle.i3c_wave.specs.Scripts.{script_preamble}
-use Rattle.i3c_scenario.specs.Outcomes.{output}
+use Rattle.i3c_streams.specs.Outcomes.{output}
 use Rattle.i3c_cli.specs.Wavings.{dump_at}
 use Rattle.i3c_cli.proofs.WavedOut.{waved_by}
 use Rattle.i3c_cli.proofs.waving.wave_script.Goals as goal

@@ -1,5 +1,5 @@
 use Rattle.i3c_scenario.proofs.Explained.{out_as}
-use Rattle.i3c_scenario.proofs.TraceRead.{read_as}
+use Rattle.i3c_scenario.proofs.AsciiLaws.{read_as}
 use Rattle.i3c_scenario.proofs.explaining.run_explained.Goals as goal
 
 pub returns-clause-lines : goal.returns-clause-lines

@@ -1,7 +1,7 @@
 use Rattle.std.proofs.Common.{◌≡◌, map, IfSome}
 use Rattle.i3c_scenario.specs.Traces.{ascii}
 use Rattle.i3c_scenario.proofs.LintWritten.{frames_out}
-use Rattle.i3c_scenario.proofs.TraceRead.{read_as}
+use Rattle.i3c_scenario.proofs.AsciiLaws.{read_as}
 use Rattle.i3c_scenario.proofs.linting.run_lint.Goals as goal
 
 pub returns-in-Ok-clause-lines : goal.returns-in-Ok-clause-lines

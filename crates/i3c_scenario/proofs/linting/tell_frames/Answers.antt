@@ -1,11 +1,11 @@
 use Rattle.std.proofs.Common.{◌≡◌, ◌++◌, ◌∙◌, ◌+◌, [], arith, min, rules, ap, append-nil, subst, sym}
 use Rattle.i3c_monitor.specs.Linting.{report_lines, reported, to_come}
 use Rattle.i3c_monitor.specs.LintLines.{lint_text, report_text}
-use Rattle.i3c_scenario.specs.Outcomes.{AppendsSome}
+use Rattle.i3c_streams.specs.Outcomes.{AppendsSome}
 use Rattle.i3c_scenario.specs.Linted.{break_text, breaks, faults_in, frames_text}
 use Rattle.i3c_scenario.proofs.LintWritten.{counted_on, ended_on, reported_on}
 use Rattle.i3c_scenario.proofs.TraceWritten.{front_out, some_out, written_on}
-use Rattle.i3c_scenario.proofs.Written.{appends_both}
+use Rattle.i3c_streams.proofs.Written.{appends_both}
 use Rattle.i3c_scenario.proofs.linting.tell_frames.Goals as goal
 
 pub returns-in_err-report-clause-told : goal.returns-in_err-report-clause-told

@@ -1,8 +1,8 @@
 use Rattle.std.proofs.Common.{◌≡◌, ◌≤◌, ◌++◌, ◌∙◌, ap, arith, drop, length, map, take}
 use Rattle.i3c_scenario.specs.Traces.{ascii}
-use Rattle.i3c_scenario.specs.declared.reading.TheConstants.{MOST_BYTES}
+use Rattle.i3c_streams.specs.declared.reading.TheConstants.{MOST_BYTES}
+use Rattle.i3c_streams.proofs.BytesRead.{all_read}
 use Rattle.i3c_scenario.proofs.AsciiLaws.{length-ascii, put_back}
-use Rattle.i3c_scenario.proofs.TraceRead.{all_read}
 use Rattle.i3c_scenario.proofs.trace.read_text.Goals as goal
 
 pub returns-clause-text : goal.returns-clause-text

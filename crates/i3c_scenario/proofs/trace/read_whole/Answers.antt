@@ -1,6 +1,6 @@
 use Rattle.std.proofs.Common.{rules, ◌≡◌, ◌≤◌, ◌<◌, ◌+◌, ◌++◌, length, length-take, take, arith, ap, length-append, subst}
-use Rattle.i3c_scenario.specs.Reading.{IsPiece}
-use Rattle.i3c_scenario.proofs.TraceRead.{more_read, none_read, read_on, too_many}
+use Rattle.i3c_streams.specs.Reading.{IsPiece}
+use Rattle.i3c_streams.proofs.BytesRead.{more_read, none_read, read_on, too_many}
 use Rattle.i3c_scenario.proofs.trace.read_whole.Goals as goal
 
 pub loop-init : goal.loop-init

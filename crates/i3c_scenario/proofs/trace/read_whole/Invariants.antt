@@ -1,6 +1,6 @@
 use Rattle.std.proofs.Common.{◌≡◌, ◌≤◌, ◌+◌, length}
 use Rattle.std.specs.Io.KnownBytes.{Consumes}
-use Rattle.i3c_scenario.specs.declared.reading.TheConstants.{MOST_BYTES}
+use Rattle.i3c_streams.specs.declared.reading.TheConstants.{MOST_BYTES}
 use Rattle.i3c_scenario.proofs.trace.read_whole.Given as goal
 
 -- each turn reads a byte at least, and keeps what it read

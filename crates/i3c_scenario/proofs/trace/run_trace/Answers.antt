@@ -1,13 +1,13 @@
 use Rattle.std.proofs.Common.{◌≡◌, ◌≤◌, ◌∙◌, ap, length, map, min, IfSome, MatchResult, subst, sym}
 use Rattle.std.specs.Io.KnownBytes.{Appends, IsAtEnd}
-use Rattle.i3c_scenario.specs.Outcomes.{AppendsSome}
+use Rattle.i3c_streams.specs.Outcomes.{AppendsSome}
 use Rattle.i3c_scenario.specs.Faults.{IsLineFault}
 use Rattle.i3c_monitor.specs.Trace.{trace_told}
 use Rattle.i3c_scenario.specs.Traces.{ascii, refused_in, trace_text}
 use Rattle.i3c_scenario.proofs.TraceOut.{anyhow, err_keeps, fault_out, not_large, trace_out}
-use Rattle.i3c_scenario.proofs.TraceRead.{read_as}
+use Rattle.i3c_scenario.proofs.AsciiLaws.{read_as}
 use Rattle.i3c_scenario.proofs.TraceWritten.{same_out}
-use Rattle.i3c_scenario.specs.declared.reading.TheConstants.{MOST_BYTES}
+use Rattle.i3c_streams.specs.declared.reading.TheConstants.{MOST_BYTES}
 use Rattle.i3c_scenario.proofs.trace.run_trace.Goals as goal
 
 pub returns-in-Ok-clause-large : goal.returns-in-Ok-clause-large

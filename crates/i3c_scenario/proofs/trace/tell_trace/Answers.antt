@@ -2,10 +2,10 @@ use Rattle.std.proofs.Common.{◌≡◌, ◌∷◌, ◌++◌, ◌∙◌, ◌+◌
 use Rattle.std.specs.Io.KnownBytes.{Appends}
 use Rattle.i3c_monitor.specs.Lines.{line_text}
 use Rattle.i3c_monitor.specs.Trace.{to_come, trace_told}
-use Rattle.i3c_scenario.specs.Outcomes.{AppendsSome}
+use Rattle.i3c_streams.specs.Outcomes.{AppendsSome}
 use Rattle.i3c_scenario.specs.Traces.{lines_text, refusals_in, refused_in, trace_text}
 use Rattle.i3c_scenario.proofs.TraceWritten.{count_on, front_out, gathered_on, some_out, written_on}
-use Rattle.i3c_scenario.proofs.Written.{appends_both}
+use Rattle.i3c_streams.proofs.Written.{appends_both}
 use Rattle.i3c_scenario.proofs.trace.tell_trace.Goals as goal
 
 pub returns-in_err-decoded-clause-told : goal.returns-in_err-decoded-clause-told

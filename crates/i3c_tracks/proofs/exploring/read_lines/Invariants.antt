@@ -1,5 +1,5 @@
 use Rattle.std.proofs.Common.{◌<◌, length}
-use Rattle.i3c_scenario.specs.Lines.{IsReadFrom}
+use Rattle.i3c_streams.specs.Lines.{IsReadFrom}
 use Rattle.i3c_tracks.proofs.FileRead.{LinesSoFar}
 use Rattle.i3c_tracks.proofs.exploring.read_lines.Given as goal
 

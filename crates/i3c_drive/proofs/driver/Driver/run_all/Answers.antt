@@ -2,7 +2,7 @@ use Rattle.std.proofs.Common.{subst}
 use Rattle.i3c_drive.specs.Inputs.{Gives}
 use Rattle.i3c_drive.specs.Steps.{Fails, IsTold, AnswersLine}
 use Rattle.i3c_drive.proofs.Runs.{driven_stops, fed_fails, last_tells, one_driven}
-use Rattle.i3c_scenario.specs.declared.faults.ScriptFault.{ScriptFault}
+use Rattle.i3c_streams.specs.declared.faults.ScriptFault.{ScriptFault}
 use Rattle.i3c_drive.proofs.driver.Driver.run_all.Goals as goal
 
 pub returns-in-Err-clause-runs : goal.returns-in-Err-clause-runs

@@ -1,7 +1,7 @@
 use Rattle.std.proofs.Common.{subst}
 use Rattle.std.specs.Io.KnownBytes.{Appends}
 use Rattle.i3c_scenario.proofs.CheckRuns.{some_out}
-use Rattle.i3c_scenario.proofs.Written.{still_written}
+use Rattle.i3c_streams.proofs.Written.{still_written}
 use Rattle.i3c_drive.proofs.driver.Driver.run_and_write.Goals as goal
 
 pub returns-in-Ok-flush : goal.returns-in-Ok-flush

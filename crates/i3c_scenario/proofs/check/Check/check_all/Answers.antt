@@ -1,7 +1,7 @@
 use Rattle.std.proofs.Common.{Ok, ap, subst}
 use Rattle.std.specs.Io.KnownBytes.{Appends}
 use Rattle.i3c_scenario.specs.Checks.{LineChecked}
-use Rattle.i3c_scenario.specs.Outcomes.{AppendsSome}
+use Rattle.i3c_streams.specs.Outcomes.{AppendsSome}
 use Rattle.i3c_scenario.proofs.CheckRuns.{all_checked, checks_lost, checks_stop, one_checked}
 use Rattle.i3c_scenario.proofs.check.Check.check_all.Goals as goal
 

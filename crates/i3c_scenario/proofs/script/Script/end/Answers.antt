@@ -1,5 +1,5 @@
 use Rattle.std.proofs.Common.{[], ◌∷◌, ◌++◌, subst}
-use Rattle.i3c_scenario.specs.Outcomes.{GoesLast, output, written}
+use Rattle.i3c_streams.specs.Outcomes.{GoesLast, output, written}
 use Rattle.i3c_scenario.specs.ScriptSteps.{Runs, progress}
 use Rattle.i3c_scenario.proofs.ScriptRuns.{no_feed_in_none, runs_flushed_last}
 use Rattle.i3c_scenario.proofs.script.Script.end.Goals as goal

@@ -1,7 +1,7 @@
 use Rattle.std.proofs.Common.{◌≡◌, ◌∙◌, ◌++◌, take, ap, subst}
 use Rattle.i3c_lines.specs.Gathering.{gathered}
 use Rattle.i3c_scenario.specs.ScriptSteps.{LineEnds, progress}
-use Rattle.i3c_scenario.specs.Outcomes.{output}
+use Rattle.i3c_streams.specs.Outcomes.{output}
 use Rattle.i3c_scenario.proofs.ScriptRuns.{held_runs, take_both}
 use Rattle.i3c_scenario.proofs.script.Script.end_held_line.Goals as goal
 

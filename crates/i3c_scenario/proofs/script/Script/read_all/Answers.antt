@@ -1,9 +1,9 @@
 use Rattle.std.proofs.Common.{◌≤◌, ◌++◌, arith, subst, sym, take}
 use Rattle.i3c_lines.specs.Gathering.{gathered}
-use Rattle.i3c_scenario.specs.Outcomes.{written}
-use Rattle.i3c_scenario.specs.Reading.{IsPiece}
+use Rattle.i3c_streams.specs.Outcomes.{written}
+use Rattle.i3c_streams.specs.Reading.{IsPiece}
 use Rattle.i3c_scenario.specs.ScriptSteps.{ReadPart, RunsTo, progress}
-use Rattle.i3c_scenario.specs.declared.reading.TheConstants.{MOST_BYTES}
+use Rattle.i3c_streams.specs.declared.reading.TheConstants.{MOST_BYTES}
 use Rattle.i3c_scenario.proofs.ScriptRead.{all_so_far, large_part, leaves_all, leaves_more, more_so_far, none_so_far, stopped_in, unread_part}
 use Rattle.i3c_scenario.proofs.script.Script.read_all.Goals as goal
 

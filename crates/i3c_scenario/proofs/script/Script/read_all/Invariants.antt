@@ -1,8 +1,8 @@
 use Rattle.std.proofs.Common.{◌≡◌, ◌+◌, ◌≤◌, []}
 use Rattle.i3c_lines.specs.Gathering.{gathered}
-use Rattle.i3c_scenario.specs.Reading.{Leaves}
+use Rattle.i3c_streams.specs.Reading.{Leaves}
 use Rattle.i3c_scenario.specs.ScriptSteps.{ReadSoFar, progress}
-use Rattle.i3c_scenario.specs.declared.reading.TheConstants.{MOST_BYTES}
+use Rattle.i3c_streams.specs.declared.reading.TheConstants.{MOST_BYTES}
 use Rattle.i3c_scenario.proofs.script.Script.read_all.Given as goal
 
 -- each turn reads a byte at least, and counts what it read; the lines that it ended were run

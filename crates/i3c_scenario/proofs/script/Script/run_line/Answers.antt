@@ -1,6 +1,6 @@
 use Rattle.std.proofs.Common.{◌≡◌, ◌≢◌, ◌∙◌, ◌+◌, ◌++◌, Err, ap, min, subst, sym}
 use Rattle.i3c_text.specs.declared.stop.Stop.{Stop}
-use Rattle.i3c_scenario.specs.Outcomes.{PutsOrFails, output}
+use Rattle.i3c_streams.specs.Outcomes.{PutsOrFails, output}
 use Rattle.i3c_script.specs.Printed.{end_text}
 use Rattle.i3c_scenario.specs.Scripts.{LineRuns}
 use Rattle.i3c_scenario.specs.ScriptSteps.{noted, progress, state}

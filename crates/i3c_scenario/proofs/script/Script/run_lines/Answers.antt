@@ -1,6 +1,6 @@
 use Rattle.std.proofs.Common.{◌≡◌, ◌∙◌, ◌-◌, [], ◌∷◌, ◌++◌, length, take, drop, ap, append_assoc, rules, subst, sym}
 use Rattle.i3c_lines.specs.Gathering.{gathered}
-use Rattle.i3c_scenario.specs.Outcomes.{HasNoFeed, output}
+use Rattle.i3c_streams.specs.Outcomes.{HasNoFeed, output}
 use Rattle.i3c_scenario.specs.ScriptSteps.{RunStops, progress}
 use Rattle.i3c_scenario.proofs.ScriptRuns.{line_done, line_stops, next_line, runs_both, runs_stop, stops_before}
 use Rattle.i3c_scenario.proofs.script.Script.run_lines.Goals as goal

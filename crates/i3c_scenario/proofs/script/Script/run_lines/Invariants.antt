@@ -1,6 +1,6 @@
 use Rattle.std.proofs.Common.{◌≡◌, ℕ, List, [], ◌++◌, length}
 use Rattle.i3c_lines.specs.Gathering.{gathered}
-use Rattle.i3c_scenario.specs.Outcomes.{output}
+use Rattle.i3c_streams.specs.Outcomes.{output}
 use Rattle.i3c_scenario.specs.ScriptSteps.{RunsTo, progress}
 use Rattle.i3c_scenario.proofs.script.Script.run_lines.Given as goal
 

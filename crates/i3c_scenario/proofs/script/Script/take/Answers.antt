@@ -1,6 +1,6 @@
 use Rattle.std.proofs.Common.{◌++◌, subst}
 use Rattle.i3c_lines.specs.Gathering.{gathered}
-use Rattle.i3c_scenario.specs.Outcomes.{GoesLast, output, written}
+use Rattle.i3c_streams.specs.Outcomes.{GoesLast, output, written}
 use Rattle.i3c_scenario.specs.ScriptSteps.{Takes, progress}
 use Rattle.i3c_scenario.proofs.ScriptRuns.{takes_flushed}
 use Rattle.i3c_scenario.proofs.script.Script.take.Goals as goal

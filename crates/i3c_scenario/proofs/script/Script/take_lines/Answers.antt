@@ -1,5 +1,5 @@
 use Rattle.std.proofs.Common.{◌∙◌, ◌+◌, ◌-◌, ◌++◌, length, take, drop, ap}
-use Rattle.i3c_scenario.specs.Outcomes.{output}
+use Rattle.i3c_streams.specs.Outcomes.{output}
 use Rattle.i3c_scenario.specs.ScriptSteps.{progress}
 use Rattle.i3c_scenario.proofs.ScriptRuns.{first_line, no_feed_in_both, no_line, take_both, takes_both, takes_none}
 use Rattle.i3c_scenario.proofs.script.Script.take_lines.Goals as goal

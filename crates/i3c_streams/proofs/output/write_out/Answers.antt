@@ -1,9 +1,9 @@
 use Rattle.std.proofs.Common.{rules, ◌≡◌, ◌≤◌, ℕ, ◌+◌, ◌-◌, arith, drop, length, subst, sym, take}
 use Rattle.std.proofs.lemmas.List.{length-drop, take_all}
 use Rattle.std.specs.Io.KnownBytes.{Appends}
-use Rattle.i3c_scenario.proofs.Written.{more_written, still_written}
-use Rattle.i3c_scenario.proofs.output.write_out.Goals as goal
-use Rattle.i3c_scenario.proofs.output.write_out.Goals.{in-Ok, in-Err}
+use Rattle.i3c_streams.proofs.Written.{more_written, still_written}
+use Rattle.i3c_streams.proofs.output.write_out.Goals as goal
+use Rattle.i3c_streams.proofs.output.write_out.Goals.{in-Ok, in-Err}
 
 pub loop-preserved : goal.loop-preserved
 loop-preserved g c =

@@ -1,6 +1,6 @@
 use Rattle.std.proofs.Common.{◌≤◌, length, take}
 use Rattle.std.specs.Io.KnownBytes.{Appends}
-use Rattle.i3c_scenario.proofs.output.write_out.Given as goal
+use Rattle.i3c_streams.proofs.output.write_out.Given as goal
 
 -- the first `written` bytes are written
 abbrev pub invariant-loop : goal.invariant-loop

@@ -34,9 +34,9 @@ pub struct ScriptLines {
 
 impl ScriptLines {
     ghost use Rattle.std.specs.Prelude.{[], IfErr, true, false};
-    ghost use Rattle.i3c_scenario.specs.Outcomes.{HasNoFeed};
-    ghost use Rattle.i3c_scenario.specs.Lines.{GivesLine, IsGivenOut, IsReadFrom, StaysAt, given, line_in_hand};
-    ghost use Rattle.i3c_scenario.specs.declared.script_lines.Reading.{Reading as HowFar};
+    ghost use Rattle.i3c_streams.specs.Outcomes.{HasNoFeed};
+    ghost use Rattle.i3c_streams.specs.Lines.{GivesLine, IsGivenOut, IsReadFrom, StaysAt, given, line_in_hand};
+    ghost use Rattle.i3c_streams.specs.declared.script_lines.Reading.{Reading as HowFar};
 
     /// The lines of a script before its first byte.
     pub fn new(alloc: Global) -> ScriptLines

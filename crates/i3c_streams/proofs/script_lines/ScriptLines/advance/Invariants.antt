@@ -1,6 +1,6 @@
 use Rattle.std.proofs.Common.{◌≡◌, ◌<◌, ℕ, List, Option, length}
-use Rattle.i3c_scenario.specs.Lines.{IsReadFrom, given}
-use Rattle.i3c_scenario.proofs.script_lines.ScriptLines.advance.Given as goal
+use Rattle.i3c_streams.specs.Lines.{IsReadFrom, given}
+use Rattle.i3c_streams.proofs.script_lines.ScriptLines.advance.Given as goal
 
 -- no line was taken in hand yet, and what was read is the script's
 abbrev pub invariant-loop : goal.invariant-loop

@@ -1,19 +1,19 @@
 ghost use Rattle.std.specs.Prelude.{◌≡◌, ◌<◌, length, MatchResult};
 ghost use Rattle.std.specs.Io.KnownBytes.{Keeps};
-ghost use Rattle.i3c_scenario.specs.Reading.{IsPiece};
+ghost use Rattle.i3c_streams.specs.Reading.{IsPiece};
 
 use crate::faults::ScriptFault;
 use std::io::Read;
 
 /// How many bytes a script or a trace may have.
-pub(crate) const MOST_BYTES: usize = 1 << 20;
+pub const MOST_BYTES: usize = 1 << 20;
 
 /// How many bytes are read at once.
-pub(crate) const CHUNK: usize = 8192;
+pub const CHUNK: usize = 8192;
 
 /// What one turn of reading gave.
 #[derive(Clone, Copy)]
-pub(crate) enum Piece {
+pub enum Piece {
     /// The input ended.
     End,
     /// This many bytes came; they are allowed.
@@ -23,7 +23,7 @@ pub(crate) enum Piece {
 }
 
 /// Reads the next bytes of an input, of which at most `left` more are allowed.
-pub(crate) fn read_piece<R: Read>(
+pub fn read_piece<R: Read>(
     reader: &mut R,
     chunk: &mut [u8],
     left: usize,

@@ -1,10 +1,10 @@
 use Rattle.std.proofs.Common.{◌≡◌, ◌++◌, ◌-◌, ℕ, List, Option, Result, Ok, Err, arith, length, subst, sym, take}
 use Rattle.std.specs.Result.{OnOk}
-use Rattle.i3c_scenario.specs.declared.script_lines.Reading.{Reading}
-use Rattle.i3c_scenario.specs.Lines.{IsReadAs}
-use Rattle.i3c_scenario.specs.Reading.{IsPiece}
-use Rattle.i3c_scenario.proofs.LinesRead.{read_beyond}
-use Rattle.i3c_scenario.proofs.script_lines.ScriptLines.read_more.Goals as goal
+use Rattle.i3c_streams.specs.declared.script_lines.Reading.{Reading}
+use Rattle.i3c_streams.specs.Lines.{IsReadAs}
+use Rattle.i3c_streams.specs.Reading.{IsPiece}
+use Rattle.i3c_streams.proofs.LinesRead.{read_beyond}
+use Rattle.i3c_streams.proofs.script_lines.ScriptLines.read_more.Goals as goal
 
 on_ok : {E : Type 0} → {P : Type 0} → {Q : Type 0} → (r : Result (Unit {0}) E) → (P → Q) → OnOk r P → OnOk r Q
 on_ok (Ok done) f h = f h

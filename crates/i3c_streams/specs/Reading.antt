@@ -1,7 +1,7 @@
 -- What was read, where its bytes are known.
 use Rattle.std.specs.Prelude.{◌≡◌, ℕ, ◌+◌, ◌<◌, ◌≤◌, List, [], length, take, ⊤, Option, Some, None, IfSome}
 use Rattle.std.specs.Io.KnownBytes.{Consumes, IsAtEnd}
-use Rattle.i3c_scenario.specs.declared.reading.Piece.{Piece}
+use Rattle.i3c_streams.specs.declared.reading.Piece.{Piece}
 
 -- the bytes read between the two, and `left`, which remain of `most`
 abbrev pub Leaves : ℕ → Option (List ℕ) → Option (List ℕ) → ℕ → Type 0

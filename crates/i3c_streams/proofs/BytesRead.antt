@@ -1,7 +1,6 @@
--- What was read of a trace, chunk by chunk.
-use Rattle.std.proofs.Common.{◌≡◌, ◌<◌, ◌∙◌, ℕ, ◌+◌, List, [], ◌++◌, length, arith, Option, Some, None, IfSome, ap, append_assoc, append-nil, length-append, map, subst, sym}
+-- What was read, chunk by chunk.
+use Rattle.std.proofs.Common.{◌≡◌, ◌<◌, ◌∙◌, ℕ, ◌+◌, List, [], ◌∷◌, ◌++◌, length, arith, Option, Some, None, IfSome, ap, append_assoc, append-nil, length-append, subst, sym}
 use Rattle.std.specs.Io.KnownBytes.{Consumes, IsAtEnd}
-use Rattle.i3c_scenario.specs.Traces.{ascii}
 
 pub none_read : (a : Option (List ℕ)) (items : List ℕ) → items ≡ [] → Consumes a a items
 none_read None items none = tt
@@ -35,7 +34,22 @@ read_on (Some xs) None c items one two = absurd one
 read_on (Some xs) (Some ys) None items one two = absurd two
 read_on (Some xs) (Some ys) (Some zs) items one two = one ∙ ap (λ bytes. items ++ bytes) two
 
--- the same text, borrowed
-pub read_as : (known : Option (List ℕ)) (items text : List ℕ) → text ≡ items → IfSome known (λ bytes. items ≡ map ascii bytes) → IfSome known (λ bytes. text ≡ map ascii bytes)
-read_as None items text same read = tt
-read_as (Some bytes) items text same read = same ∙ read
+-- the known bytes that are left
+pub unread : Option (List ℕ) → List ℕ
+unread None = []
+unread (Some bytes) = bytes
+
+-- what was read, with what is left and a last feed, is the script
+pub script_is : (known left : Option (List ℕ)) (read front rest : List ℕ) → Consumes known left read → read ≡ front ++ rest → IfSome known (λ script. front ++ (rest ++ (unread left ++ 10 ∷ [])) ≡ script ++ 10 ∷ [])
+unfolding unread
+script_is None left read front rest consumed same = tt
+script_is (Some xs) None read front rest consumed same = absurd consumed
+script_is (Some xs) (Some ys) read front rest consumed same =
+    sym (append_assoc front rest (ys ++ 10 ∷ [])) ∙ ap (λ bytes. bytes ++ (ys ++ 10 ∷ [])) (sym same) ∙ sym (append_assoc read ys (10 ∷ [])) ∙ ap (λ bytes. bytes ++ 10 ∷ []) (sym consumed)
+
+-- the same when nothing is left
+pub ended_is : (known left : Option (List ℕ)) (read bytes : List ℕ) → Consumes known left read → IsAtEnd left → read ++ 10 ∷ [] ≡ bytes → IfSome known (λ script. bytes ≡ script ++ 10 ∷ [])
+ended_is None left read bytes consumed end same = tt
+ended_is (Some xs) None read bytes consumed end same = absurd consumed
+ended_is (Some xs) (Some ys) read bytes consumed end same =
+    sym same ∙ ap (λ b. b ++ 10 ∷ []) (sym (append-nil read) ∙ ap (λ b. read ++ b) (sym end) ∙ sym consumed)

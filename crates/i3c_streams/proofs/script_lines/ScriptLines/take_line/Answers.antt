@@ -1,7 +1,7 @@
 use Rattle.std.proofs.Common.{◌≡◌, ◌+◌, ◌-◌, ℕ, List, [], ◌∷◌, ◌++◌, drop, subst, take}
-use Rattle.i3c_scenario.specs.Outcomes.{HasNoFeed}
-use Rattle.i3c_scenario.proofs.LinesRead.{gives}
-use Rattle.i3c_scenario.proofs.script_lines.ScriptLines.take_line.Goals as goal
+use Rattle.i3c_streams.specs.Outcomes.{HasNoFeed}
+use Rattle.i3c_streams.proofs.LinesRead.{gives}
+use Rattle.i3c_streams.proofs.script_lines.ScriptLines.take_line.Goals as goal
 
 -- the line that ends `end` bytes behind a place
 abbrev Gives : ℕ → ℕ → List ℕ → Type 0

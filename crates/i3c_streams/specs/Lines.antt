@@ -1,9 +1,9 @@
 -- The lines of a script as they are read one after another.
 use Rattle.std.specs.Prelude.{◌≡◌, ℕ, ◌-◌, ◌<◌, ◌≤◌, List, [], ◌∷◌, ◌++◌, drop, length, take, Option}
 use Rattle.std.specs.Io.KnownBytes.{Consumes, IsAtEnd}
-use Rattle.i3c_scenario.specs.declared.script_lines.Reading.{Reading}
-use Rattle.i3c_scenario.specs.declared.script_lines.ScriptLines.{ScriptLines}
-use Rattle.i3c_scenario.specs.Outcomes.{HasNoFeed}
+use Rattle.i3c_streams.specs.declared.script_lines.Reading.{Reading}
+use Rattle.i3c_streams.specs.declared.script_lines.ScriptLines.{ScriptLines}
+use Rattle.i3c_streams.specs.Outcomes.{HasNoFeed}
 
 -- the line in hand, without its line feed
 abbrev pub line_in_hand : ScriptLines → List ℕ

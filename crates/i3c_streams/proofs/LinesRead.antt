@@ -1,17 +1,16 @@
 -- The lines of a script as they are read one after another.
-use Rattle.std.proofs.Common.{◌≡◌, ◌≢◌, ◌<◌, ◌≤◌, ◌∙◌, ℕ, zero, suc, ◌+◌, ◌-◌, List, [], ◌∷◌, ◌++◌, length, take, drop, arith, slice_get, Option, Some, None, IfSome, ap, append_assoc, append-nil, length-append, refl, subst, sym}
+use Rattle.std.proofs.Common.{◌≡◌, ◌≢◌, ◌≤◌, ◌∙◌, ℕ, zero, suc, ◌+◌, ◌-◌, List, [], ◌∷◌, ◌++◌, length, take, drop, arith, slice_get, Option, Some, IfSome, ap, append_assoc, append-nil, length-append, refl, subst, sym}
 use Rattle.std.proofs.lemmas.List.{length-drop, length-take, take-append-drop, take-take, take_all}
 use Rattle.std.proofs.lemmas.List.Elements.{All-tail}
 use Rattle.std.specs.Io.KnownBytes.{IsAtEnd}
-use Rattle.i3c_scenario.specs.declared.reading.Piece.{Piece}
-use Rattle.i3c_scenario.specs.declared.script_lines.Reading.{Reading}
-use Rattle.i3c_scenario.specs.declared.script_lines.ScriptLines.{ScriptLines}
-use Rattle.i3c_scenario.specs.Lines.{IsGivenOut, IsReadAs, IsReadFrom, given}
-use Rattle.i3c_scenario.specs.Outcomes.{HasNoFeed}
-use Rattle.i3c_scenario.specs.Reading.{IsPiece}
-use Rattle.i3c_scenario.proofs.ScriptRead.{ended_is, script_is, unread}
-use Rattle.i3c_scenario.proofs.TraceRead.{all_read, more_read, none_read}
-use Rattle.i3c_scenario.proofs.Written.{take_more}
+use Rattle.i3c_streams.specs.declared.reading.Piece.{Piece}
+use Rattle.i3c_streams.specs.declared.script_lines.Reading.{Reading}
+use Rattle.i3c_streams.specs.declared.script_lines.ScriptLines.{ScriptLines}
+use Rattle.i3c_streams.specs.Lines.{IsGivenOut, IsReadAs, IsReadFrom, given}
+use Rattle.i3c_streams.specs.Outcomes.{HasNoFeed}
+use Rattle.i3c_streams.specs.Reading.{IsPiece}
+use Rattle.i3c_streams.proofs.Written.{take_more}
+use Rattle.i3c_streams.proofs.BytesRead.{all_read, ended_is, more_read, script_is, unread}
 
 -- a piece for which there is no room
 pub read_beyond : (known now next : Option (List ℕ)) (left count : ℕ) (chunk bytes : List ℕ) → IsReadAs Reading.Open known now bytes → IsPiece now next left chunk (Piece.Beyond count) → left ≡ 1048576 - length bytes

@@ -1,0 +1,4 @@
+pub mod Written
+pub mod Feeds
+pub mod BytesRead
+pub mod LinesRead

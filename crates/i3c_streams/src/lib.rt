@@ -1,0 +1,17 @@
+//! The lines of a script, each as soon as it was read, and output that is written whole.
+//!
+//! * `script_lines` reads one line after another.
+//! * `reading` reads bytes, up to those that a script or a trace may have.
+//! * `output` finds where lines end, and writes what is printed.
+//! * `faults` has why reading or writing was given up.
+#![tactic(auto)]
+
+mod faults;
+mod output;
+mod reading;
+mod script_lines;
+
+pub use faults::ScriptFault;
+pub use output::{gather, position_of_feed, write_gathered, write_last, write_out};
+pub use reading::{CHUNK, MOST_BYTES, Piece, read_piece};
+pub use script_lines::ScriptLines;
