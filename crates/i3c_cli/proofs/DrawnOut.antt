@@ -7,7 +7,7 @@ use Rattle.i3c_cli.specs.Drawings.{DrawsLine, DrawsRow, IsWritten}
 use Rattle.i3c_streams.specs.declared.faults.ScriptFault.{ScriptFault}
 use Rattle.i3c_streams.specs.Outcomes.{AppendsSome}
 use Rattle.i3c_scenario.proofs.Gathered.{nothing_out, some_after}
-use Rattle.i3c_scenario.proofs.TraceWritten.{some_out}
+use Rattle.i3c_streams.proofs.WrittenOn.{some_out}
 use Rattle.i3c_streams.proofs.Written.{appends_both}
 
 -- the bytes that three writes append; the last may fail

@@ -6,12 +6,12 @@ use Rattle.i3c_wave.specs.declared.wave.Wave.{Wave}
 use Rattle.i3c_wave.specs.Dump.{free_bus}
 use Rattle.i3c_wave.specs.Scripts.{script_preamble}
 use Rattle.i3c_streams.specs.declared.faults.ScriptFault.{ScriptFault}
-use Rattle.i3c_scenario.specs.declared.script.Tally.{Tally}
+use Rattle.i3c_streams.specs.declared.tally.Tally.{Tally}
 use Rattle.i3c_streams.specs.Outcomes.{AppendsSome, Puts, PutsOrFails, output}
 use Rattle.i3c_scenario.specs.ScriptSteps.{Progress}
 use Rattle.i3c_scenario.specs.Viewed.{AreRun, AreSeen, Fails, Shown, ViewedGoes, Views, bytes_of}
 use Rattle.i3c_scenario.proofs.Gathered.{flush_all, flush_some, puts_both, puts_none, some_puts}
-use Rattle.i3c_scenario.proofs.TraceWritten.{front_out}
+use Rattle.i3c_streams.proofs.WrittenOn.{front_out}
 use Rattle.i3c_scenario.proofs.ViewRuns.{bytes_more}
 use Rattle.i3c_cli.specs.Wavings.{Dumping, FailsLine, GoesLast, IsWaved, WavesLine, WentOut, after_wire, dump_at, script_dump, seen_dump, shown_dump}
 

@@ -6,7 +6,7 @@ use Rattle.i3c_draw.specs.declared.picture.Picture.{Picture}
 use Rattle.i3c_draw.specs.Pictures.{Drawn, after_row, picture_text, row_text}
 use Rattle.i3c_draw.specs.Rows.{pen_at}
 use Rattle.i3c_streams.specs.declared.faults.ScriptFault.{ScriptFault}
-use Rattle.i3c_scenario.specs.declared.script.Tally.{Tally}
+use Rattle.i3c_streams.specs.declared.tally.Tally.{Tally}
 use Rattle.i3c_streams.specs.Outcomes.{AppendsSome}
 use Rattle.i3c_scenario.specs.Viewed.{ViewedGoes}
 use Rattle.i3c_cli.specs.declared.drawing.Drawing.{Drawing}

@@ -6,7 +6,7 @@ use Rattle.i3c_wave.specs.declared.wave.Wave.{Wave}
 use Rattle.i3c_wave.specs.Dump.{after_symbol, free_bus, symbols_dump}
 use Rattle.i3c_wave.specs.Scripts.{script_preamble, string_text}
 use Rattle.i3c_streams.specs.declared.faults.ScriptFault.{ScriptFault}
-use Rattle.i3c_scenario.specs.declared.script.Tally.{Tally}
+use Rattle.i3c_streams.specs.declared.tally.Tally.{Tally}
 use Rattle.i3c_streams.specs.Outcomes.{AppendsSome, Output, Puts, PutsOrFails, output}
 use Rattle.i3c_scenario.specs.Expecting.{HasBegun}
 use Rattle.i3c_scenario.specs.ScriptSteps.{Progress}

@@ -2,7 +2,7 @@
 use Rattle.std.proofs.Common.{◌≡◌, ◌∙◌, ℕ, List, [], ◌++◌, Option, None, Some, ap, append_assoc, append-nil, subst, sym}
 use Rattle.std.specs.Io.KnownBytes.{Appends}
 use Rattle.i3c_streams.specs.Outcomes.{AppendsSome, Output, Puts, PutsSome, written}
-use Rattle.i3c_scenario.proofs.TraceWritten.{some_out}
+use Rattle.i3c_streams.proofs.WrittenOn.{some_out}
 use Rattle.i3c_streams.proofs.Written.{appends_both}
 
 pub nothing_out : (out : Option (List ℕ)) → Appends out out []

@@ -9,7 +9,7 @@ use Rattle.i3c_lines.specs.Forms.{IsCommand, IsSkipped}
 use Rattle.i3c_lines.specs.Naming.{is_same, place_named}
 use Rattle.i3c_lines.specs.Namings.{name_given, names_meant}
 use Rattle.i3c_streams.specs.declared.faults.ScriptFault.{ScriptFault}
-use Rattle.i3c_scenario.specs.declared.script.Tally.{Tally}
+use Rattle.i3c_streams.specs.declared.tally.Tally.{Tally}
 use Rattle.i3c_scenario.specs.Expecting.{IsBad, IsMarked}
 use Rattle.i3c_streams.specs.Outcomes.{AppendsSome, HasNoFeed}
 

@@ -1,13 +1,7 @@
-pub mod Faults
-pub mod Traces
-pub mod Linted
 pub mod Expecting
 pub mod Scripts
 pub mod ScriptSteps
 pub mod Legal
 pub mod Checks
 pub mod Watched
-pub mod Counting
-pub mod Agreeing
-pub mod Reporting
 pub mod Viewed

@@ -3,7 +3,7 @@ use Rattle.std.specs.Prelude.{◌≡◌, ◌⊎◌, ℕ, ◌+◌, ◌-◌, drop,
 use Rattle.i3c_frame.specs.declared.symbols.Symbol.{Symbol}
 use Rattle.i3c_lines.specs.declared.refusals.Refusal.{Refusal}
 use Rattle.i3c_streams.specs.declared.faults.ScriptFault.{ScriptFault}
-use Rattle.i3c_scenario.specs.declared.script.Tally.{Tally}
+use Rattle.i3c_streams.specs.declared.tally.Tally.{Tally}
 use Rattle.i3c_streams.specs.Outcomes.{HasNoFeed}
 use Rattle.i3c_scenario.specs.Scripts.{LineRuns, refusals_of, refused_text}
 use Rattle.i3c_scenario.specs.ScriptSteps.{Progress}

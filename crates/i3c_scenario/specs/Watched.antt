@@ -3,7 +3,7 @@ use Rattle.std.specs.Prelude.{◌≡◌, ◌⊎◌, ℕ, ◌+◌, ◌==◌, Bool
 use Rattle.std.specs.Fmt.{decimal}
 use Rattle.std.specs.Io.KnownBytes.{Appends}
 use Rattle.i3c_lines.specs.declared.refusals.Refusal.{Refusal}
-use Rattle.i3c_scenario.specs.declared.script.Tally.{Tally}
+use Rattle.i3c_streams.specs.declared.tally.Tally.{Tally}
 use Rattle.i3c_scenario.specs.declared.watched.Watching.{Watching}
 use Rattle.i3c_scenario.specs.declared.watched.WatchFault.{WatchFault}
 use Rattle.i3c_scenario.specs.Expecting.{HasBegun, IsBad, Standing}

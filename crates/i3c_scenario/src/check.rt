@@ -3,10 +3,9 @@ ghost use Rattle.std.specs.Io.KnownBytes.{Appends, IsAtEnd};
 ghost use Rattle.i3c_scenario.specs.Checks.{ChecksGoOut};
 
 use crate::expecting::line_fault;
-use crate::script::Tally;
 use i3c_base::Addr7;
 use i3c_lines::{FormFault, Name, Names, push_quoted, read_line};
-use i3c_streams::{CHUNK, MOST_BYTES, ScriptFault, ScriptLines, write_out};
+use i3c_streams::{CHUNK, MOST_BYTES, ScriptFault, ScriptLines, Tally, write_out};
 use i3c_text::Text;
 use std::alloc::{AllocError, Global};
 use std::io::{Read, Write};

@@ -10,7 +10,7 @@ ghost use Rattle.i3c_lines.specs.Forms.{HasNoForm};
 ghost use Rattle.i3c_scenario.specs.Expecting.{AlwaysAt, HasBegun, MarkDoes, TestsAt};
 ghost use Rattle.i3c_script.specs.Telling.{Prints};
 ghost use Rattle.i3c_scenario.specs.ScriptSteps.{HaveLasted, LineEnds, Outlasts, Reads, ReadsAll, ReadsCounted, Runs, Takes, noted, progress, state};
-ghost use Rattle.i3c_scenario.specs.Faults.{IsLineFault};
+ghost use Rattle.i3c_streams.specs.Faults.{IsLineFault};
 ghost use Rattle.i3c_script.specs.Stops.{refusals};
 
 use crate::expecting::{push_met, push_unmet};
@@ -20,21 +20,12 @@ use i3c_facts::{Before, Facts, Mark, read_mark};
 use i3c_lines::{Command, Line, Names, Refusal, is_skipped};
 use i3c_script::Stage;
 use i3c_streams::{
-    CHUNK, MOST_BYTES, Piece, ScriptFault, gather, position_of_feed, read_piece, write_last,
+    CHUNK, MOST_BYTES, Piece, ScriptFault, Tally, gather, position_of_feed, read_piece, write_last,
 };
 use i3c_text::{Stop, Text};
 use std::alloc::{AllocError, Global};
 use std::io::{Read, Write};
 use std::mem;
-
-/// The counts of a script that was run to its end.
-#[derive(Clone, Copy, Debug, PartialEq, Eq)]
-pub struct Tally {
-    /// How many lines were refused.
-    pub refused: u64,
-    /// How many expectations weren't met.
-    pub unmet: u64,
-}
 
 /// Runs a script: its lines in order, as they are read; each prints its output. After a refused line the next is run.
 ///

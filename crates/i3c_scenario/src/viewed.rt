@@ -4,9 +4,9 @@ ghost use Rattle.i3c_frame.specs.declared.symbols.Symbol.{Symbol as SymbolValue}
 ghost use Rattle.i3c_streams.specs.declared.faults.ScriptFault.{ScriptFault as FaultValue};
 ghost use Rattle.i3c_scenario.specs.Viewed.{ViewedGoes, kept};
 
-use crate::script::{Script, Tally};
+use crate::script::Script;
 use i3c_frame::Symbol;
-use i3c_streams::{CHUNK, MOST_BYTES, ScriptFault, ScriptLines};
+use i3c_streams::{CHUNK, MOST_BYTES, ScriptFault, ScriptLines, Tally};
 use std::alloc::Global;
 use std::io::Read;
 

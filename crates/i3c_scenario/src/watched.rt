@@ -5,9 +5,9 @@ ghost use Rattle.i3c_scenario.specs.Watched.{WatchedGoesOut, numbered};
 
 use crate::expecting::line_fault;
 use crate::reasons::Known;
-use crate::script::{Script, Tally};
+use crate::script::Script;
 use i3c_lines::{FormFault, Refusal};
-use i3c_streams::{CHUNK, MOST_BYTES, ScriptFault, ScriptLines, write_out};
+use i3c_streams::{CHUNK, MOST_BYTES, ScriptFault, ScriptLines, Tally, write_out};
 use i3c_text::{Stop, Text};
 use std::alloc::{AllocError, Global};
 use std::io::{Read, Write};

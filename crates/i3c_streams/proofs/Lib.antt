@@ -2,3 +2,4 @@ pub mod Written
 pub mod Feeds
 pub mod BytesRead
 pub mod LinesRead
+pub mod WrittenOn

@@ -1,3 +1,4 @@
 pub mod Reading
 pub mod Outcomes
 pub mod Lines
+pub mod Faults

@@ -3,15 +3,17 @@
 //! * `script_lines` reads one line after another.
 //! * `reading` reads bytes, up to those that a script or a trace may have.
 //! * `output` finds where lines end, and writes what is printed.
-//! * `faults` has why reading or writing was given up.
+//! * `faults` has why reading or writing was given up, and `tally` what a run to the end counts.
 #![tactic(auto)]
 
 mod faults;
 mod output;
 mod reading;
 mod script_lines;
+mod tally;
 
 pub use faults::ScriptFault;
 pub use output::{gather, position_of_feed, write_gathered, write_last, write_out};
 pub use reading::{CHUNK, MOST_BYTES, Piece, read_piece};
 pub use script_lines::ScriptLines;
+pub use tally::Tally;

@@ -4,7 +4,7 @@ use Rattle.std.specs.Io.KnownBytes.{Appends}
 use Rattle.i3c_draw.specs.Pictures.{head_text, line}
 use Rattle.i3c_streams.specs.declared.faults.ScriptFault.{ScriptFault}
 use Rattle.i3c_streams.specs.Outcomes.{AppendsSome}
-use Rattle.i3c_scenario.proofs.TraceWritten.{some_out}
+use Rattle.i3c_streams.proofs.WrittenOn.{some_out}
 use Rattle.i3c_cli.proofs.DrawnOut.{first_cut, three_out}
 use Rattle.i3c_cli.proofs.drawing.write_picture.Goals as goal
 

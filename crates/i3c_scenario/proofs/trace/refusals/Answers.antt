@@ -1,5 +1,0 @@
-use Rattle.std.proofs.Common.{rules}
-use Rattle.i3c_scenario.proofs.trace.refusals.Goals as goal
-
-pub returns-in-Refused : goal.returns-in-Refused
-returns-in-Refused c = search rules

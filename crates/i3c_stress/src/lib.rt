@@ -1,0 +1,13 @@
+//! Devices that post from threads of their own, counted.
+//!
+//! * `stress_bus` sets a bus with its devices up and closes it.
+//! * `stressing` lets the devices post.
+//! * `report` counts the run.
+#![tactic(auto)]
+
+mod report;
+mod stress_bus;
+mod stressing;
+
+pub use report::{StressFault, StressReport};
+pub use stressing::{Gate, MOST_DEVICES, MOST_POSTS, Watch, stress, stress_watched};

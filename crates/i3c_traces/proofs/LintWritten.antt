@@ -1,0 +1,78 @@
+-- What goes out of a trace with its faults.
+use Rattle.std.proofs.Common.{◌≡◌, ◌∙◌, ℕ, ◌+◌, List, [], ◌∷◌, ◌++◌, length, map, arith, inr, Option, IfSome, MatchResult, OnOk, Result, Ok, Err, ap, append_assoc, min, refl}
+use Rattle.std.proofs.lemmas.Grind.{flat_map-append}
+use Rattle.std.specs.Io.KnownBytes.{Appends}
+use Rattle.i3c_frame.specs.declared.frames.Frames.{Frames}
+use Rattle.i3c_frame.specs.declared.symbols.Symbol.{Symbol}
+use Rattle.i3c_frame.specs.Frames.{IsRead}
+use Rattle.i3c_frame.specs.Parts.{parts}
+use Rattle.i3c_monitor.specs.declared.lint_fault.LintFault.{LintFault}
+use Rattle.i3c_monitor.specs.declared.report.Report.{Report}
+use Rattle.i3c_monitor.specs.Lint.{LintLine}
+use Rattle.i3c_monitor.specs.Lint.LintLine.{Faulty}
+use Rattle.i3c_monitor.specs.LintLines.{lint_line_text, lint_text}
+use Rattle.i3c_monitor.specs.Linting.{report_lines}
+use Rattle.i3c_streams.specs.declared.faults.ScriptFault.{ScriptFault}
+use Rattle.i3c_streams.specs.declared.tally.Tally.{Tally}
+use Rattle.i3c_streams.specs.Faults.{IsLineFault}
+use Rattle.i3c_traces.specs.Linted.{GoesOutLinted, all_faults, faults_in, frames_faults, frames_text}
+use Rattle.i3c_streams.specs.Outcomes.{AppendsSome}
+use Rattle.i3c_traces.specs.Traces.{ascii}
+use Rattle.i3c_streams.proofs.WrittenOn.{count_on, gathered_on}
+
+-- three texts, one behind the other, if the last was pushed
+pub three : {E : Type 0} → (r : Result (Unit {0}) E) (t a b c x1 x2 x3 : List ℕ) → x1 ≡ t ++ a → x2 ≡ x1 ++ b → OnOk r (x3 ≡ x2 ++ c) → OnOk r (x3 ≡ t ++ (a ++ (b ++ c)))
+three (Ok done) t a b c x1 x2 x3 e1 e2 e3 = e3 ∙ ap (λ x. x ++ c) (e2 ∙ ap (λ x. x ++ b) e1) ∙ append_assoc (t ++ a) b c ∙ append_assoc t a (b ++ c)
+three (Err e) t a b c x1 x2 x3 e1 e2 e3 = tt
+
+pub four : {E : Type 0} → (r : Result (Unit {0}) E) (t a b c d x1 x2 x3 x4 : List ℕ) → x1 ≡ t ++ a → x2 ≡ x1 ++ b → x3 ≡ x2 ++ c → OnOk r (x4 ≡ x3 ++ d)
+    → OnOk r (x4 ≡ t ++ (a ++ (b ++ (c ++ d))))
+four (Ok done) t a b c d x1 x2 x3 x4 e1 e2 e3 e4 =
+    e4 ∙ ap (λ x. x ++ d) (e3 ∙ ap (λ x. x ++ c) (e2 ∙ ap (λ x. x ++ b) e1))
+    ∙ append_assoc ((t ++ a) ++ b) c d ∙ append_assoc (t ++ a) b (c ++ d) ∙ append_assoc t a (b ++ (c ++ d))
+four (Err e) t a b c d x1 x2 x3 x4 e1 e2 e3 e4 = tt
+
+-- the lines of a report are gathered behind what went out and a text
+pub reported_on : (trace : List Symbol) (all first text tail : List ℕ) (come lines rest : List LintLine) → come ≡ lines ++ rest
+    → all ≡ first ++ (text ++ (lint_text trace come ++ tail)) → all ≡ first ++ ((text ++ lint_text trace lines) ++ (lint_text trace rest ++ tail))
+reported_on trace all first text tail come lines rest is told =
+    gathered_on all first text (lint_text trace lines) (lint_text trace rest ++ tail)
+    (told ∙ ap (λ lines. first ++ (text ++ (lint_text trace lines ++ tail))) is
+    ∙ ap (λ lines. first ++ (text ++ (lines ++ tail))) (flat_map-append (lint_line_text trace) lines rest)
+    ∙ ap (λ rest. first ++ (text ++ rest)) (append_assoc (lint_text trace lines) (lint_text trace rest) tail))
+
+-- where nothing is left but what follows the frames
+pub ended_on : (trace : List Symbol) (all first text tail : List ℕ) (come : List LintLine) → come ≡ [] → all ≡ first ++ (text ++ (lint_text trace come ++ tail)) → all ≡ first ++ (text ++ tail)
+ended_on trace all first text tail come none told = told ∙ ap (λ lines. first ++ (text ++ (lint_text trace lines ++ tail))) none
+
+faulty_all : (faults : List LintFault) → all_faults (map Faulty faults) ≡ length faults
+faulty_all [] = refl
+faulty_all (fault ∷ rest) = let h : all_faults (map Faulty rest) ≡ length rest = faulty_all rest in omega (arith, h)
+
+all_faults-append : (lines rest : List LintLine) → all_faults (lines ++ rest) ≡ all_faults lines + all_faults rest
+all_faults-append [] rest = omega arith
+all_faults-append (line ∷ lines) rest = let h : all_faults (lines ++ rest) ≡ all_faults lines + all_faults rest = all_faults-append lines rest in omega (arith, h)
+
+reported_all : (report : Report) → all_faults (report_lines report) ≡ faults_in report
+reported_all (Report.Decoded decoded) = omega arith
+reported_all (Report.Faults faults) = faulty_all faults.items
+
+-- the faults of a report are counted as far as a number goes
+pub counted_on : (counted next broken : ℕ) (come : List LintLine) (report : Report) (rest : List LintLine) → come ≡ report_lines report ++ rest
+    → next ≡ min (counted + faults_in report) 18446744073709551615
+    → min (counted + (all_faults come + broken)) 18446744073709551615 ≡ min (next + (all_faults rest + broken)) 18446744073709551615
+counted_on counted next broken come report rest is counts =
+    let more : all_faults come ≡ all_faults (report_lines report) + all_faults rest = ap all_faults is ∙ all_faults-append (report_lines report) rest in
+    let sum : all_faults come + broken ≡ faults_in report + (all_faults rest + broken) = omega (arith, more, reported_all report) in
+    ap (λ n. min (counted + n) 18446744073709551615) sum ∙ count_on counted (faults_in report) next (all_faults rest + broken) counts
+
+-- a text that was read
+pub frames_out : (legacies : ℕ) (known old new : Option (List ℕ)) (result : Result Tally ScriptFault) (text : List ℕ) (frames : Frames)
+    → IfSome known (λ bytes. text ≡ map ascii bytes) → IsRead (parts text) frames
+    → MatchResult result (λ tally. (tally.refused ≡ min (frames_faults legacies frames) 18446744073709551615) × Appends old new (frames_text legacies frames))
+    (λ fault. IsLineFault fault × AppendsSome old new (frames_text legacies frames))
+    → GoesOutLinted legacies known old new result
+frames_out legacies known old new (Ok tally) text frames read is tells =
+    (frames_text legacies frames, record { text = text; read = read; frames = frames; is_read = is; told = refl; counted = tells.0 }, tells.1)
+frames_out legacies known old new (Err fault) text frames read is tells =
+    inr (frames_text legacies frames, min (frames_faults legacies frames) 18446744073709551615, record { text = text; read = read; frames = frames; is_read = is; told = refl; counted = refl }, tells.1)

@@ -1,0 +1,104 @@
+-- The lines that a trace comes to with its faults.
+use Rattle.std.specs.Prelude.{◌≡◌, ◌⊎◌, ℕ, ◌+◌, nat_lt, ◌||◌, List, [], ◌∷◌, ◌++◌, codes, length, map, min, take, option_copied, Option, Some, None, IfSome, Result, MatchResult, if◌then◌else◌}
+use Rattle.std.specs.Io.KnownBytes.{Appends, Keeps}
+use Rattle.i3c_base.specs.declared.addresses.Addresses.{Addresses}
+use Rattle.i3c_frame.specs.declared.frames.Break.{Break}
+use Rattle.i3c_frame.specs.declared.frames.Due.{Due}
+use Rattle.i3c_frame.specs.declared.frames.Frames.{Frames}
+use Rattle.i3c_frame.specs.Frames.{IsRead}
+use Rattle.i3c_frame.specs.Parts.{parts}
+use Rattle.i3c_monitor.specs.declared.report.Report.{Report}
+use Rattle.i3c_monitor.specs.Lines.{number_text}
+use Rattle.i3c_monitor.specs.Lint.{LintLine, trace_linted}
+use Rattle.i3c_monitor.specs.Lint.LintLine.{Shown, Faulty}
+use Rattle.i3c_monitor.specs.LintLines.{lint_text}
+use Rattle.i3c_streams.specs.declared.faults.ScriptFault.{ScriptFault}
+use Rattle.i3c_streams.specs.declared.tally.Tally.{Tally}
+use Rattle.i3c_streams.specs.Outcomes.{AppendsSome}
+use Rattle.i3c_traces.specs.Traces.{ascii, refusals_in, GoesOut}
+
+-- the symbol expected at the point where a text stops being a trace
+abbrev pub due_text : Due → List ℕ
+due_text Due.Symbol = codes ": no symbol"
+due_text Due.Header = codes ": a header is due"
+due_text Due.Start = codes ": S is due"
+due_text Due.Stop = codes ": P is due"
+
+-- a byte, or a question mark for one that isn't printed
+abbrev pub printable : ℕ → ℕ
+printable byte = if nat_lt byte 32 || nat_lt 126 byte then 63 else byte
+
+-- what follows the bytes that are told of a longer text
+abbrev pub more_text : ℕ → List ℕ
+more_text count = if nat_lt 16 count then codes ".." else []
+
+-- a text in quotes, or its first bytes
+abbrev pub part_text : List ℕ → List ℕ
+part_text part = codes " '" ++ (map printable (take 16 part) ++ (more_text (length part) ++ codes "'"))
+
+-- a text in the place of a symbol, if there is one
+abbrev pub parted_text : Option (List ℕ) → List ℕ
+parted_text None = []
+parted_text (Some part) = part_text part
+
+-- the text in the place where a text stops being a trace, and the symbol expected there
+abbrev pub cause_text : Break → List ℕ
+cause_text broken = parted_text (option_copied broken.part) ++ (due_text broken.due ++ 10 ∷ [])
+
+-- the line that tells where a text stops being a trace
+abbrev pub broken_text : Break → List ℕ
+broken_text broken = number_text (codes "frame ") broken.frame ++ (number_text (codes ": symbol ") broken.symbol ++ cause_text broken)
+
+-- the same, if a text does
+abbrev pub break_text : Option Break → List ℕ
+break_text None = []
+break_text (Some broken) = broken_text broken
+
+-- how many faults that is
+abbrev pub breaks : Option Break → ℕ
+breaks None = 0
+breaks (Some broken) = 1
+
+-- how many faults one line is
+abbrev pub line_faults : LintLine → ℕ
+line_faults (Shown decoded) = refusals_in decoded
+line_faults (Faulty fault) = 1
+
+-- the number of faults among these lines
+abbrev pub all_faults : List LintLine → ℕ
+all_faults [] = 0
+all_faults (line ∷ rest) = line_faults line + all_faults rest
+
+-- how many a report tells
+abbrev pub faults_in : Report → ℕ
+faults_in (Report.Decoded decoded) = refusals_in decoded
+faults_in (Report.Faults faults) = length faults.items
+
+-- the lines of frames, and of the text behind them
+abbrev pub frames_text : ℕ → Frames → List ℕ
+frames_text legacies frames = lint_text frames.symbols.items (trace_linted legacies frames.symbols.items) ++ break_text frames.broken
+
+-- how many faults these are
+abbrev pub frames_faults : ℕ → Frames → ℕ
+frames_faults legacies frames = all_faults (trace_linted legacies frames.symbols.items) + breaks frames.broken
+
+-- the known bytes give these lines, and this number of faults
+pub record CameToLinted (legacies : ℕ) (known : Option (List ℕ)) (lines : List ℕ) (faults : ℕ) : Type 0 where
+  pub text : List ℕ
+  pub read : IfSome known (λ bytes. text ≡ map ascii bytes)
+  pub frames : Frames
+  pub is_read : IsRead (parts text) frames
+  pub told : lines ≡ frames_text legacies frames
+  pub counted : faults ≡ min (frames_faults legacies frames) 18446744073709551615
+
+-- what goes out of known bytes: their lines, all of them with `Ok`, and otherwise none or the beginning
+abbrev pub GoesOutLinted : ℕ → Option (List ℕ) → Option (List ℕ) → Option (List ℕ) → Result Tally ScriptFault → Type 0
+GoesOutLinted legacies known old new result =
+    MatchResult result
+    (λ tally. (lines : List ℕ) × CameToLinted legacies known lines tally.refused × Appends old new lines)
+    (λ _. Keeps old new ⊎ ((lines : List ℕ) × (faults : ℕ) × CameToLinted legacies known lines faults × AppendsSome old new lines))
+
+-- the output with faults, given the addresses of legacy targets, or without
+abbrev pub GoesOutAs : Option Addresses → Option (List ℕ) → Option (List ℕ) → Option (List ℕ) → Result Tally ScriptFault → Type 0
+GoesOutAs None known old new result = GoesOut known old new result
+GoesOutAs (Some legacies) known old new result = GoesOutLinted legacies.0 known old new result

@@ -1,0 +1,72 @@
+-- The lines that a trace comes to.
+use Rattle.std.specs.Prelude.{◌≡◌, ◌⊎◌, ℕ, ◌+◌, nat_lt, All, List, [], ◌∷◌, ◌++◌, codes, decimal, flat_map, map, min, Option, IfSome, Result, MatchResult, if◌then◌else◌}
+use Rattle.std.specs.Io.KnownBytes.{Appends, Keeps}
+use Rattle.i3c_frame.specs.declared.symbols.Symbol.{Symbol}
+use Rattle.i3c_frame.specs.declared.traces.TraceFault.{TraceFault}
+use Rattle.i3c_frame.specs.Parts.{parts}
+use Rattle.i3c_frame.specs.Texts.{IsInRange, text_of}
+use Rattle.i3c_frame.specs.Traces.{IsFirstFault, IsTrace}
+use Rattle.i3c_monitor.specs.declared.decoded.Decoded.{Decoded}
+use Rattle.i3c_monitor.specs.Lines.{line_text}
+use Rattle.i3c_monitor.specs.Trace.{trace_told}
+use Rattle.i3c_streams.specs.declared.faults.ScriptFault.{ScriptFault}
+use Rattle.i3c_streams.specs.declared.tally.Tally.{Tally}
+use Rattle.i3c_streams.specs.Outcomes.{AppendsSome}
+
+-- a byte as it is read: one that isn't ASCII is a question mark
+abbrev pub ascii : ℕ → ℕ
+ascii byte = if nat_lt byte 128 then byte else 63
+
+-- the lines of the decoded parts of a trace
+abbrev pub lines_text : List Symbol → List Decoded → List ℕ
+lines_text trace decoded = flat_map (line_text trace) decoded
+
+-- the lines of a trace
+abbrev pub trace_text : List Symbol → List ℕ
+trace_text trace = lines_text trace (trace_told trace)
+
+-- how many refusals one line is
+abbrev pub refusals_in : Decoded → ℕ
+refusals_in (Decoded.Refused fault) = 1
+refusals_in _ = 0
+
+-- how many refusals several are
+abbrev pub refused_in : List Decoded → ℕ
+refused_in [] = 0
+refused_in (decoded ∷ rest) = refusals_in decoded + refused_in rest
+
+-- the line of a text that is no trace: want of memory has none
+abbrev pub fault_line : TraceFault → List ℕ
+fault_line (TraceFault.BadSymbol number) = codes "refused BadSymbol " ++ (decimal number ++ 10 ∷ [])
+fault_line TraceFault.NoStart = codes "refused NoStart" ++ 10 ∷ []
+fault_line TraceFault.NoStop = codes "refused NoStop" ++ 10 ∷ []
+fault_line TraceFault.OutOfMemory = []
+
+-- the text is a trace, with these lines and this number of refusals
+pub record IsTraceTold (text lines : List ℕ) (refused : ℕ) : Type 0 where
+  pub trace : List Symbol
+  pub is_trace : IsTrace trace
+  pub in_range : All IsInRange trace
+  pub same : map text_of trace ≡ parts text
+  pub told : lines ≡ trace_text trace
+  pub counted : refused ≡ min (refused_in (trace_told trace)) 18446744073709551615
+
+-- the text is none, with the line of its first fault
+pub record IsFaultTold (text lines : List ℕ) (refused : ℕ) : Type 0 where
+  pub fault : TraceFault
+  pub first : IsFirstFault (parts text) fault
+  pub told : lines ≡ fault_line fault
+  pub counted : refused ≡ 1
+
+-- the known bytes give these lines, and this number of refusals
+pub record CameTo (known : Option (List ℕ)) (lines : List ℕ) (refused : ℕ) : Type 0 where
+  pub text : List ℕ
+  pub read : IfSome known (λ bytes. text ≡ map ascii bytes)
+  pub told : IsTraceTold text lines refused ⊎ IsFaultTold text lines refused
+
+-- what goes out of known bytes: their lines, all of them with `Ok`, and otherwise none or the beginning
+abbrev pub GoesOut : Option (List ℕ) → Option (List ℕ) → Option (List ℕ) → Result Tally ScriptFault → Type 0
+GoesOut known old new result =
+    MatchResult result
+    (λ tally. (lines : List ℕ) × CameTo known lines tally.refused × Appends old new lines)
+    (λ _. Keeps old new ⊎ ((lines : List ℕ) × (refused : ℕ) × CameTo known lines refused × AppendsSome old new lines))
