@@ -13,6 +13,8 @@ use lib.Bits.{bit_and}
 use Rattle.i3c_base.specs.Places.{masked_from}
 use Rattle.i3c_base.specs.Cutting.{IsUncut, cut_of, no_cuts}
 use Rattle.i3c_base.specs.declared.range.TheConstants.{SLOTS}
+use Rattle.std.proofs.lemmas.Bool.Decides.{eqb_tells}
+use Rattle.std.specs.Option.{is_some}
 
 pub length-masked_from : (n mask : ℕ) (xs : List ℕ) → length (masked_from n mask xs) ≡ length xs
 length-masked_from n mask [] = refl
@@ -118,3 +120,12 @@ masked_from-map f n mask (x ∷ xs) =
     go : (b : Bool) → (if b then Some (f x) else None) ≡ option_map f (if b then Some x else None)
     go true = refl
     go false = refl
+
+-- a mask names the slots that are cut
+pub names_cut : (mask : ℕ) (xs : List ℕ) (now : List (Option ℕ)) (s : ℕ) → masked_from 0 mask xs ≡ now → s < length xs → (bit_at mask s == 1) ≡ is_some (cut_of now s)
+names_cut mask xs now s v l =
+    let read : get_or (masked_from 0 mask xs) s None ≡ cut_of now s = ap (λ ys. get_or ys s None) v in
+    elim (eqb_tells (bit_at mask s) 1) [
+      | inl (e, is) ↦ e ∙ ap is_some (sym (masked_in mask xs s l is) ∙ read)
+      | inr (e, isnt) ↦ e ∙ ap is_some (sym (masked_out mask xs s l isnt) ∙ read)
+    ]

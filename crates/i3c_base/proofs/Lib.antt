@@ -2,6 +2,7 @@ pub mod Lookups
 pub mod CutLaws
 pub mod CutTests
 pub mod NumberLaws
+pub mod AddressByteLaws
 pub mod LostLaws
 pub mod Verdicts
 pub mod BitLaws

@@ -1,4 +1,5 @@
 pub mod Numbers
+pub mod AddressBytes
 pub mod Places
 pub mod Filling
 pub mod Sets

@@ -26,7 +26,9 @@ impl Model for Cuts {
 }
 
 impl Cuts {
-    ghost use Rattle.std.specs.Prelude.{◌≡◌, ◌↔◌, IsTrue, Some, slice_set};
+    ghost use Rattle.std.specs.Prelude.{◌≡◌, ◌↔◌, ◌<◌, ◌==◌, ℕ, IsTrue, Some, is_some, slice_set};
+    ghost use Rattle.std.specs.Int.{bit_at};
+    ghost use Rattle.i3c_base.specs.declared.range.TheConstants.{SLOTS};
     ghost use Rattle.i3c_base.specs.Cutting.{counted_from, cut_of, earlier, lost_by, no_cuts, IsUncut};
 
     /// No cut.
@@ -87,6 +89,13 @@ impl Cuts {
             cut: self.cut,
             bits,
         }
+    }
+
+    /// A bit for each slot: bit `s` is set where slot `s` is cut.
+    pub fn slots(&self) -> u64
+        ensures { (s : ℕ) → s < SLOTS → (bit_at result s == 1) ≡ is_some (cut_of self.now s) }
+    {
+        self.cut
     }
 
     /// These cuts; none is left.

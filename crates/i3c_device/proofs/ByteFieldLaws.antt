@@ -1,17 +1,15 @@
 -- Bytes that stand for what clauses see.
-use Rattle.std.proofs.Common.{◌≡◌, ◌∙◌, ℕ, zero, suc, ◌<◌, Bool, true, false, [], ◌∷◌, get_or, Option, Some, None, ap, arith, refl, sym}
-use Rattle.std.specs.Int.{from_le_bytes, to_le_bytes, w64}
-use Rattle.std.proofs.lemmas.Nat.{le_bytes_8}
+use Rattle.std.proofs.Common.{◌≡◌, ◌∙◌, ℕ, zero, suc, ◌<◌, Bool, true, false, List, [], ◌∷◌, get_or, ap, arith, refl, sym}
+use Rattle.std.specs.Int.{from_le_bytes, to_le_bytes, w16, w64}
+use Rattle.std.proofs.lemmas.Nat.{le_bytes_2, le_bytes_8}
 use Rattle.i3c_base.specs.State.{Device}
-use Rattle.i3c_device.specs.ByteFields.{HaveSameByteFields, FitBytes, IsSmall, bit_of, field_bytes, byte_of}
+use Rattle.i3c_base.specs.AddressBytes.{byte_of}
+use Rattle.i3c_base.proofs.AddressByteLaws.{byte_own, byte_small}
+use Rattle.i3c_device.specs.ByteFields.{HaveSameByteFields, FitBytes, bit_of, field_bytes}
 
 bit_small : (b : Bool) → bit_of b < 256
 bit_small false = omega arith
 bit_small true = omega arith
-
-byte_small : (a : Option ℕ) → IsSmall a → byte_of a < 256
-byte_small None h = omega arith
-byte_small (Some a) h = omega (arith, h)
 
 fields_small : (d : Device) → FitBytes d → (i : ℕ) → get_or (field_bytes d) i 0 < 256
 fields_small d h zero = byte_small d.fixed h.fixed
@@ -35,12 +33,6 @@ bit_own false true h = absurd (omega (arith, h))
 bit_own true false h = absurd (omega (arith, h))
 bit_own true true h = refl
 
-byte_own : (a b : Option ℕ) → IsSmall a → IsSmall b → byte_of a ≡ byte_of b → a ≡ b
-byte_own None None h k e = refl
-byte_own None (Some b) h k e = absurd (omega (arith, k, e))
-byte_own (Some a) None h k e = absurd (omega (arith, h, e))
-byte_own (Some a) (Some b) h k e = ap Some e
-
 -- they are where the numbers are
 pub same_byte_fields : (d e : Device) (n m : ℕ) → FitBytes d → FitBytes e → n ≡ from_le_bytes w64 (field_bytes d) → m ≡ from_le_bytes w64 (field_bytes e) → n ≡ m → HaveSameByteFields d e
 same_byte_fields d e n m h k is are same = (
@@ -61,3 +53,14 @@ same_byte_fields d e n m h k is are same = (
 pub fields_alike : (d e : Device) → HaveSameByteFields d e → field_bytes d ≡ field_bytes e
 fields_alike d e h i =
     byte_of (h.0 i) ∷ byte_of (h.1 i) ∷ bit_of (h.2 i) ∷ bit_of (h.3 i) ∷ bit_of (h.4 i) ∷ bit_of (h.5 i) ∷ h.6 i ∷ h.7 i ∷ []
+
+pair_small : (a b : ℕ) → a < 256 → b < 256 → (i : ℕ) → get_or (a ∷ b ∷ []) i 0 < 256
+pair_small a b l m zero = l
+pair_small a b l m (suc zero) = m
+pair_small a b l m (suc (suc i)) = omega arith
+
+-- one number of 16 bits is of one pair of bytes
+pub same_pair : (a b c d n m : ℕ) → a < 256 → b < 256 → c < 256 → d < 256 → n ≡ from_le_bytes w16 (a ∷ b ∷ []) → m ≡ from_le_bytes w16 (c ∷ d ∷ []) → n ≡ m → (a ≡ c) × (b ≡ d)
+same_pair a b c d n m l k j i is are same =
+    let pairs : ◌≡◌ {A = List ℕ} (a ∷ b ∷ []) (c ∷ d ∷ []) = sym (le_bytes_2 (a ∷ b ∷ []) n refl (pair_small a b l k) is) ∙ (ap (to_le_bytes w16) same ∙ le_bytes_2 (c ∷ d ∷ []) m refl (pair_small c d j i) are) in
+    (ap (λ bytes. get_or bytes 0 0) pairs, ap (λ bytes. get_or bytes 1 0) pairs)

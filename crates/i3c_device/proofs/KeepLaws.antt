@@ -1,5 +1,5 @@
 -- Places that are kept in short: each slot holds what is kept for it.
-use Rattle.std.proofs.Common.{◌≡◌, ℕ, zero, suc, ◌+◌, ◌<◌, ◌≤◌, ◌==◌, false, true, ◌&&◌, ◌||◌, List, [], ◌∷◌, ◌++◌, get_or, set, length, length-set, take, Option, Some, None, is_some, option_map, Bool, Decides, inl, inr, refl, sym, ap, ◌∙◌, arith}
+use Rattle.std.proofs.Common.{◌≡◌, ℕ, zero, suc, ◌+◌, ◌<◌, ◌≤◌, ◌↔◌, ◌⊎◌, ◌==◌, false, true, ◌&&◌, ◌||◌, List, [], ◌∷◌, ◌++◌, get_or, set, length, length-set, take, Option, Some, None, is_some, option_map, Bool, Decides, inl, inr, refl, sym, ap, ◌∙◌, arith}
 use Rattle.std.proofs.lemmas.Bool.{both_ways, cases_eq, cases_lt, cond-true, eq-eqb, false≢true}
 use Rattle.std.proofs.lemmas.List.{ext_get_or, get_or_default, get_or-set_other, get_or-set_same, get_or-take, length-take-le}
 use Rattle.i3c_base.specs.declared.range.TheConstants.{SLOTS}
@@ -9,7 +9,7 @@ use Rattle.i3c_base.proofs.Lookups.{length-changed, length-no_devices, no_device
 use Rattle.i3c_device.specs.declared.slot_set.SlotSet.{SlotSet}
 use Rattle.i3c_device.specs.declared.enabled.Enabled.{Enabled}
 use Rattle.i3c_device.specs.Enabling.{kinds_in, seen, seen_in, under}
-use Rattle.i3c_device.specs.Keeping.{unpacked}
+use Rattle.i3c_device.specs.Keeping.{IsHeld, unpacked}
 use Rattle.i3c_device.specs.Marks.{IsSetOf}
 use Rattle.i3c_device.specs.Sets.{has}
 use Rattle.i3c_device.proofs.EachLaws.{changed_in}
@@ -67,6 +67,63 @@ woken_more left next i j now others after place long h out at low is put = (
     | inr ne ↦ get_or-set_other now j s place None ne ∙ h s l (sym (still_in i left next out s l (λ e. ne (e ∙ sym at))) ∙ gone)
   ],
 )
+
+-- a slot that nobody holds in either holds the same in both, and one that is held in either is held in both
+alike_or_held : (o p : Option Device) → is_some o ≡ is_some p → (o ≡ p) ⊎ ((is_some p ≡ true) × (is_some o ≡ true))
+alike_or_held None None h = inl refl
+alike_or_held None (Some d) h = absurd (false≢true h)
+alike_or_held (Some d) None h = absurd (false≢true (sym h))
+alike_or_held (Some d) (Some e) h = inr (refl, refl)
+
+-- the slots that aren't left hold the same in both, or somebody in both
+abbrev pub AreWokenAlone : SlotSet → List (Option Device) → List (Option Device) → Type 0
+AreWokenAlone left now kept = (s : ℕ) → s < SLOTS → has left s ≡ false → (get_or now s None ≡ get_or kept s None) ⊎ IsHeld kept now s
+
+pub alone_none : (present there apart : SlotSet) (now kept : List (Option Device)) → ((s : ℕ) → s < SLOTS → has present s ≡ is_some (get_or now s None)) → ((s : ℕ) → s < SLOTS → has there s ≡ is_some (get_or kept s None))
+    → ((s : ℕ) → s < SLOTS → (has apart s ≡ false) ↔ (has present s ≡ has there s)) → AreWokenAlone apart now kept
+alone_none present there apart now kept is are apart_is s l out = alike_or_held (get_or now s None) (get_or kept s None) (sym (is s l) ∙ ((apart_is s l).0 out ∙ are s l))
+
+pub alone_more : (left next : SlotSet) (i j : ℕ) (now kept after : List (Option Device)) (place : Option Device) → length now ≡ SLOTS → AreWokenAlone left now kept → TakesOut i left next → j ≡ i → i < SLOTS
+    → place ≡ get_or kept j None → after ≡ set now j place → (length after ≡ SLOTS) × AreWokenAlone next after kept
+alone_more left next i j now kept after place long h out at low is put = (
+  ap length put ∙ (length-set now j place ∙ long),
+  λ s l gone. elim (cases_eq s j) [
+    | inl e ↦ inl (ap (λ xs. get_or xs s None) put
+        ∙ (ap (λ k. get_or (set now j place) k None) e ∙ (get_or-set_same now j place None (omega (arith, at, low, long)) ∙ (is ∙ ap (λ k. get_or kept k None) (sym e)))))
+    | inr ne ↦ (
+        let same : get_or after s None ≡ get_or now s None = ap (λ xs. get_or xs s None) put ∙ get_or-set_other now j s place None ne in
+        elim (h s l (sym (still_in i left next out s l (λ e. ne (e ∙ sym at))) ∙ gone)) [
+          | inl alike ↦ inl (same ∙ alike)
+          | inr held ↦ inr (held.0, ap is_some same ∙ held.1)
+        ]
+        )
+  ],
+)
+
+-- the slots that are left are held in both
+abbrev pub AreHeld : SlotSet → List (Option Device) → List (Option Device) → Type 0
+AreHeld left now kept = (s : ℕ) → s < SLOTS → has left s ≡ true → IsHeld kept now s
+
+pub held_both : (present there both : SlotSet) (now kept : List (Option Device)) → ((s : ℕ) → s < SLOTS → has present s ≡ is_some (get_or now s None)) → ((s : ℕ) → s < SLOTS → has there s ≡ is_some (get_or kept s None))
+    → ((s : ℕ) → s < SLOTS → has both s ≡ (has present s && has there s)) → ((s : ℕ) → s < SLOTS → (get_or now s None ≡ get_or kept s None) ⊎ IsHeld kept now s) → AreSameBut both now kept × AreHeld both now kept
+held_both present there both now kept is are both_is woken = (
+  λ s l out. elim (woken s l) [
+    | inl alike ↦ alike
+    | inr held ↦ absurd (both_ways (has both s) out (both_is s l ∙ (λ j. (is s l ∙ held.1) j && (are s l ∙ held.0) j)))
+  ],
+  λ s l there_too. let h = and_both (has present s) (has there s) (sym (both_is s l) ∙ there_too) in (sym (are s l) ∙ h.1, sym (is s l) ∙ h.0),
+)
+  where
+    and_both : (a b : Bool) → (a && b) ≡ true → (a ≡ true) × (b ≡ true)
+    and_both true true h = (refl, refl)
+    and_both true false h = absurd (false≢true h)
+    and_both false b h = absurd (false≢true h)
+
+pub held_more : (left next : SlotSet) (i : ℕ) (now kept after : List (Option Device)) (place : Option Device) → TakesOut i left next → after ≡ set now i place → AreHeld left now kept → AreHeld next after kept
+held_more left next i now kept after place out put h s l there =
+    let ne : s ≡ i → ⊥ = not_taken i left next out s l there in
+    let held : IsHeld kept now s = h s l (sym (still_in i left next out s l ne) ∙ there) in
+    (held.0, ap is_some (ap (λ xs. get_or xs s None) put ∙ get_or-set_other now i s place None ne) ∙ held.1)
 
 -- a set that ends where another one does
 pub spanned-less : (i span : ℕ) (left next all : SlotSet) → i < SLOTS → has left i ≡ true → ((s : ℕ) → s < i → has left s ≡ false) → TakesOut i left next

@@ -1,12 +1,16 @@
 -- Sets of slots and the bits that stand for them.
-use Rattle.std.proofs.Common.{◌≡◌, ℕ, ◌-◌, ◌*◌, ◌%◌, ◌^◌, ◌<◌, ◌≤◌, ◌⊎◌, true, false, ◌==◌, if◌then◌else◌, inl, inr, sym, ap, ◌∙◌, subst, arith}
-use Rattle.std.proofs.lemmas.Bool.{cases_eq, cases_lt, cond-true, cond-false, eq-eqb, ne_eqb}
+use Rattle.std.proofs.Common.{◌≡◌, ℕ, ◌-◌, ◌*◌, ◌%◌, ◌^◌, ◌<◌, ◌≤◌, ◌↔◌, ◌⊎◌, Bool, IsTrue, true, false, not, ◌&&◌, ◌==◌, Option, Some, None, is_some, refl, if◌then◌else◌, inl, inr, sym, ap, ◌∙◌, subst, arith}
+use Rattle.std.proofs.lemmas.Bool.{cases_eq, cases_lt, cond-true, cond-false, eq-eqb, false≢true, ne_eqb}
 use Rattle.std.proofs.lemmas.Nat.{and_le_l}
 use Rattle.std.proofs.lemmas.Nat.Bits.{bit_at-lt, bit_at-trailing_zeros, bit_at-zero, bit_at_and, bit_at_clear_other, bit_at_clear_same, bit_at_ones, bit_at_ones_above, bit_at_set_other, bit_at_set_same, same_from_bits}
 use Rattle.std.proofs.Math.Nat.{mod-eq_of_lt}
 use Rattle.std.specs.Int.{bit_at, bit_not, trailing_zeros, w64}
 use Rattle.std.specs.Int.RustNames.{bit_or}
 use lib.Bits.{bit_and}
+use Rattle.i3c_base.specs.declared.range.TheConstants.{SLOTS}
+use Rattle.i3c_base.specs.Cutting.{CutList, cut_of, is_by, lost_by}
+use Rattle.i3c_device.specs.declared.slot_set.SlotSet.{SlotSet}
+use Rattle.i3c_device.specs.Sets.{AreUncut, IsNone, has}
 
 -- a set with one slot more, and one with one slot less
 abbrev pub less : ℕ → ℕ → ℕ
@@ -56,3 +60,31 @@ lowest_in n c fits some =
     no_bit : ((i : ℕ) → i < trailing_zeros w64 n → bit_at n i ≡ 0) → c ≤ trailing_zeros w64 n → (i : ℕ) → (i < c) ⊎ (c ≤ i) → bit_at (bit_and n (2 ^ c - 1)) i ≡ 0
     no_bit below past i (inl l) = first_bit n c i l ∙ below i (omega (arith, l, past))
     no_bit below past i (inr high) = bit_at_and n (2 ^ c - 1) i ∙ omega (arith, bit_at_ones_above c i high)
+
+-- a set is uncut where none of its slots is among those that are cut
+pub uncut_none : (slots cut both : SlotSet) (cuts : CutList) (b : Bool) → ((s : ℕ) → s < SLOTS → has cut s ≡ is_some (cut_of cuts s)) → ((s : ℕ) → s < SLOTS → has both s ≡ (has slots s && has cut s)) → IsTrue b ↔ IsNone both
+    → IsTrue b ↔ AreUncut slots cuts
+uncut_none slots cut both cuts b names and is = (
+  λ t s l held. none_of (cut_of cuts s) (sym (names s l) ∙ other_out (has slots s) (has cut s) held (sym (and s l) ∙ is.0 t s l)),
+  λ uncut. is.1 (λ s l. and s l ∙ not_both (has slots s) (has cut s) (λ held. names s l ∙ ap is_some (uncut s l held))),
+)
+  where
+    none_of : (cut : Option ℕ) → is_some cut ≡ false → cut ≡ None
+    none_of None h = refl
+    none_of (Some bit) h = absurd (false≢true (sym h))
+
+    other_out : (a b : Bool) → a ≡ true → (a && b) ≡ false → b ≡ false
+    other_out true b held h = h
+    other_out false b held h = absurd (false≢true held)
+
+    not_both : (a b : Bool) → (a ≡ true → b ≡ false) → (a && b) ≡ false
+    not_both true b h = h refl
+    not_both false b h = refl
+
+-- and then none of its slots is lost
+pub uncut_left : (slots : SlotSet) (cuts : CutList) (last s : ℕ) → AreUncut slots cuts → s < SLOTS → has slots s ≡ (has slots s && not (lost_by cuts last s))
+uncut_left slots cuts last s uncut l = go (has slots s) (λ held. ap (λ cut. not (is_by last cut)) (uncut s l held))
+  where
+    go : (a : Bool) → (a ≡ true → not (lost_by cuts last s) ≡ true) → a ≡ (a && not (lost_by cuts last s))
+    go true h = sym (h refl)
+    go false h = refl

@@ -1,8 +1,8 @@
 -- Sets of slots.
-use Rattle.std.specs.Prelude.{◌≡◌, ℕ, ◌<◌, Bool, true, false, ◌==◌}
+use Rattle.std.specs.Prelude.{◌≡◌, ℕ, ◌<◌, Bool, true, false, ◌==◌, None}
 use Rattle.std.specs.Int.{bit_at}
 use Rattle.i3c_base.specs.declared.range.TheConstants.{SLOTS}
-use Rattle.i3c_base.specs.Cutting.{Lost}
+use Rattle.i3c_base.specs.Cutting.{CutList, Lost, cut_of}
 use Rattle.i3c_device.specs.declared.slot_set.SlotSet.{SlotSet}
 
 -- the slot is in the set
@@ -20,3 +20,7 @@ IsLowestOf slots i = (i < SLOTS) × (has slots i ≡ true) × ((s : ℕ) → s <
 -- a slot of the set isn't lost
 abbrev pub SomeLeft : SlotSet → Lost → Type 0
 SomeLeft slots lost = (s : ℕ) × (s < SLOTS) × (has slots s ≡ true) × (lost s ≡ false)
+
+-- no slot of the set is cut
+abbrev pub AreUncut : SlotSet → CutList → Type 0
+AreUncut slots cuts = (s : ℕ) → s < SLOTS → has slots s ≡ true → cut_of cuts s ≡ None

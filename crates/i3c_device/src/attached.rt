@@ -1,5 +1,5 @@
-ghost use Rattle.std.specs.Prelude.{◌≡◌, ◌≤◌, ◌+◌, ◌↔◌, IsTrue};
-ghost use Rattle.std.specs.Int.{from_le_bytes, w64};
+ghost use Rattle.std.specs.Prelude.{◌≡◌, ◌≤◌, ◌<◌, ◌+◌, ◌↔◌, ◌∷◌, [], IsTrue};
+ghost use Rattle.std.specs.Int.{from_le_bytes, w16, w64};
 ghost use Rattle.i3c_base.specs.declared.device.TheConstants.{REGISTERS as REGISTER_COUNT};
 ghost use Rattle.i3c_base.specs.Frames.{pid_bytes};
 ghost use Rattle.i3c_device.specs.ByteFields.{HaveSameByteFields, FitBytes, field_bytes};
@@ -160,7 +160,7 @@ impl Attached {
     pub fn is_same_but_for_waiting(&self, other: &Attached) -> bool
         ensures { IsTrue result ↔ (record self.now { waiting = other.now.waiting } ≡ other.now) }
     {
-        self.identity == other.identity
+        are_same_identities(self.identity, other.identity)
             && self.has_same_byte_fields(other)
             && are_same_registers(&self.registers, &other.registers)
     }
@@ -548,4 +548,21 @@ fn are_same_registers(registers: &[u8; REGISTERS], others: &[u8; REGISTERS]) -> 
         same = same & (registers[index] == others[index]);
     }
     same
+}
+
+/// Whether both are the same identity. Two bytes are compared as one number.
+#[inline(always)]
+fn are_same_identities(identity: Identity, other: Identity) -> bool
+    ensures { IsTrue result ↔ (identity ≡ other) }
+{
+    identity.pid == other.pid && characteristics(identity) == characteristics(other)
+}
+
+/// The characteristics of an identity as one number.
+#[inline(always)]
+fn characteristics(identity: Identity) -> u16
+    ensures number { result ≡ from_le_bytes w16 (identity.bcr.0 ∷ identity.dcr.0 ∷ []) }
+    ensures ranged { (identity.bcr.0 < 256) × (identity.dcr.0 < 256) }
+{
+    u16::from_le_bytes([identity.bcr.0, identity.dcr.0])
 }

@@ -14,7 +14,7 @@ pub(crate) struct ByteAddress {
 
 impl Model for ByteAddress {
     ghost use Rattle.std.specs.Prelude.{◌≤◌, ℕ, Option};
-    ghost use Rattle.i3c_device.specs.ByteFields.{address_of};
+    ghost use Rattle.i3c_base.specs.AddressBytes.{address_of};
 
     ghost Value = { Option ℕ };
 
@@ -26,7 +26,7 @@ impl Model for ByteAddress {
 impl ByteAddress {
     ghost use Rattle.std.specs.Prelude.{◌≡◌, None, is_none};
     ghost use Rattle.i3c_base.specs.State.{is_the};
-    ghost use Rattle.i3c_device.specs.ByteFields.{IsSmall, byte_of};
+    ghost use Rattle.i3c_base.specs.AddressBytes.{HasSevenBits, byte_of};
 
     /// No address.
     pub fn none() -> ByteAddress
@@ -82,7 +82,7 @@ impl ByteAddress {
     /// Its byte.
     pub fn byte(&self) -> u8
         ensures same { result ≡ byte_of self.now }
-        ensures small { IsSmall self.now }
+        ensures small { HasSevenBits self.now }
     {
         self.value
     }

@@ -359,7 +359,7 @@ impl Devices {
         ensures bytes { All (λ byte. byte < 256) result }
     {
         let targets = self.occupants.targets(active, address);
-        if cuts.is_empty() {
+        if targets.is_uncut(cuts) {
             return self.occupants.registers_of(targets);
         }
         let mut bytes = [0; REGISTERS];

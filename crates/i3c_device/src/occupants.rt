@@ -1,7 +1,7 @@
 use crate::attached::Attached;
 use crate::kept::Kept;
 use crate::marks::Marks;
-use crate::places::{byte_from, is_here, length_in, pull_low, raise, requeue, wishes_interrupt};
+use crate::places::{byte_from, length_in, pull_low, raise, requeue, wishes_interrupt};
 use crate::slot_set::SlotSet;
 use crate::slot_update::{Driven, SlotUpdate, Sought, update_in};
 use i3c_base::{Addr7, Cuts, Direction, Length, REGISTERS, RaiseRefusal, SLOTS, Slot};
@@ -31,19 +31,20 @@ impl Model for Occupants {
 impl Occupants {
     ghost use Rattle.i3c_base.specs.declared.device.TheConstants.{REGISTERS as REGISTER_COUNT};
     ghost use Rattle.i3c_base.specs.declared.range.TheConstants.{SLOTS as SLOT_COUNT};
-    ghost use Rattle.i3c_base.specs.Cutting.{CutList, IsUncut};
+    ghost use Rattle.i3c_base.specs.Cutting.{CutList};
     ghost use Rattle.i3c_base.specs.Places.{changed};
     ghost use Rattle.i3c_base.specs.State.{Device as DeviceState, no_devices};
     ghost use Rattle.i3c_base.specs.Local.{with_raise};
     ghost use Rattle.i3c_device.specs.Finding.{within, IsLowestFound, IsNowhere};
+    ghost use Rattle.i3c_device.specs.Keeping.{IsHeld};
     ghost use Rattle.i3c_device.specs.Least.{IsLeastHeard, NobodyHears};
     ghost use Rattle.i3c_device.specs.Marks.{AreMarks};
     ghost use Rattle.i3c_device.specs.Raising.{interrupting_if, next_fault};
     ghost use Rattle.i3c_device.specs.Reading.{IsByteOf, registers_of};
     ghost use Rattle.i3c_device.specs.Lengths.{IsLeastLength};
-    ghost use Rattle.i3c_device.specs.Sets.{has};
+    ghost use Rattle.i3c_device.specs.Sets.{AreUncut, has};
     ghost use Rattle.i3c_device.specs.Walks.{AreTakers, AreReached};
-    ghost use Rattle.std.specs.Prelude.{◌≡◌, ◌<◌, ◌&&◌, ℕ, All, IsTrue, false, is_some, length, suc, true, Some, None, option_copied, option_map, slice_index, slice_index_or, slice_set, MatchOption, MatchResult, OnOk, OnErr};
+    ghost use Rattle.std.specs.Prelude.{◌≡◌, ◌<◌, ◌&&◌, ◌⊎◌, ℕ, All, IsTrue, false, is_some, length, suc, true, Some, None, option_copied, option_map, slice_index, slice_index_or, slice_set, MatchOption, MatchResult, OnOk, OnErr};
 
     /// Empty slots.
     #[inline(always)]
@@ -60,21 +61,33 @@ impl Occupants {
     pub fn wake(&mut self, kept: &Kept)
         ensures { self.new ≡ kept.now }
     {
-        let mut left = self.marks.present.or(kept.present());
+        self.wake_alone(kept);
+        let mut left = self.marks.present.and(kept.present());
         while let Some(index) = left.take_lowest() {
-            let slot = Slot::from_index(index);
-            self.wake_place(slot, kept.at(slot));
+            self.wake_held(index, kept.device(index));
         }
     }
 
-    /// Puts a device into a slot, or none. Where the same is there already, nothing is written.
-    fn wake_place(&mut self, slot: Slot, device: Option<&Attached>)
-        ensures put { self.new ≡ slice_set self.old slot (option_copied device.entry) }
-        ensures slots { length self.old ≡ SLOT_COUNT }
+    /// Slots that hold a device in one of both alone come to what was kept for them.
+    fn wake_alone(&mut self, kept: &Kept)
+        ensures woken { (s : ℕ) → s < SLOT_COUNT → (slice_index_or self.new s None ≡ slice_index_or kept.now s None) ⊎ IsHeld kept.now self.new s }
+        ensures slots { length self.new ≡ SLOT_COUNT }
     {
-        match device {
-            Some(device) if is_here(device, self.at(slot)) => {}
-            _ => self.wake_at(slot, device),
+        let mut left = self.marks.present.apart(kept.present());
+        while let Some(index) = left.take_lowest() {
+            let slot = Slot::from_index(index);
+            self.wake_at(slot, kept.at(slot));
+        }
+    }
+
+    /// Puts a device into a slot that holds one. Where the same is there already, nothing is written.
+    #[inline(always)]
+    fn wake_held(&mut self, index: usize, device: &Attached)
+        requires { (index < SLOT_COUNT) × (is_some (slice_index_or self.old index None) ≡ true) }
+        ensures { self.new ≡ slice_set self.old index (Some device.now) }
+    {
+        if !device.is_same(self.device(index)) {
+            self.wake_device(Slot::from_index(index), device);
         }
     }
 
@@ -258,11 +271,11 @@ impl Occupants {
         byte
     }
 
-    /// All registers of these slots' devices, as the lines give them where nobody is cut.
+    /// All registers of these slots' devices, as the lines give them where none of these slots is cut.
     pub fn registers_of(&self, among: SlotSet) -> [u8; REGISTERS]
         ensures long { length result ≡ REGISTER_COUNT }
         ensures bytes { All (λ byte. byte < 256) result }
-        ensures each { (k at : ℕ) (cuts : CutList) → k < REGISTER_COUNT → IsUncut cuts → IsByteOf registers_of among k cuts at self.now (slice_index result k) }
+        ensures each { (k at : ℕ) (cuts : CutList) → k < REGISTER_COUNT → AreUncut among cuts → IsByteOf registers_of among k cuts at self.now (slice_index result k) }
     {
         let mut bytes = [u8::MAX; REGISTERS];
         let mut left = among;

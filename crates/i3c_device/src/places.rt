@@ -21,16 +21,6 @@ use i3c_base::{
     Addr7, Direction, Identity, Length, REGISTERS, RaiseRefusal, Request, Slot, Waiting,
 };
 
-/// Whether the place holds this device.
-pub(crate) fn is_here(device: &Attached, place: &Option<Attached>) -> bool
-    ensures { IsTrue result ↔ (place.now ≡ Some device.now) }
-{
-    match place {
-        Some(held) => held.is_same(device),
-        None => false,
-    }
-}
-
 /// The device here becomes this one, if the two differ only in what waits. Answers whether it does.
 pub(crate) fn requeue(place: &mut Option<Attached>, device: &Attached) -> bool
     ensures put { IsTrue result → place.new ≡ Some device.now }

@@ -2,7 +2,7 @@ ghost use Rattle.std.specs.Prelude.{◌≡◌, ◌<◌, ◌≤◌, ◌↔◌, �
 ghost use Rattle.std.specs.List.{list_any};
 ghost use Rattle.i3c_base.specs.declared.range.TheConstants.{SLOTS as SLOT_COUNT};
 ghost use Rattle.i3c_base.specs.Cutting.{lost_by};
-ghost use Rattle.i3c_device.specs.Sets.{IsLowestOf, IsNone, SomeLeft, has};
+ghost use Rattle.i3c_device.specs.Sets.{AreUncut, IsLowestOf, IsNone, SomeLeft, has};
 
 use i3c_base::{Cuts, SLOTS, Slot};
 
@@ -109,11 +109,23 @@ impl SlotSet {
         self.with(slot.index(), false)
     }
 
+    /// Whether none of its slots is cut.
+    #[inline(always)]
+    pub(crate) fn is_uncut(self, cuts: &Cuts) -> bool
+        ensures { IsTrue result ↔ AreUncut self cuts.now }
+    {
+        self.and(SlotSet::of_bits(cuts.slots())).is_none()
+    }
+
     /// Those of its slots that aren't lost by this bit.
     pub fn left(self, cuts: &Cuts, last: u16) -> SlotSet
         ensures { (s : ℕ) → s < SLOT_COUNT → has result s ≡ (has self s && not (lost_by cuts.now last s)) }
     {
-        self.without(lost_slots(cuts, last))
+        if self.is_uncut(cuts) {
+            self
+        } else {
+            self.without(cut_slots(cuts, last))
+        }
     }
 
     /// Whether one of its slots isn't lost by this bit.
@@ -213,7 +225,8 @@ fn cut_slots(cuts: &Cuts, last: u16) -> SlotSet
     ensures { (s : ℕ) → s < SLOT_COUNT → has result s ≡ lost_by cuts.now last s }
 {
     let mut lost = SlotSet::none();
-    for index in 0..SLOTS {
+    let mut left = SlotSet::of_bits(cuts.slots());
+    while let Some(index) = left.take_lowest() {
         lost = lost.with(index, cuts.is_lost(Slot::from_index(index), last));
     }
     lost

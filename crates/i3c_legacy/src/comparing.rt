@@ -53,12 +53,34 @@ fn are_same_identities(identities: &[DeclaredIdentity], others: &[DeclaredIdenti
 fn are_equal_targets(targets: &[Declared], others: &[Declared]) -> bool
     ensures { IsTrue result ↔ (targets.now ≡ others.now) }
 {
-    targets == others
+    if targets.is_empty() && others.is_empty() {
+        return true;
+    }
+    targets_equal_in_turn(targets, others)
 }
 
 /// Whether these are the same identities as others, in the same order.
 #[inline(always)]
 fn are_equal_identities(identities: &[DeclaredIdentity], others: &[DeclaredIdentity]) -> bool
+    ensures { IsTrue result ↔ (identities.now ≡ others.now) }
+{
+    if identities.is_empty() && others.is_empty() {
+        return true;
+    }
+    identities_equal_in_turn(identities, others)
+}
+
+/// Whether each legacy target is the same as the other in its place.
+#[inline(never)]
+fn targets_equal_in_turn(targets: &[Declared], others: &[Declared]) -> bool
+    ensures { IsTrue result ↔ (targets.now ≡ others.now) }
+{
+    targets == others
+}
+
+/// Whether each declared identity is the same as the other in its place.
+#[inline(never)]
+fn identities_equal_in_turn(identities: &[DeclaredIdentity], others: &[DeclaredIdentity]) -> bool
     ensures { IsTrue result ↔ (identities.now ≡ others.now) }
 {
     identities == others

@@ -84,6 +84,17 @@ fn are_same(placed: &[Placed], others: &[Placed]) -> bool
 fn are_equal(placed: &[Placed], others: &[Placed]) -> bool
     ensures { IsTrue result ↔ (placed.now ≡ others.now) }
 {
+    if placed.is_empty() && others.is_empty() {
+        return true;
+    }
+    equal_in_turn(placed, others)
+}
+
+// Whether each target is the same as the other in its place.
+#[inline(never)]
+fn equal_in_turn(placed: &[Placed], others: &[Placed]) -> bool
+    ensures { IsTrue result ↔ (placed.now ≡ others.now) }
+{
     placed == others
 }
 

@@ -13,3 +13,4 @@ pub mod TakenOver
 pub mod Moving
 pub mod Same
 mod Alike
+pub mod RegisterByteLaws

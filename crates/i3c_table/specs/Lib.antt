@@ -3,3 +3,4 @@ pub mod Stored
 pub mod Rows
 pub mod Putting
 pub mod Room
+pub mod RegisterBytes

@@ -71,7 +71,7 @@ fn kept_again(
     ensures { result ≡ again_stored legacies.now.declared among.0 registers.now address }
 {
     let stored = registers[address.get() as usize];
-    match stored.fixed {
+    match stored.fixed.address() {
         Some(fixed) => {
             if !is_at(home(among, registers, fixed), address) {
                 return None;
@@ -95,7 +95,7 @@ fn home(among: Addresses, registers: &[Registers; ADDRESSES], fixed: Addr7) -> O
 {
     let mut left = among;
     while let Some(address) = left.lowest() {
-        if is_at(registers[address.get() as usize].fixed, fixed) {
+        if is_at(registers[address.get() as usize].fixed.address(), fixed) {
             return Some(address);
         }
         left = left.without(address);

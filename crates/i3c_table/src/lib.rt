@@ -7,6 +7,7 @@ mod resting;
 mod row;
 mod rows;
 mod sorted_addresses;
+mod static_address;
 mod table;
 
 pub use i3c_legacy::Legacies;

@@ -81,7 +81,7 @@ impl Rows<'_> {
             return false;
         }
         let index = address.get() as usize;
-        are_same_registers(&self.registers[index], &others.registers[index])
+        self.registers[index].is_same(&others.registers[index])
             && are_kept_alike(
                 self.kept,
                 self.numbers,
@@ -90,13 +90,6 @@ impl Rows<'_> {
                 address,
             )
     }
-}
-
-// Whether both are the same registers, with the same static address.
-fn are_same_registers(registers: &Registers, others: &Registers) -> bool
-    ensures { IsTrue result ↔ (registers.now ≡ others.now) }
-{
-    registers.bcr == others.bcr && registers.dcr == others.dcr && registers.fixed == others.fixed
 }
 
 // Whether both have the same registers and the same number at each of these addresses.
@@ -130,7 +123,7 @@ fn is_stored_alike(
     ensures { IsTrue result → IsStoredAlike registers.now numbers.now others.now more.now address }
 {
     let index = address.get() as usize;
-    numbers[index] == more[index] && are_same_registers(&registers[index], &others[index])
+    numbers[index] == more[index] && registers[index].is_same(&others[index])
 }
 
 // A set without the addresses of another, or as it is.

@@ -8,6 +8,7 @@ use crate::resting::RestingTable;
 use crate::row::Row;
 use crate::rows::Rows;
 use crate::sorted_addresses::SortedAddresses;
+use crate::static_address::StaticAddress;
 use i3c_base::{ADDRESSES, Addr7, Addresses, Bcr, Dcr, Identity};
 use i3c_legacy::{Legacies, is_static};
 use std::marker::Model;
@@ -64,7 +65,7 @@ impl Table {
         let nothing = Registers {
             bcr: Bcr(0),
             dcr: Dcr(0),
-            fixed: None,
+            fixed: StaticAddress::of(None),
         };
         Table {
             held: none,
@@ -128,7 +129,7 @@ impl Table {
             bcr: registers.bcr,
             dcr: registers.dcr,
             identity: self.identity_at(address),
-            fixed: registers.fixed,
+            fixed: registers.fixed.address(),
         })
     }
 
@@ -236,7 +237,7 @@ impl Table {
     {
         self.listed = false;
         self.kept = self.kept.without(address);
-        self.registers[address.get() as usize].fixed = None;
+        self.registers[address.get() as usize].fixed = StaticAddress::of(None);
         self.order = SortedAddresses::of(&self.numbers, self.kept);
     }
 
@@ -326,12 +327,12 @@ fn begin_numbers(numbers: &mut [u64], firsts: &[u64])
 }
 
 // A static address, where it may be one.
-fn static_only(fixed: Option<Addr7>) -> Option<Addr7>
+fn static_only(fixed: Option<Addr7>) -> StaticAddress
     ensures { result ≡ static_in fixed }
 {
     match fixed {
-        Some(address) if is_static(address) => Some(address),
-        _ => None,
+        Some(address) if is_static(address) => StaticAddress::of(Some(address)),
+        _ => StaticAddress::of(None),
     }
 }
 

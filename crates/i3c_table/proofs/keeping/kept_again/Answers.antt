@@ -10,18 +10,18 @@ pub returns-then-not-is_at : goal.returns-then-not-is_at
 returns-then-not-is_at c =
     let read : get_or c.args.registers.now c.args.address no_registers ≡ get_or c.args.registers.now c.get.result c.index-registers-get.result =
     get_or_default c.args.registers.now c.args.address no_registers c.index-registers-get.result (omega arith) ∙ ap (λ i. get_or c.args.registers.now i c.index-registers-get.result) (sym c.get.ensures.same) in
-    again_elsewhere c.args.legacies.now.declared c.args.among.0 c.args.registers.now c.args.address c.in-Some.fixed (ap (λ (r : Registers). r.fixed) read ∙ c.in-Some.is)
+    again_elsewhere c.args.legacies.now.declared c.args.among.0 c.args.registers.now c.args.address c.in-Some.fixed (ap (λ (r : Registers). r.fixed) read ∙ (sym c.address.ensures ∙ c.in-Some.is))
     (ap (is_the c.args.address) (sym c.home.ensures) ∙ sym c.if-not-is_at.ensures)
 
 pub returns-else-not-is_at : goal.returns-else-not-is_at
 returns-else-not-is_at c =
     let read : get_or c.args.registers.now c.args.address no_registers ≡ get_or c.args.registers.now c.get.result c.index-registers-get.result =
     get_or_default c.args.registers.now c.args.address no_registers c.index-registers-get.result (omega arith) ∙ ap (λ i. get_or c.args.registers.now i c.index-registers-get.result) (sym c.get.ensures.same) in
-    c.declared_at.ensures.same ∙ again_home c.args.legacies.now.declared c.args.among.0 c.args.registers.now c.args.address c.in-Some.fixed (ap (λ (r : Registers). r.fixed) read ∙ c.in-Some.is)
+    c.declared_at.ensures.same ∙ again_home c.args.legacies.now.declared c.args.among.0 c.args.registers.now c.args.address c.in-Some.fixed (ap (λ (r : Registers). r.fixed) read ∙ (sym c.address.ensures ∙ c.in-Some.is))
     (ap (is_the c.args.address) (sym c.home.ensures) ∙ sym c.if-not-is_at.ensures)
 
 pub returns-in-None : goal.returns-in-None
 returns-in-None c =
     let read : get_or c.args.registers.now c.args.address no_registers ≡ get_or c.args.registers.now c.get.result c.index-registers-get.result =
     get_or_default c.args.registers.now c.args.address no_registers c.index-registers-get.result (omega arith) ∙ ap (λ i. get_or c.args.registers.now i c.index-registers-get.result) (sym c.get.ensures.same) in
-    again_nowhere c.args.legacies.now.declared c.args.among.0 c.args.registers.now c.args.address (ap (λ (r : Registers). r.fixed) read ∙ c.in-None.is)
+    again_nowhere c.args.legacies.now.declared c.args.among.0 c.args.registers.now c.args.address (ap (λ (r : Registers). r.fixed) read ∙ (sym c.address.ensures ∙ c.in-None.is))

@@ -22,8 +22,8 @@ pub returns-clause-bytes : goal.returns-clause-bytes
 returns-clause-bytes c =
     read_small registers_of REGISTERS c.targets-targets.result c.args.cuts.now c.args.first c.self.inside.occupants c.loop-index.index c.loop-index.byte-items c.loop-index-test.false c.loop-index.invariant
 
-pub returns-then-is_empty-clause-read : goal.returns-then-is_empty-clause-read
-returns-then-is_empty-clause-read c =
+pub returns-then-is_uncut-clause-read : goal.returns-then-is_uncut-clause-read
+returns-then-is_uncut-clause-read c =
     read_seen registers_of registers_blind c.self.inside.enabled c.self.inside.occupants c.args.self.now REGISTERS c.args.active c.args.address c.args.cuts.now c.args.first c.registers_of.result c.self.view_is
     (registers_read (with_active c.self.inside.occupants c.args.active) c.args.address c.targets-targets.result c.args.cuts.now c.args.first c.registers_of.result c.targets-targets.ensures.slots c.targets-targets.ensures.there
-    (c.is_empty.ensures.uncut.0 c.if-is_empty.true) c.registers_of.ensures.each)
+    (c.is_uncut.ensures.0 c.if-is_uncut.true) c.registers_of.ensures.each)

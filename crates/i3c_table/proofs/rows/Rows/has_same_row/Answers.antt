@@ -9,20 +9,20 @@ use Rattle.i3c_table.proofs.AtRest.{small_reaching}
 use Rattle.i3c_table.proofs.Same.{none_at, out_at}
 use Rattle.i3c_table.proofs.StoredLaws.{entry_stored}
 use Rattle.i3c_table.proofs.rows.Rows.has_same_row.Goals as goal
-use Rattle.i3c_table.proofs.rows.Rows.has_same_row.Goals.{After-are_same_registers}
+use Rattle.i3c_table.proofs.rows.Rows.has_same_row.Goals.{After-is_same}
 
-ours : (c : After-are_same_registers) → entry_in c.args.self.now c.args.address ≡ stored_at c.self.inside.held.0 c.self.inside.kept.0 c.self.inside.registers.now c.self.inside.numbers.now c.args.address
+ours : (c : After-is_same) → entry_in c.args.self.now c.args.address ≡ stored_at c.self.inside.held.0 c.self.inside.kept.0 c.self.inside.registers.now c.self.inside.numbers.now c.args.address
 ours c = ap (λ g. entry_in g c.args.address) (sym c.self.view_is) ∙ entry_stored c.self.inside.held.0 c.self.inside.kept.0 c.self.inside.registers.now c.self.inside.numbers.now c.args.address (small_reaching _ _ _ c.self.invariant.reaching)
 
-theirs : (c : After-are_same_registers) → entry_in c.args.others.now c.args.address ≡ stored_at c.others.inside.held.0 c.others.inside.kept.0 c.others.inside.registers.now c.others.inside.numbers.now c.args.address
+theirs : (c : After-is_same) → entry_in c.args.others.now c.args.address ≡ stored_at c.others.inside.held.0 c.others.inside.kept.0 c.others.inside.registers.now c.others.inside.numbers.now c.args.address
 theirs c = ap (λ g. entry_in g c.args.address) (sym c.others.view_is) ∙ entry_stored c.others.inside.held.0 c.others.inside.kept.0 c.others.inside.registers.now c.others.inside.numbers.now c.args.address (small_reaching _ _ _ c.others.invariant.reaching)
 
-one : (c : After-are_same_registers) → get_or c.self.inside.registers.now c.args.address no_registers ≡ get_or c.self.inside.registers.now c.get-index.result c.index-self-index.result
+one : (c : After-is_same) → get_or c.self.inside.registers.now c.args.address no_registers ≡ get_or c.self.inside.registers.now c.get-index.result c.index-self-index.result
 one c =
     ap (λ k. get_or c.self.inside.registers.now k no_registers) (sym c.get-index.ensures.same)
     ∙ get_or_default c.self.inside.registers.now c.get-index.result no_registers c.index-self-index.result (let there = (c.self.invariant.reaching.reached c.args.address (sym c.if-not-has.ensures)).0 in omega (arith, there, c.get-index.ensures.same))
 
-two : (c : After-are_same_registers) → get_or c.others.inside.registers.now c.args.address no_registers ≡ get_or c.others.inside.registers.now c.get-index.result c.index-others-index.result
+two : (c : After-is_same) → get_or c.others.inside.registers.now c.args.address no_registers ≡ get_or c.others.inside.registers.now c.get-index.result c.index-others-index.result
 two c =
     ap (λ k. get_or c.others.inside.registers.now k no_registers) (sym c.get-index.ensures.same)
     ∙ get_or_default c.others.inside.registers.now c.get-index.result no_registers c.index-others-index.result (let there = (c.others.invariant.reaching.reached c.args.address (sym c.if-not-has-2.ensures)).0 in omega (arith, there, c.get-index.ensures.same))
@@ -46,23 +46,23 @@ returns-then-not-has-2 c = (
       (same ∙ none_at _ _ _ _ c.args.others.now c.others.view_is (small_reaching _ _ _ c.others.invariant.reaching) c.args.address (sym c.if-not-has-2.ensures))) (sym c.if-not-has.ensures)),
 )
 
-pub returns-then-are_same_registers : goal.returns-then-are_same_registers
-returns-then-are_same_registers c =
-    let k = (goal.at.returns-then-are_same_registers c).After-are_same_registers in
+pub returns-then-is_same : goal.returns-then-is_same
+returns-then-is_same c =
+    let k = (goal.at.returns-then-is_same c).After-is_same in
     let has = sym c.if-not-has.ensures in let too = sym c.if-not-has-2.ensures in (
       λ t. ours k
           ∙ (stored_alike c.self.inside.held.0 c.self.inside.kept.0 c.self.inside.registers.now c.self.inside.numbers.now c.others.inside.held.0 c.others.inside.kept.0 c.others.inside.registers.now c.others.inside.numbers.now c.args.address has too
-          (one k ∙ (c.are_same_registers.ensures.0 c.if-are_same_registers.true ∙ sym (two k))) (c.are_kept_alike.ensures.0 t)
+          (one k ∙ (c.is_same.ensures.0 c.if-is_same.true ∙ sym (two k))) (c.are_kept_alike.ensures.0 t)
           ∙ sym (theirs k)),
       λ same. c.are_kept_alike.ensures.1 (stored_parts c.self.inside.held.0 c.self.inside.kept.0 c.self.inside.registers.now c.self.inside.numbers.now c.others.inside.held.0 c.others.inside.kept.0 c.others.inside.registers.now c.others.inside.numbers.now c.args.address has too (sym (ours k) ∙ (same ∙ theirs k))).1,
     )
 
-pub returns-else-are_same_registers : goal.returns-else-are_same_registers
-returns-else-are_same_registers c =
-    let k = (goal.at.returns-else-are_same_registers c).After-are_same_registers in
+pub returns-else-is_same : goal.returns-else-is_same
+returns-else-is_same c =
+    let k = (goal.at.returns-else-is_same c).After-is_same in
     let has = sym c.if-not-has.ensures in let too = sym c.if-not-has-2.ensures in (
-      λ t. absurd (both_ways _ c.if-are_same_registers.false t),
-      λ same. c.are_same_registers.ensures.1
+      λ t. absurd (both_ways _ c.if-is_same.false t),
+      λ same. c.is_same.ensures.1
           (sym (one k) ∙ ((stored_parts c.self.inside.held.0 c.self.inside.kept.0 c.self.inside.registers.now c.self.inside.numbers.now c.others.inside.held.0 c.others.inside.kept.0 c.others.inside.registers.now c.others.inside.numbers.now c.args.address has too (sym (ours k) ∙ (same ∙ theirs k))).0
           ∙ two k)),
     )

@@ -3,7 +3,7 @@ use Rattle.std.proofs.Common.{◌≡◌, Decides, rules}
 use Rattle.std.proofs.lemmas.Slice.Eq.{slice_eq-Decides}
 use Rattle.i3c_legacy.specs.declared.legacies.DeclaredIdentity.{DeclaredIdentity}
 use Rattle.i3c_legacy.specs.contracts.legacies.DeclaredIdentityPartialEq.TheImpl.{eq-value}
-use Rattle.i3c_legacy.proofs.comparing.are_equal_identities.Goals as goal
+use Rattle.i3c_legacy.proofs.comparing.identities_equal_in_turn.Goals as goal
 
 same_identity : (a b : DeclaredIdentity) → Decides (eq-value.it a b) (a ≡ b)
 same_identity a b = search rules

@@ -3,7 +3,7 @@ use Rattle.std.proofs.Common.{◌≡◌, Decides, rules}
 use Rattle.std.proofs.lemmas.Slice.Eq.{slice_eq-Decides}
 use Rattle.i3c_legacy.specs.declared.legacy_targets.Placed.{Placed}
 use Rattle.i3c_legacy.specs.contracts.legacy_targets.PlacedPartialEq.TheImpl.{eq-value}
-use Rattle.i3c_legacy.proofs.resting_targets.are_equal.Goals as goal
+use Rattle.i3c_legacy.proofs.resting_targets.equal_in_turn.Goals as goal
 
 same_placed : (a b : Placed) → Decides (eq-value.it a b) (a ≡ b)
 same_placed a b = search rules
