@@ -1,10 +1,10 @@
 -- A raise changes one slot at most, and what changed there is put back.
-use Rattle.std.proofs.Common.{◌≡◌, ◌∙◌, ℕ, suc, List, ◌++◌, ◌∷◌, [], Option, Some, None, inl, inr, ap, refl, subst, sym, option_map, ◌⊎◌}
+use Rattle.std.proofs.Common.{◌≡◌, ◌∙◌, ℕ, suc, List, ◌++◌, ◌∷◌, [], Option, Some, None, inl, inr, ap, refl, subst, sym, ◌⊎◌}
 use Rattle.std.specs.Prelude.{MatchOption, slice_index, slice_index_or, slice_set}
 use Rattle.std.proofs.lemmas.List.{set-get_or, set-set}
-use Rattle.i3c_base.specs.Covered.{IsTable, Table, lvrs}
+use Rattle.i3c_base.specs.Covered.{Table, lvrs}
 use Rattle.i3c_base.specs.Local.{raise}
-use Rattle.i3c_base.specs.State.{Device, State, device_at, raised_at}
+use Rattle.i3c_base.specs.State.{Device, State, raised_at}
 use Rattle.i3c_deftgts.specs.declared.entries.Entry.{Entry}
 use Rattle.i3c_step.specs.declared.events.Event.{Event}
 use Rattle.i3c_step.specs.declared.replies.Refusal.{Refusal}
@@ -13,7 +13,7 @@ use Rattle.i3c_step.specs.Sound.{IsSound}
 use Rattle.i3c_step.specs.Step.{Acts, IsShort, Step, checks, first_refusal}
 use Rattle.i3c_bus.specs.Near.{IsNear}
 use Rattle.i3c_bus.specs.Whole.{IsWhole}
-use Rattle.i3c_bus.proofs.Owning.{KeepsList, copied_still, keeps_change}
+use Rattle.i3c_bus.proofs.Owning.{copied_still, keeps_change}
 
 -- the same state
 near_same : (s : ℕ) (st : State) → IsNear s st st
@@ -37,13 +37,10 @@ raised_near old new s byte reply h = go (first_refusal (checks old (Event.Raise 
     go (Some why) (told, same) = subst (IsNear s old) (sym same) (near_same s old)
 
 -- the slot put back
-pub put_back : (st near : State) (slot index : ℕ) (devices : List (Option Device)) (raised : List ℕ) (number : ℕ) → IsNear slot st near → devices ≡ slice_set near.devices slot (slice_index_or st.devices slot None)
-    → index ≡ slot → number ≡ slice_index st.raised index → raised ≡ slice_set near.raised index number → record near { devices = devices; raised = raised } ≡ st
-put_back st near slot index devices raised number n put at read set =
-    (λ k. record (n.rest k) { devices = (put ∙ n.devices) k; raised = (set ∙ same) k })
-  where
-    same : slice_set near.raised index number ≡ st.raised
-    same = (λ k. slice_set near.raised (at k) (read k)) ∙ (ap (λ (i : ℕ). slice_set near.raised slot (slice_index st.raised i)) at ∙ n.raised)
+pub put_back : (st near : State) (slot : ℕ) (devices : List (Option Device)) (raised : List ℕ) (number : ℕ) → IsNear slot st near → devices ≡ slice_set near.devices slot (slice_index_or st.devices slot None)
+    → number ≡ slice_index st.raised slot → raised ≡ slice_set near.raised slot number → record near { devices = devices; raised = raised } ≡ st
+put_back st near slot devices raised number n put read set =
+    (λ k. record (n.rest k) { devices = (put ∙ n.devices) k; raised = (set ∙ (ap (slice_set near.raised slot) read ∙ n.raised)) k })
 
 -- the table and the list cover the state that the bus comes back to
 pub whole_back : (st near new : State) (slot : ℕ) (table : Table) (list : List Entry) → IsSound st → IsNear slot st near → new ≡ st → IsWhole near table list → IsWhole new table list

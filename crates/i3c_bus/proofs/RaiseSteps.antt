@@ -1,5 +1,5 @@
 -- Raises as steps.
-use Rattle.std.proofs.Common.{◌≡◌, ℕ, suc, ◌-◌, ◌^◌, Bool, true, false, ◌||◌, ◌==◌, sym, nat_le, not, List, [], ◌∷◌, length, Option, Some, None, option_map, is_some, is_none, if◌then◌else◌, refl, ap, subst, ◌∙◌, slice_index, slice_set}
+use Rattle.std.proofs.Common.{◌≡◌, ℕ, suc, ◌-◌, ◌^◌, Bool, true, false, ◌||◌, ◌==◌, sym, nat_le, not, List, [], ◌∷◌, length, Option, Some, None, option_map, is_some, is_none, if◌then◌else◌, refl, ap, subst, ◌∙◌, slice_set}
 use Rattle.std.proofs.lemmas.Bool.{true≢false}
 use Rattle.i3c_base.specs.declared.device.TheConstants.{WAITING}
 use Rattle.i3c_base.specs.Covered.{Table}
@@ -57,12 +57,12 @@ given_there None h = absurd (true≢false (sym h))
 given_there (Some a) h = (a, refl)
 
 -- a bus after a raise is whole
-pub whole_raise : (st : State) (table : Table) (list : List Entry) (more : List (Option Device)) (s index number : ℕ) (byte : Option ℕ) (d : Device)
-    → IsWhole st table list → index ≡ s → device_at st s ≡ Some d → (s == st.active) ≡ false
-    → (number ≡ suc (slice_index st.raised index)) × (next_fault d byte (slice_index st.raised index) ≡ None)
-    → more ≡ slice_set st.devices s (option_map (with_raise (suc (slice_index st.raised index)) byte) (device_at st s))
-    → IsWhole (record st { devices = more; raised = slice_set st.raised index number }) table list
-whole_raise st table list more s index number byte d whole same there other fault is = record {
+pub whole_raise : (st : State) (table : Table) (list : List Entry) (more : List (Option Device)) (raised : List ℕ) (s before number : ℕ) (byte : Option ℕ) (d : Device)
+    → IsWhole st table list → before ≡ raised_at st s → device_at st s ≡ Some d → (s == st.active) ≡ false
+    → (number ≡ suc before) × (next_fault d byte before ≡ None)
+    → more ≡ slice_set st.devices s (option_map (with_raise (suc before) byte) (device_at st s)) → raised ≡ slice_set st.raised s number
+    → IsWhole (record st { devices = more; raised = raised }) table list
+whole_raise st table list more raised s before number byte d whole same there other fault is put = record {
   sound = subst IsSound (sym after)
       (sound_step st (Event.Raise s byte) (Reply.Raised (suc (raised_at st s))) (raise s byte st)
       (acting st (Event.Raise s byte) _ (raise s byte st) (raise_free st s byte d there other none) (refl, refl)) whole.sound);
@@ -76,9 +76,9 @@ whole_raise st table list more s index number byte d whole same there other faul
 }
   where
     none : next_fault d byte (raised_at st s) ≡ None
-    none = subst (λ (k : ℕ). next_fault d byte (slice_index st.raised k) ≡ None) same fault.1
+    none = subst (λ (k : ℕ). next_fault d byte k ≡ None) same fault.1
 
-    after : record st { devices = more; raised = slice_set st.raised index number } ≡ raise s byte st
+    after : record st { devices = more; raised = raised } ≡ raise s byte st
     after =
-        (λ k. record st { devices = is k; raised = slice_set st.raised index (fault.0 k) })
-        ∙ ap (λ (k : ℕ). record st { devices = slice_set st.devices s (option_map (with_raise (suc (slice_index st.raised k)) byte) (device_at st s)); raised = slice_set st.raised k (suc (slice_index st.raised k)) }) same
+        (λ k. record st { devices = is k; raised = (put ∙ ap (slice_set st.raised s) fault.0) k })
+        ∙ ap (λ (n : ℕ). record st { devices = slice_set st.devices s (option_map (with_raise (suc n) byte) (device_at st s)); raised = slice_set st.raised s (suc n) }) same

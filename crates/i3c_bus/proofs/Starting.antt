@@ -1,8 +1,7 @@
 -- The start: an address is free for the main controller, and what is made is the start's state.
-use Rattle.std.proofs.Common.{◌≡◌, ℕ, zero, suc, ◌+◌, ◌≤◌, ◌<◌, false, List, [], ◌∷◌, get_or, set, map, cond, count_by, Option, Some, None, option_map, is_some, refl, sym, ap, ◌∙◌, arith, replicate}
+use Rattle.std.proofs.Common.{◌≡◌, ℕ, zero, suc, ◌+◌, ◌≤◌, ◌<◌, false, List, [], ◌∷◌, get_or, set, map, cond, count_by, Option, Some, None, option_map, is_some, refl, sym, ap, ◌∙◌, arith}
 use Rattle.std.proofs.lemmas.List.Sums.{sum_by-cons}
 use Rattle.std.proofs.lemmas.Option.{none-some}
-use Rattle.i3c_base.specs.declared.range.TheConstants.{SLOTS}
 use Rattle.i3c_base.specs.declared.device.LegacyTarget.{LegacyTarget}
 use Rattle.i3c_base.specs.declared.device.Setup.{Setup}
 use Rattle.i3c_base.specs.declared.identity.Identity.{Identity}
@@ -105,8 +104,3 @@ start_seen main board a fixed empty devices raised active holder d table legacy 
       (record { given = set no_entries a (Some (entry_of board.declared main.identity)); legacy = board.legacy; declared = board.declared; listed = false }) (legacy_targets_of board.legacy) false []),
   whole,
 )
-
--- no raises, slot by slot
-pub zeros : replicate SLOTS 0 ≡ no_raises
-unfolding no_raises
-zeros = refl

@@ -11,3 +11,4 @@ pub mod Assigning
 pub mod Whole
 pub mod Statics
 pub mod Near
+pub mod Spans

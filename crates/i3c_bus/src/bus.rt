@@ -3,8 +3,9 @@ ghost use Rattle.i3c_base.specs.State.{attached, fixed_of};
 ghost use Rattle.i3c_table.specs.Rows.{HasStatic};
 
 use crate::hand::Hand;
+use crate::raises::Raises;
 use crate::wishes::wish;
-use i3c_base::{Addr7, Identity, RaiseRefusal, Record, Request, RoleRefusal, SLOTS, Setup, Slot};
+use i3c_base::{Addr7, Identity, RaiseRefusal, Record, Request, RoleRefusal, Setup, Slot};
 use i3c_deftgts::List;
 use i3c_device::{Device, Devices, SlotSet};
 use i3c_handoff::{Active, Role, retire};
@@ -46,7 +47,7 @@ impl Records {
 /// recorded.
 pub struct Bus {
     pub(crate) devices: Devices,
-    pub(crate) raised: [u64; SLOTS],
+    pub(crate) raised: Raises,
     pub(crate) active: Active,
     pub(crate) table: Table,
     // what each device that keeps the list read of the last one
@@ -122,7 +123,7 @@ impl Bus {
         let (active, role) = Active::new(holder);
         let bus = Bus {
             devices,
-            raised: [0; SLOTS],
+            raised: Raises::new(),
             active,
             table,
             list: List::new(),
@@ -312,9 +313,8 @@ impl Bus {
         if slot == self.active() {
             return Err(RaiseRefusal::IsActive);
         }
-        let index = slot.index();
-        let number = self.devices.raise(slot, self.raised[index], byte)?;
-        self.raised[index] = number;
+        let number = self.devices.raise(slot, self.raised.at(slot), byte)?;
+        self.raised.set(slot, number);
         Ok(number)
     }
 

@@ -15,6 +15,7 @@ mod handing;
 mod kinds;
 mod limiting;
 mod outcome;
+mod raises;
 mod replying;
 mod sessions;
 mod setting;

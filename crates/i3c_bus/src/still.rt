@@ -3,7 +3,8 @@ ghost use Rattle.i3c_table.specs.Room.{HasRoom};
 
 use crate::bus::Bus;
 use crate::hand::Hand;
-use i3c_base::{Record, SLOTS, Slot};
+use crate::raises::Raises;
+use i3c_base::{Record, Slot};
 use i3c_deftgts::List;
 use i3c_device::{Devices, Resting};
 use i3c_handoff::{Active, retire};
@@ -27,7 +28,7 @@ const SPARE: usize = 4;
 #[derive(Drop)]
 pub struct Still {
     devices: Resting,
-    raised: [u64; SLOTS],
+    raised: Raises,
     active: Slot,
     // the list, if it is current, has the same entries: so it isn't kept
     table: RestingTable,
@@ -77,12 +78,8 @@ impl Bus {
             let byte = u64::from(record.byte.unwrap_or(0));
             key = key_with(key, record.slot.index() as u64 ^ byte << 8);
         }
-        // one pass without a branch; a device that still waits or wishes is in the devices' key, by its slot
-        let mut raises = 0u64;
-        for raised in &self.raised {
-            raises = raises.wrapping_add(*raised);
-        }
-        key_with(key, raises)
+        // the slot of a device that still waits or wishes is in the devices' key
+        key_with(key, self.raised.sum())
     }
 }
 
@@ -115,7 +112,7 @@ impl Still {
         let (active, role) = Active::new(self.active);
         let bus = Bus {
             devices,
-            raised: self.raised,
+            raised: self.raised.copied(),
             active,
             table,
             list,
@@ -150,7 +147,7 @@ impl Still {
         let (holder, role) = Active::new(self.active);
         retire(mem::replace(&mut bus.active, holder), hand.into_role());
         bus.devices.wake(&self.devices);
-        bus.raised = self.raised;
+        bus.raised.copy_from(&self.raised);
         bus.table.wake(&self.table);
         self.wake_list(&bus.table, &mut bus.list);
         bus.legacy.wake(&self.legacy);
@@ -163,9 +160,8 @@ impl Still {
         requires { IsNear slot self.now bus.old.state }
         ensures { bus.new.state ≡ self.now }
     {
-        let index = slot.index();
         bus.devices.wake_at(slot, &self.devices);
-        bus.raised[index] = self.raised[index];
+        bus.raised.set(slot, self.raised.at(slot));
     }
 
     /// A bus at rest, in the state of this one.
@@ -205,7 +201,7 @@ impl Still {
         };
         Ok(Still {
             devices,
-            raised: bus.raised,
+            raised: bus.raised.copied(),
             active: bus.active.slot(),
             table,
             legacy,
@@ -240,7 +236,7 @@ impl Still {
         settle_table(&mut self.table, table, &bus.table);
         settle_targets(&mut self.legacy, legacy, &bus.legacy);
         self.active = bus.active.slot();
-        self.raised = bus.raised;
+        self.raised.copy_from(&bus.raised);
         self.in_session = bus.in_session;
         Ok(())
     }
@@ -303,7 +299,7 @@ impl Still {
     {
         self.active == other.active
             && self.in_session == other.in_session
-            && are_equal(&self.raised, &other.raised)
+            && self.raised.is_same(&other.raised)
             && are_same(&self.records, &other.records)
             && self.devices.is_same(&other.devices)
     }
@@ -321,7 +317,7 @@ impl Still {
     {
         self.active == bus.active.slot()
             && self.in_session == bus.in_session
-            && are_equal(&self.raised, &bus.raised)
+            && self.raised.is_same(&bus.raised)
             && are_same(&self.records, &bus.records)
             && self.devices.is_of(&bus.devices)
     }
@@ -339,18 +335,6 @@ fn key_with(key: u64, more: u64) -> u64 {
     (key ^ more)
         .wrapping_mul(0x9E37_79B9_7F4A_7C15)
         .rotate_left(23)
-}
-
-/// Whether both are the same numbers, slot by slot. All are looked at, and bits that differ are gathered in one word: that
-/// is faster than to stop at the first number that differs.
-fn are_equal(numbers: &[u64; SLOTS], others: &[u64; SLOTS]) -> bool
-    ensures { IsTrue result ↔ (numbers.now ≡ others.now) }
-{
-    let mut differing = 0;
-    for index in 0..SLOTS {
-        differing |= numbers[index] ^ others[index];
-    }
-    differing == 0
 }
 
 /// Whether both are the same records, in the same order.

@@ -552,6 +552,7 @@ fn are_same_registers(registers: &[u8; REGISTERS], others: &[u8; REGISTERS]) -> 
 
 /// Whether both are the same identity. Two bytes are compared as one number.
 #[inline(always)]
+#[tactic(auto, using(crate::proofs::ByteFieldLaws::same_pair))]
 fn are_same_identities(identity: Identity, other: Identity) -> bool
     ensures { IsTrue result ↔ (identity ≡ other) }
 {

@@ -58,6 +58,7 @@ impl Occupants {
     }
 
     /// They become the occupants that were kept.
+    #[tactic(auto, using(crate::proofs::KeepLaws::held_both))]
     pub fn wake(&mut self, kept: &Kept)
         ensures { self.new ≡ kept.now }
     {
@@ -69,6 +70,7 @@ impl Occupants {
     }
 
     /// Slots that hold a device in one of both alone come to what was kept for them.
+    #[tactic(auto, using(crate::proofs::KeepLaws::alone_none))]
     fn wake_alone(&mut self, kept: &Kept)
         ensures woken { (s : ℕ) → s < SLOT_COUNT → (slice_index_or self.new s None ≡ slice_index_or kept.now s None) ⊎ IsHeld kept.now self.new s }
         ensures slots { length self.new ≡ SLOT_COUNT }

@@ -1,5 +1,5 @@
 -- A raise leaves a scene that differs in one slot at most.
-use Rattle.std.proofs.Common.{◌≡◌, ℕ, false, Option, Some, None, Result, refl, subst, sym}
+use Rattle.std.proofs.Common.{◌≡◌, ℕ, false, Option, Result, refl, subst, sym}
 use Rattle.std.specs.Prelude.{MatchResult}
 use Rattle.i3c_bus.proofs.Nearby.{raised_near}
 use Rattle.i3c_facts.specs.declared.before.Before.{Before}

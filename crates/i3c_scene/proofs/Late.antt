@@ -1,5 +1,5 @@
 -- Cuts behind the last bit of a line's frame lose nobody: the line does what it does without them.
-use Rattle.std.proofs.Common.{min, Result, Err, Ok, ◌≡◌, ◌≢◌, ◌∙◌, ◌⊎◌, ℕ, zero, suc, ap, ◌+◌, ◌<◌, ◌≤◌, Bool, true, false, not, ◌&&◌, ◌==◌, eq-eqb, is_some, List, [], ◌∷◌, max, nat_le, Option, None, Some, arith, inl, inr, refl, subst, sym, if◌then◌else◌}
+use Rattle.std.proofs.Common.{min, Result, Err, Ok, ◌≡◌, ◌≢◌, ◌∙◌, ◌⊎◌, ℕ, zero, suc, ap, ◌<◌, ◌≤◌, Bool, true, false, not, ◌&&◌, ◌==◌, eq-eqb, is_some, List, [], ◌∷◌, max, Option, None, Some, arith, inl, inr, refl, subst, sym, if◌then◌else◌}
 use Rattle.std.specs.declared.alloc.AllocError.{AllocError}
 use Rattle.std.specs.Prelude.{IfOk}
 use Rattle.std.proofs.Math.Nat.{le-max_left, le-max_right}
@@ -33,9 +33,9 @@ use Rattle.i3c_scene.specs.declared.risk.Risk.{Risk}
 use Rattle.i3c_scene.specs.declared.ways.Ways.{Ways}
 use Rattle.i3c_scene.specs.Going.{Assigns, Does, Moves, cut_in, risked, sends}
 use Rattle.i3c_scene.specs.Latest.{last_bit, last_of_frame, latest, tried_as}
-use Rattle.i3c_scene.specs.Pairs.{pair, two_ways, within}
+use Rattle.i3c_scene.specs.Pairs.{pair, within}
 use Rattle.i3c_scene.specs.Scenes.{Seen, place_in, seen}
-use Rattle.i3c_scene.specs.Trying.{LineBreaks, LineSteps, Runs, RunsIn, all_hold, slot_at_risk, ways_of}
+use Rattle.i3c_scene.specs.Trying.{LineBreaks, LineSteps, Runs, RunsIn, all_hold, slot_at_risk}
 use Rattle.i3c_scene.proofs.Pairs.{placed}
 
 -- with a late cut of a device that isn't the active controller, each step of the uncut frame is allowed

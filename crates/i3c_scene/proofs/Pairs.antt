@@ -1,5 +1,5 @@
 -- Each two ways are a pair, and those up to one have the numbers up to that of its last pair.
-use Rattle.std.proofs.Common.{◌≡◌, ◌≢◌, ◌∙◌, ℕ, zero, suc, ◌+◌, ◌*◌, ◌-◌, ◌<◌, ◌≤◌, ◌==◌, Bool, ap, arith, eq-eqb, if◌then◌else◌, inl, inr, nat_le, ne_eqb, refl}
+use Rattle.std.proofs.Common.{◌≡◌, ◌∙◌, ℕ, zero, suc, ◌+◌, ◌*◌, ◌-◌, ◌<◌, ◌≤◌, ◌==◌, Bool, ap, arith, eq-eqb, if◌then◌else◌, inl, inr, ne_eqb, refl}
 use Rattle.std.proofs.Math.Nat.{mul-le-mul_left}
 use Rattle.std.proofs.lemmas.Bool.Decides.{leb_tells}
 use Rattle.i3c_scene.specs.declared.ways.Ways.{Ways}

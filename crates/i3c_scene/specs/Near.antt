@@ -1,5 +1,5 @@
--- A scene that differs from another one in one slot at most.
-use Rattle.std.specs.Prelude.{◌≡◌, ℕ, Option, Some, Ok}
+-- A scene that differs little from another one.
+use Rattle.std.specs.Prelude.{◌≡◌, ℕ, Bool, true, false, Option, IfSome, Some, Ok}
 use Rattle.i3c_bus.specs.Near.{IsNear}
 use Rattle.i3c_lines.specs.declared.command.Command.{Command}
 use Rattle.i3c_lines.specs.declared.names.Name.{Name}
@@ -18,3 +18,13 @@ pub record RaisesIn (old : Seen) (command : Option Command) (slot : ℕ) (byte :
   pub name : Name
   pub raise : command ≡ Some (Command.Raise name byte)
   pub named : slot_named (place_in old.names name) ≡ Ok slot
+
+-- a command may give a name to a device
+abbrev pub names_some : Option Command → Bool
+names_some (Some (Command.Attach name setup)) = true
+names_some _ = false
+
+-- the new scene has the old one's names, unless a name may have been given, and where it differs in one slot at most, the rest
+-- is the old one's too
+abbrev pub IsCloseTo : Bool → Option ℕ → Seen → Seen → Type 0
+IsCloseTo named touched old new = (named ≡ false → new.names ≡ old.names) × IfSome touched (λ slot. IsBehind slot old new)

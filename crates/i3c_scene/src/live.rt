@@ -11,6 +11,7 @@ ghost use Rattle.i3c_lines.specs.declared.refusals.Refusal.{Refusal as RefusalVa
 ghost use Rattle.i3c_script.specs.Stops.{Ends};
 ghost use Rattle.i3c_text.specs.declared.stop.Stop.{Stop as StopValue};
 ghost use Rattle.i3c_scene.specs.Going.{Assigns, sends, session_refusal};
+ghost use Rattle.i3c_scene.specs.Near.{names_some};
 ghost use Rattle.i3c_scene.specs.Scenes.{seen};
 ghost use Rattle.i3c_scene.specs.declared.named.Named.{Named as NamedValue};
 
@@ -99,7 +100,7 @@ impl Scene {
 }
 
 impl Live {
-    ghost use Rattle.std.specs.Prelude.{◌≡◌, ◌<◌, ◌≤◌, ◌+◌, ◌++◌, ◌^◌, ℕ, length, None, Ok, Err, IfOk, IfSome, MatchResult, OnOk, Option};
+    ghost use Rattle.std.specs.Prelude.{◌≡◌, ◌<◌, ◌≤◌, ◌+◌, ◌++◌, ◌^◌, ℕ, length, None, Ok, Err, IfOk, IfSome, IsTrue, MatchResult, OnOk, Option};
     ghost use Rattle.i3c_base.specs.Cutting.{no_cuts};
     ghost use Rattle.i3c_scene.specs.Near.{IsBehind, RaisesIn};
     ghost use Rattle.i3c_step.specs.declared.events.Event.{Event as EventValue};
@@ -115,8 +116,14 @@ impl Live {
     ghost use Rattle.i3c_scene.specs.Scenes.{seen};
     ghost use Rattle.i3c_scene.specs.Going.{Answers, AnswersIn, Assigns, Does, Enters, Excepts, Relieves, Sends, Sets, cut_in, risked, slot_present};
 
-    /// It comes to a scene.
-    pub(crate) fn wake_to(&mut self, alloc: Global, scene: &Scene) -> Result<(), AllocError>
+    /// It comes to a scene. `named` says that it has the scene's names.
+    pub(crate) fn wake_to(
+        &mut self,
+        alloc: Global,
+        scene: &Scene,
+        named: bool,
+    ) -> Result<(), AllocError>
+        requires { IsTrue named → self.old.names ≡ scene.now.names }
         ensures { OnOk result (self.new ≡ scene.now) }
     {
         let rest = &*scene.rest;
@@ -128,7 +135,9 @@ impl Live {
         };
         self.settings = rest.settings.copied();
         self.cuts = rest.cuts.clone()?;
-        self.known.copy_from(&rest.known)?;
+        if !named {
+            self.known.copy_from(&rest.known)?;
+        }
         Ok(())
     }
 
@@ -650,6 +659,13 @@ fn give_back(place: &mut Option<Hand>, hand: Hand)
         None => {}
         Some(_) => unreachable!(),
     }
+}
+
+/// Whether a command may give a name to a device.
+pub(crate) fn names_some(command: &Option<Command>) -> bool
+    ensures { result ≡ names_some command.now }
+{
+    matches!(command, Some(Command::Attach { .. }))
 }
 
 /// Whether a command sends a frame that takes the cuts that wait.

@@ -12,8 +12,8 @@ use i3c_step::Command as Frame;
 use std::alloc::{AllocError, Global};
 
 impl Machine for Scene {
-    ghost use Rattle.std.specs.Prelude.{◌≡◌, IfOk, IfSome};
-    ghost use Rattle.i3c_scene.specs.Near.{IsBehind};
+    ghost use Rattle.std.specs.Prelude.{◌≡◌, IfOk};
+    ghost use Rattle.i3c_scene.specs.Near.{IsCloseTo};
     ghost use Rattle.i3c_scene.specs.Trying.{LineBreaks, LineSteps};
 
     type Line = Line;
@@ -26,7 +26,7 @@ impl Machine for Scene {
 
     ghost breaks = { LineBreaks };
 
-    ghost near = { λ runner scene. IfSome runner.touched (λ slot. IsBehind slot scene runner.live) };
+    ghost near = { λ runner scene. IsCloseTo runner.named runner.touched scene runner.live };
 
     fn last_way(&self, line: &Line) -> usize {
         self.latest(line)

@@ -1,5 +1,5 @@
 use crate::line::Line;
-use crate::live::Live;
+use crate::live::{Live, names_some};
 use crate::scene::Scene;
 use crate::ways::Ways;
 use i3c_base::Slot;
@@ -11,12 +11,14 @@ pub struct Runner {
     pub(crate) live: Live,
     // where the line that ran last changed one slot at most, this slot
     pub(crate) touched: Option<Slot>,
+    // whether the line that ran last may have given a name
+    pub(crate) named: bool,
 }
 
 impl Runner {
     ghost use Rattle.std.specs.Prelude.{◌≡◌, ◌<◌, ◌^◌, IfOk, IfSome, IsTrue, OnOk};
     ghost use Rattle.i3c_facts.specs.declared.before.Before.{Before as BeforeValue};
-    ghost use Rattle.i3c_scene.specs.Near.{IsBehind};
+    ghost use Rattle.i3c_scene.specs.Near.{IsCloseTo};
     ghost use Rattle.i3c_scene.specs.Trying.{RunsIn, all_hold};
 
     /// One on which no line ran.
@@ -26,17 +28,19 @@ impl Runner {
         Runner {
             live,
             touched: None,
+            named: true,
         }
     }
 
-    /// It comes to a scene: where the line that ran last began there too and changed one slot, by that slot alone.
+    /// It comes to a scene: where the line that ran last began there too and changed one slot, by that slot alone, and where
+    /// that line gave no name, without the names.
     pub(crate) fn wake_to(
         &mut self,
         alloc: Global,
         scene: &Scene,
         again: bool,
     ) -> Result<(), AllocError>
-        requires { IsTrue again → IfSome self.old.touched (λ slot. IsBehind slot scene.now self.old.live) }
+        requires { IsTrue again → IsCloseTo self.old.named self.old.touched scene.now self.old.live }
         ensures { OnOk result (self.new.live ≡ scene.now) }
     {
         match self.touched {
@@ -44,17 +48,19 @@ impl Runner {
                 self.live.wake_at(scene, slot);
                 Ok(())
             }
-            _ => self.live.wake_to(alloc, scene),
+            _ => self.live.wake_to(alloc, scene, again && !self.named),
         }
     }
 
     /// Tries a line in these ways of the devices at risk, from the scene that it is in: whether all that is expected holds.
+    #[tactic(auto, using(crate::proofs::Naming::run_names))]
     pub(crate) fn tried(&mut self, line: &Line, ways: Ways) -> Result<bool, AllocError>
         requires one { ways.one < 2 ^ 16 }
         requires other { ways.other < 2 ^ 16 }
         ensures tried { IfOk result (λ held. (before : BeforeValue) × RunsIn self.old.live line.now.command line.now.risk ways before self.new.live × (held ≡ all_hold self.new.live before line.now.expectations.items)) }
-        ensures near { OnOk result (IfSome self.new.touched (λ slot. IsBehind slot self.old.live self.new.live)) }
+        ensures near { OnOk result (IsCloseTo self.new.named self.new.touched self.old.live self.new.live) }
     {
+        self.named = names_some(&line.command);
         match self.live.raise_in_line(line) {
             Some((slot, byte)) => {
                 self.touched = Some(slot);

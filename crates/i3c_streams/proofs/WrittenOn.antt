@@ -1,7 +1,7 @@
 -- What goes out, one text behind the other.
-use Rattle.std.proofs.Common.{◌≡◌, ◌≤◌, ◌∙◌, ℕ, ◌+◌, List, [], ◌++◌, length, take, arith, Option, Some, None, ap, append_assoc, length-append, min, refl, subst, sym}
+use Rattle.std.proofs.Common.{◌≡◌, ◌≤◌, ◌∙◌, ℕ, ◌+◌, List, ◌++◌, length, take, arith, Option, Some, None, ap, append_assoc, length-append, min, refl, subst, sym}
 use Rattle.std.proofs.Math.Seq.{take-append-add}
-use Rattle.std.proofs.lemmas.List.{append-nil, take-append-le, take_all}
+use Rattle.std.proofs.lemmas.List.{take-append-le, take_all}
 use Rattle.std.specs.Io.KnownBytes.{Appends, Keeps}
 use Rattle.i3c_streams.specs.Outcomes.{AppendsSome}
 use Rattle.i3c_streams.proofs.Written.{appends_both}

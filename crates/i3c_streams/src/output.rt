@@ -1,6 +1,7 @@
-ghost use Rattle.std.specs.Prelude.{◌≡◌, ◌<◌, length, take, MatchOption, MatchResult, slice_get, Some};
+ghost use Rattle.std.specs.Prelude.{◌≡◌, ◌<◌, ◌+◌, length, take, MatchOption, MatchResult, OnOk, slice_get, Some};
 ghost use Rattle.std.specs.Io.KnownBytes.{Appends};
 ghost use Rattle.memchr.specs.Find.{IsFirstByte, is_byte};
+ghost use Rattle.i3c_streams.specs.declared.output.TheConstants.{GATHERED};
 ghost use Rattle.i3c_streams.specs.Outcomes.{AppendsSome, GoesLast, HasNoFeed, PutsOrFails, WritesFront, output};
 
 use crate::faults::ScriptFault;
@@ -28,10 +29,15 @@ fn first_feed(bytes: &[u8]) -> Option<usize>
     memchr_iter(LINE_FEED, bytes).next()
 }
 
-/// Gathers what a line printed behind what waits to go out.
+/// Gathers what a line printed behind what waits to go out, once that has gone out if it was long enough.
+///
+/// # Errors
+///
+/// The writer fails, or there is no memory for the text.
 #[inline(always)]
 pub fn gather<W: Write>(text: &[u8], gathered: &mut Text, out: &mut W) -> Result<(), ScriptFault>
-    ensures { PutsOrFails (output (W.contents out.old) gathered.old) (output (W.contents out.new) gathered.new) text.now result }
+    ensures put { PutsOrFails (output (W.contents out.old) gathered.old) (output (W.contents out.new) gathered.new) text.now result }
+    ensures short { OnOk result (length gathered.new < GATHERED + length text.now) }
 {
     match write_gathered(gathered, out) {
         Ok(()) => match gathered.push(text) {
@@ -43,10 +49,15 @@ pub fn gather<W: Write>(text: &[u8], gathered: &mut Text, out: &mut W) -> Result
 }
 
 /// Writes out what is gathered, once it is long enough.
+///
+/// # Errors
+///
+/// The writer fails.
 #[inline(always)]
 pub fn write_gathered<W: Write>(gathered: &mut Text, out: &mut W) -> Result<(), ScriptFault>
-    ensures { MatchResult result (λ _. WritesFront (W.contents out.old) (W.contents out.new) gathered.old gathered.new)
+    ensures written { MatchResult result (λ _. WritesFront (W.contents out.old) (W.contents out.new) gathered.old gathered.new)
         (λ fault. (fault ≡ ScriptFault.Write) × AppendsSome (W.contents out.old) (W.contents out.new) gathered.old) }
+    ensures short { OnOk result (length gathered.new < GATHERED) }
 {
     if gathered.as_bytes().len() >= GATHERED {
         write_out(gathered.as_bytes(), out)?;
@@ -57,6 +68,10 @@ pub fn write_gathered<W: Write>(gathered: &mut Text, out: &mut W) -> Result<(), 
 
 /// Writes out the gathered output at the end, whatever the result of the lines. But it writes nothing to a writer that
 /// failed.
+///
+/// # Errors
+///
+/// That of the lines, if they failed; otherwise the writer fails.
 pub fn write_last<W: Write>(
     outcome: Result<(), ScriptFault>,
     gathered: &[u8],
@@ -76,6 +91,10 @@ pub fn write_last<W: Write>(
 }
 
 /// Writes a text, or, where the writer fails or takes nothing, a part of it from its beginning.
+///
+/// # Errors
+///
+/// The writer fails.
 #[inline(always)]
 pub fn write_out<W: Write>(text: &[u8], out: &mut W) -> Result<(), ScriptFault>
     ensures { MatchResult result (λ _. Appends (W.contents out.old) (W.contents out.new) text.now)

@@ -23,6 +23,10 @@ pub enum Piece {
 }
 
 /// Reads the next bytes of an input, of which at most `left` more are allowed.
+///
+/// # Errors
+///
+/// The reader fails.
 pub fn read_piece<R: Read>(
     reader: &mut R,
     chunk: &mut [u8],

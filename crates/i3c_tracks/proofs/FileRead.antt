@@ -7,18 +7,15 @@ use Rattle.i3c_streams.specs.declared.script_lines.Reading.{Reading}
 use Rattle.i3c_streams.specs.declared.script_lines.ScriptLines.{ScriptLines}
 use Rattle.i3c_streams.specs.Lines.{GivesLine, IsGivenOut, IsReadAs, IsReadFrom, given, line_in_hand}
 use Rattle.i3c_streams.specs.Outcomes.{HasNoFeed}
+use Rattle.i3c_streams.proofs.BytesRead.{none_read}
 use Rattle.i3c_streams.proofs.LinesRead.{all_given}
 use Rattle.i3c_tracks.specs.Planning.{AreLines, lines_bytes}
-
-nothing_consumed : (known : Option (List ℕ)) (items : List ℕ) → items ≡ [] → Consumes known known items
-nothing_consumed None items none = tt
-nothing_consumed (Some xs) items none = sym (ap (λ items. items ++ xs) none)
 
 -- nothing was read yet
 pub nothing_read : (known : Option (List ℕ)) (lines : ScriptLines) → lines.reading ≡ Reading.Open → lines.bytes.items ≡ [] → IsReadFrom known known lines
 nothing_read known lines reading none =
     let few : length lines.bytes.items ≤ 1048576 = omega (arith, ap length none) in
-    subst (λ r. IsReadAs r known known lines.bytes.items) (sym reading) (nothing_consumed known lines.bytes.items none, few)
+    subst (λ r. IsReadAs r known known lines.bytes.items) (sym reading) (none_read known lines.bytes.items none, few)
 
 -- one more line
 pub bytes_more : (lines : List (Vec ℕ)) (line : Vec ℕ) → lines_bytes (lines ++ line ∷ []) ≡ lines_bytes lines ++ (line.items ++ 10 ∷ [])

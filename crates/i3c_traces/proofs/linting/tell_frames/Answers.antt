@@ -44,7 +44,7 @@ returns-in_err-write_gathered-clause-told g c =
     reported_on trace (frames_text c.args.legacies.0 frames) inv.0 c.loop-text.text tail (to_come c.loop-text.linter) (report_lines report) rest told inv.2 in
     let grown : c.push_report.new.text ≡ c.loop-text.text ++ report_text trace report =
     c.in_ok-push_report.ensures ∙ ap (λ trace. c.loop-text.text ++ report_text trace report) c.deref-in-Some.ensures.value in
-    let fault = c.in_err-write_gathered.ensures in
+    let fault = c.in_err-write_gathered.ensures.written in
     let out : AppendsSome old new (frames_text c.args.legacies.0 frames) =
     subst (AppendsSome old new) (sym all)
     (some_out old mid new inv.0 (c.loop-text.text ++ report_text trace report) (lint_text trace rest ++ tail) inv.1 (subst (AppendsSome mid new) grown fault.1)) in
@@ -66,7 +66,7 @@ loop-text-preserved-in_ok-write_gathered g c =
     reported_on trace (frames_text c.args.legacies.0 frames) inv.0 c.loop-text.text tail (to_come c.loop-text.linter) (report_lines report) rest told inv.2 in
     let grown : c.push_report.new.text ≡ c.loop-text.text ++ report_text trace report =
     c.in_ok-push_report.ensures ∙ ap (λ trace. c.loop-text.text ++ report_text trace report) c.deref-in-Some.ensures.value in
-    let wrote = c.in_ok-write_gathered.ensures in
+    let wrote = c.in_ok-write_gathered.ensures.written in
     let counted : c.saturating_add-refused.result ≡ min (c.loop-text.refused + faults_in report) 18446744073709551615 =
     c.saturating_add-refused.ensures ∙ ap (λ n. min (c.loop-text.refused + n) 18446744073709551615) c.faults_of.ensures in (
       inv.0 ++ wrote.0,
@@ -92,7 +92,7 @@ loop-text-preserved g c =
     reported_on trace (frames_text c.args.legacies.0 frames) inv.0 c.loop-text.text tail (to_come c.loop-text.linter) (report_lines report) rest told inv.2 in
     let grown : c.push_report.new.text ≡ c.loop-text.text ++ report_text trace report =
     c.in_ok-push_report.ensures ∙ ap (λ trace. c.loop-text.text ++ report_text trace report) c.deref-in-Some.ensures.value in
-    let wrote = c.in_ok-write_gathered.ensures in
+    let wrote = c.in_ok-write_gathered.ensures.written in
     let counted : c.saturating_add-refused.result ≡ min (c.loop-text.refused + faults_in report) 18446744073709551615 =
     c.saturating_add-refused.ensures ∙ ap (λ n. min (c.loop-text.refused + n) 18446744073709551615) c.faults_of.ensures in (
       inv.0 ++ wrote.0,

@@ -40,7 +40,7 @@ returns-in_err-write_gathered-clause-told g c =
     gathered_on (trace_text trace) inv.0 c.loop-text.text (line_text trace decoded) (lines_text trace rest)
     (inv.2 ∙ ap (λ decoded. inv.0 ++ (c.loop-text.text ++ lines_text trace decoded)) told) in
     let grown : c.push_decoded.new.text ≡ c.loop-text.text ++ line_text trace decoded = c.in_ok-push_decoded.ensures in
-    let fault = c.in_err-write_gathered.ensures in
+    let fault = c.in_err-write_gathered.ensures.written in
     let out : AppendsSome old new (trace_text trace) =
     subst (AppendsSome old new) (sym all)
     (some_out old mid new inv.0 (c.loop-text.text ++ line_text trace decoded) (lines_text trace rest) inv.1 (subst (AppendsSome mid new) grown fault.1)) in
@@ -60,7 +60,7 @@ loop-text-preserved g c =
     gathered_on (trace_text trace) inv.0 c.loop-text.text (line_text trace decoded) (lines_text trace rest)
     (inv.2 ∙ ap (λ decoded. inv.0 ++ (c.loop-text.text ++ lines_text trace decoded)) told) in
     let grown : c.push_decoded.new.text ≡ c.loop-text.text ++ line_text trace decoded = c.in_ok-push_decoded.ensures in
-    let wrote = c.in_ok-write_gathered.ensures in
+    let wrote = c.in_ok-write_gathered.ensures.written in
     let counted : c.saturating_add-refused.result ≡ min (c.loop-text.refused + refusals_in decoded) 18446744073709551615 =
     c.saturating_add-refused.ensures ∙ ap (λ n. min (c.loop-text.refused + n) 18446744073709551615) c.refusals.ensures in (
       inv.0 ++ wrote.0,

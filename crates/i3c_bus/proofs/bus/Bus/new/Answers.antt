@@ -1,15 +1,14 @@
 -- Few static addresses leave an address free, and what is made at the pick is a start.
-use Rattle.std.proofs.Common.{rules, ◌≡◌, ◌∙◌, ℕ, List, Option, sym, ap, subst, set, map, option_map, replicate, refl, Some, None, false}
+use Rattle.std.proofs.Common.{rules, ◌≡◌, ◌∙◌, ℕ, List, Option, sym, ap, subst, set, map, option_map, refl, Some, None, false}
 use Rattle.std.proofs.lemmas.Bool.{both_ways, cond-true}
 use Rattle.i3c_base.specs.Covered.{Table}
 use Rattle.i3c_base.specs.declared.device.LegacyTarget.{LegacyTarget}
-use Rattle.i3c_base.specs.declared.range.TheConstants.{SLOTS}
 use Rattle.i3c_base.specs.Round.{winner}
 use Rattle.i3c_base.specs.State.{Device as DeviceState, entry_of, fixed_of, is_static, IsPickIn, IsPickableIn, IsStart, no_entries}
 use Rattle.i3c_table.specs.Rows.{HasStatic, static_in}
 use Rattle.i3c_bus.specs.Parts.{state_of}
 use Rattle.i3c_step.proofs.Soundness.{sound_start}
-use Rattle.i3c_bus.proofs.Starting.{lvrs_kept, some_free, start_seen, zeros}
+use Rattle.i3c_bus.proofs.Starting.{lvrs_kept, some_free, start_seen}
 use Rattle.i3c_bus.proofs.bus.Bus.new.Goals as goal
 
 pub unreachable-requires : goal.unreachable-requires
@@ -22,7 +21,7 @@ static_same None h = refl
 static_same (Some f) h = cond-true (is_static f) (Some f) None h
 
 -- the table with its row
-table : (c : goal.After-new-2) → c.put.new.self
+table : (c : goal.After-new-3) → c.put.new.self
     ≡ record { given = set no_entries c.in-Some.address (Some (entry_of c.args.legacies.declared c.args.main.identity)); legacy = c.args.legacies.legacy; declared = c.args.legacies.declared; listed = false }
 table c =
     let fixed : c.fixed.result ≡ fixed_of c.args.legacies.declared c.args.main.identity = c.fixed.ensures ∙ ap (λ (d : DeviceState). d.fixed) c.device-controller.ensures.new in
@@ -32,14 +31,14 @@ table c =
     ∙ (ap (λ (f : Option ℕ). record c.new-table.result { given = set c.new-table.result.given c.in-Some.address (Some (record (entry_of c.args.legacies.declared c.args.main.identity) { fixed = f })); listed = false }) entry
     ∙ ap (λ (t : Table). record t { given = set t.given c.in-Some.address (Some (entry_of c.args.legacies.declared c.args.main.identity)); listed = false }) c.new-table.ensures)
 
-started : (c : goal.After-new-2)
-    → IsStart c.args.main c.args.legacies (state_of c.put-2.new.self (replicate SLOTS 0) c.new-active.result.0 c.put.new.self c.new-legacy.result false c.new-2.result.items)
+started : (c : goal.After-new-3)
+    → IsStart c.args.main c.args.legacies (state_of c.put-2.new.self c.new.result c.new-active.result.0 c.put.new.self c.new-legacy.result false c.new-3.result.items)
 started c =
     let pick : IsPickIn no_entries c.args.legacies.legacy c.args.legacies.declared c.in-Some.address =
     subst (λ (t : Table). IsPickIn t.given t.legacy t.declared c.in-Some.address) c.new-table.ensures c.in-Some.ensures in
-    start_seen c.args.main c.args.legacies c.in-Some.address (fixed_of c.args.legacies.declared c.args.main.identity) c.new-devices.result c.put-2.new.self (replicate SLOTS 0) c.new-active.result.0 c.default-holder.result c.take_address.new.self c.put.new.self c.new-legacy.result
-    c.new-2.result.items c.addresses-taken.ensures.board pick c.new-devices.ensures (sym c.default-holder.ensures.1 ∙ c.default-holder.ensures.2) refl
-    (c.take_address.ensures ∙ ap (winner c.in-Some.address) c.device-controller.ensures.new) c.put-2.ensures zeros c.new-active.ensures.kept (table c) c.new-legacy.ensures c.new-2.ensures.items
+    start_seen c.args.main c.args.legacies c.in-Some.address (fixed_of c.args.legacies.declared c.args.main.identity) c.new-devices.result c.put-2.new.self c.new.result c.new-active.result.0 c.default-holder.result c.take_address.new.self c.put.new.self c.new-legacy.result
+    c.new-3.result.items c.addresses-taken.ensures.board pick c.new-devices.ensures (sym c.default-holder.ensures.1 ∙ c.default-holder.ensures.2) refl
+    (c.take_address.ensures ∙ ap (winner c.in-Some.address) c.device-controller.ensures.new) c.put-2.ensures c.new.ensures c.new-active.ensures.kept (table c) c.new-legacy.ensures c.new-3.ensures.items
 
 pub invariant_of-bus : goal.invariant_of-bus
 invariant_of-bus c = record {

@@ -1,5 +1,5 @@
 -- The slot is put back, and the table and the list still cover the state.
-use Rattle.std.proofs.Common.{◌∙◌, ap, refl, subst, sym}
+use Rattle.std.proofs.Common.{◌∙◌, ap, subst, sym}
 use Rattle.i3c_base.specs.State.{Held, State}
 use Rattle.i3c_bus.specs.Near.{IsNear}
 use Rattle.i3c_bus.specs.Parts.{state_of}
@@ -13,7 +13,7 @@ invariant_of-bus c =
     let near = state_of b.devices b.raised b.active b.table b.legacy b.in_session b.records.items in
     let n = subst (λ (x : State). IsNear c.args.slot x near) (sym c.self.view_is) (subst (λ (x : State). IsNear c.args.slot c.args.self.now x) (sym (ap (λ (h : Held). h.state) c.bus.view_is)) c.requires) in
     whole_back st near _ c.args.slot b.table b.list c.self.invariant.sound n
-    (put_back st near c.args.slot c.index-index.result c.wake_at.new.self _ _ n c.wake_at.ensures c.index-index.ensures.same refl refl) c.bus.invariant
+    (put_back st near c.args.slot c.wake_at.new.self c.set.new.self c.at.result n c.wake_at.ensures c.at.ensures c.set.ensures) c.bus.invariant
 
 pub returns : goal.returns
 returns c =
@@ -21,4 +21,4 @@ returns c =
     let st = state_of s.devices s.raised s.active s.table s.legacy s.in_session s.records.items in
     let near = state_of b.devices b.raised b.active b.table b.legacy b.in_session b.records.items in
     let n = subst (λ (x : State). IsNear c.args.slot x near) (sym c.self.view_is) (subst (λ (x : State). IsNear c.args.slot c.args.self.now x) (sym (ap (λ (h : Held). h.state) c.bus.view_is)) c.requires) in
-    put_back st near c.args.slot c.index-index.result c.wake_at.new.self _ _ n c.wake_at.ensures c.index-index.ensures.same refl refl ∙ c.self.view_is
+    put_back st near c.args.slot c.wake_at.new.self c.set.new.self c.at.result n c.wake_at.ensures c.at.ensures c.set.ensures ∙ c.self.view_is

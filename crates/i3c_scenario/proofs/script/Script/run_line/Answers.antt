@@ -23,4 +23,4 @@ returns-clause-ends g c =
     let waits : c.settle.new.self.gathered ≡ c.args.self.now.gathered = c.settle.ensures.gathered ∙ c.obey-outcome.ensures.gathered in
     line_put c.args.line.now text outcome old new from to c.gather.result does
     (c.settle.ensures.counted ∙ ap (λ n. min (n + refusals outcome) 18446744073709551615) c.obey-outcome.ensures.refused)
-    (subst (λ t. PutsOrFails old new t c.gather.result) same (subst (λ w. PutsOrFails (output (g.W.Write.contents c.args.out.now) w) new c.as_bytes.result.now c.gather.result) waits c.gather.ensures))
+    (subst (λ t. PutsOrFails old new t c.gather.result) same (subst (λ w. PutsOrFails (output (g.W.Write.contents c.args.out.now) w) new c.as_bytes.result.now c.gather.result) waits c.gather.ensures.put))

@@ -1,4 +1,4 @@
-use Rattle.std.proofs.Common.{◌≡◌, ◌+◌, ◌-◌, ◌*◌, ◌<◌, ◌≤◌, arith, sym}
+use Rattle.std.proofs.Common.{◌-◌, ◌*◌, arith, sym}
 use Rattle.i3c_scene.proofs.Pairs.{pair_first, pair_second}
 use Rattle.i3c_scene.proofs.ways.Ways.of_pair.Goals as goal
 

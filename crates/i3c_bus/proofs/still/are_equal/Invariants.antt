@@ -1,6 +1,0 @@
-use Rattle.std.proofs.Common.{◌≡◌, ◌<◌, ◌↔◌, ℕ, get_or}
-use Rattle.i3c_bus.proofs.still.are_equal.Given as goal
-
--- no bit differs so far just if both begin alike
-abbrev pub invariant-loop-index : goal.invariant-loop-index
-invariant-loop-index l = (l.differing ≡ 0) ↔ ((k : ℕ) → k < l.index → get_or l.fn.numbers k 0 ≡ get_or l.fn.others k 0)
