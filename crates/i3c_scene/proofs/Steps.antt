@@ -22,11 +22,12 @@ use Rattle.i3c_bus.specs.Assigning.{AreRounds, IsAssignment}
 use Rattle.i3c_lines.specs.declared.refusals.Refusal.{Refusal}
 use Rattle.i3c_text.specs.declared.stop.Stop.{Stop}
 use Rattle.i3c_script.specs.declared.settings.Settings.{Settings}
+use Rattle.i3c_script.specs.Accepting.{Accepts}
 use Rattle.i3c_script.specs.Assigning.{cuts_left}
 use Rattle.i3c_script.specs.Stops.{Ends, reply_refusal}
 use Rattle.i3c_script.proofs.Moving.{all_taken}
 use Rattle.i3c_scene.specs.declared.named.Named.{Named}
-use Rattle.i3c_scene.specs.Going.{Answers, Assigns, Rounds, session_refusal}
+use Rattle.i3c_scene.specs.Going.{Answers, Assigns, Rounds, Sends, session_refusal}
 use Rattle.i3c_scene.specs.Scenes.{Seen, seen}
 
 -- what holds of a line's refusal holds, if it follows from what is known
@@ -71,7 +72,7 @@ rounds old [] wire new h = h.1
 rounds old (answer ∷ later) wire new (mid, first, rest, sent, more, is) = (mid, sent.0, rounds mid later rest new more)
 
 -- each frame under the role carries cuts
-pub carries_cuts : (frame : Frame) (policy : Fixed) (cuts : CutList) → is_some (cuts_in (event_of frame policy cuts)) ≡ true
+carries_cuts : (frame : Frame) (policy : Fixed) (cuts : CutList) → is_some (cuts_in (event_of frame policy cuts)) ≡ true
 carries_cuts Frame.Serve policy cuts = refl
 carries_cuts (Frame.Enec to kinds) policy cuts = refl
 carries_cuts (Frame.Disec to kinds) policy cuts = refl
@@ -83,6 +84,23 @@ carries_cuts (Frame.SetStatic f to) policy cuts = refl
 carries_cuts (Frame.SetNew a to) policy cuts = refl
 carries_cuts (Frame.Get what a) policy cuts = refl
 carries_cuts (Frame.SetLength way most to) policy cuts = refl
+
+-- so a frame is sent as a line, by a step for whose reply there was memory
+pub sent : (old new : State) (settings : Settings) (fixed : Fixed) (cuts : CutList) (names : List Named) (frame : Frame) (reply : Reply) (result : Result (Unit {0}) (Stop Refusal)) → Accepts settings old fixed
+    → Step old (event_of frame fixed cuts) reply new → Ends (λ refused. (reply ≢ Reply.OutOfMemory) × (refused ≡ reply_refusal reply)) result
+    → Ends (λ refused. Sends (seen old settings cuts names) frame refused (seen new settings no_cuts names)) result
+sent old new settings fixed cuts names frame reply result accepts step ends =
+    ends_by (λ refused. (reply ≢ Reply.OutOfMemory) × (refused ≡ reply_refusal reply)) (λ refused. Sends (seen old settings cuts names) frame refused (seen new settings no_cuts names)) result
+    (λ refused told. (
+      fixed,
+      accepts,
+      (
+        reply,
+        record { step = step; fed = told.0; settings = refl; cuts = sym (all_taken (event_of frame fixed cuts) cuts (carries_cuts frame fixed cuts)); names = refl },
+        told.1,
+      ),
+    ))
+    ends
 
 -- a whole session, or a refusal of its opening, as a line
 pub session_told : {T C : Type 0} (note : T → Symbol → T → Type 0) (before after : T) (st new : State) (settings : Settings) (cuts : CutList) (names : List Named) (assigned : Result Assignment ActiveStays) (result : Result (Unit {0}) (Stop Refusal))

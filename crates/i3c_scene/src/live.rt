@@ -4,7 +4,6 @@ ghost use Rattle.i3c_base.specs.Cutting.{no_cuts};
 ghost use Rattle.i3c_bus.specs.Hands.{HandFits};
 ghost use Rattle.i3c_bus.specs.declared.hand.Hand.{Hand as HandValue};
 ghost use Rattle.i3c_script.specs.Assigning.{cuts_left};
-ghost use Rattle.i3c_step.specs.Commands.{event_of};
 ghost use Rattle.i3c_step.specs.declared.replies.Refusal.{Refusal as BusRefusalValue};
 ghost use Rattle.i3c_lines.specs.Naming.{slot_named};
 ghost use Rattle.i3c_lines.specs.declared.refusals.Refusal.{Refusal as RefusalValue};
@@ -29,7 +28,7 @@ use i3c_facts::{Before, Naming};
 use i3c_frame::Silent;
 use i3c_lines::{Command, EXCEPTED, Name, Place, Refusal};
 use i3c_script::{Settings, entrance_at, outcome_of};
-use i3c_step::copy_of;
+use i3c_step::Reply;
 use i3c_text::Stop;
 use std::alloc::{AllocError, Global};
 use std::marker::Model;
@@ -369,14 +368,25 @@ impl Live {
         }
     }
 
-    /// A line that sends a frame under the role.
+    /// A line that sends a frame under the role. The frame takes the cuts that wait.
     fn send(&mut self, frame: &Frame) -> Result<(), Stop<Refusal>>
         ensures { Ends (λ refused. Sends self.old frame.now refused self.new) result }
     {
-        let cuts = self.take_cuts();
-        let accepted = self.settings.accepted(&self.bus);
-        let event = event_of(frame, accepted, cuts);
-        self.answer(&event)
+        let Some(hand) = &self.hand else {
+            unreachable!()
+        };
+        let mut accepted = self.settings.accepted(&self.bus);
+        let mut reply = Reply::OutOfMemory;
+        self.bus.command_into(
+            hand,
+            frame,
+            &mut accepted,
+            &mut Silent,
+            &self.cuts,
+            &mut reply,
+        );
+        self.cuts.clear();
+        outcome_of(&reply)
     }
 
     /// `handover`: the role is offered to the device at an address.
@@ -616,25 +626,6 @@ fn slot_in(place: Option<Place>) -> Result<Slot, Refusal>
     match place {
         Place::Slot(slot) => Ok(slot),
         Place::Legacy(_) | Place::Gone => Err(Refusal::Bus(BusRefusal::NoDevice)),
-    }
-}
-
-/// The event of a frame under the role.
-fn event_of(frame: &Frame, policy: Fixed, cuts: Cuts) -> Event
-    ensures { result ≡ event_of frame.now policy cuts }
-{
-    match frame {
-        Frame::Serve => Event::Serve(policy, cuts),
-        Frame::Enec(to, kinds) => Event::Enec(*to, *kinds, policy, cuts),
-        Frame::Disec(to, kinds) => Event::Disec(*to, *kinds, policy, cuts),
-        Frame::Reset => Event::Reset(policy, cuts),
-        Frame::SendList => Event::SendList(policy, cuts),
-        Frame::ReadFrom(from) => Event::ReadFrom(*from, policy, cuts),
-        Frame::WriteTo(to, bytes) => Event::WriteTo(*to, copy_of(bytes), policy, cuts),
-        Frame::SetStatic(fixed, new) => Event::SetStatic(*fixed, *new, policy, cuts),
-        Frame::SetNew(old, new) => Event::SetNew(*old, *new, policy, cuts),
-        Frame::Get(what, from) => Event::Get(*what, *from, policy, cuts),
-        Frame::SetLength(way, most, to) => Event::SetLength(*way, *most, *to, policy, cuts),
     }
 }
 

@@ -1,25 +1,17 @@
--- The frame's cuts are taken before.
-use Rattle.std.proofs.Common.{◌≡◌, ◌∙◌, true, ap, subst, sym}
-use Rattle.std.specs.Option.{is_some}
-use Rattle.i3c_step.specs.declared.events.Event.{Event}
-use Rattle.i3c_step.specs.Commands.{event_of}
-use Rattle.i3c_step.specs.Step.{cuts_in}
-use Rattle.i3c_script.specs.Accepting.{Accepts}
-use Rattle.i3c_scene.specs.Going.{Answers, Sends}
-use Rattle.i3c_scene.specs.Scenes.{Seen}
-use Rattle.i3c_scene.proofs.Steps.{carries_cuts, ends_by, framed}
+-- What is accepted is asked as itself.
+use Rattle.std.proofs.Common.{subst, sym}
+use Rattle.i3c_script.specs.Stops.{Ends}
+use Rattle.i3c_scene.specs.Going.{Sends}
+use Rattle.i3c_scene.specs.Scenes.{seen}
+use Rattle.i3c_bus.proofs.Agreeing.{carried_asked}
+use Rattle.i3c_scene.proofs.Steps.{sent}
 use Rattle.i3c_scene.proofs.live.Live.send.Goals as goal
 
 pub returns : goal.returns
 returns c =
-    let old = c.args.self.now in
-    let taken = c.take_cuts-cuts.new.self in
-    let new = c.answer.new.self in
-    let event = c.event_of-event.result in
-    let frame = c.args.frame.now in
+    let at = c.self.inside in
+    let reply = c.command_into.new.reply in
     let fixed = c.accepted-accepted.result in
-    let accepts : Accepts old.settings old.state fixed = subst (λ (s : Seen). Accepts s.settings s.state fixed) (c.self.view_is ∙ c.take_cuts-cuts.ensures.left) c.accepted-accepted.ensures in
-    let is : event ≡ event_of frame fixed old.cuts = c.event_of-event.ensures ∙ ap (event_of frame fixed) c.take_cuts-cuts.ensures.taken in
-    let carries : is_some (cuts_in event) ≡ true = subst (λ (e : Event). is_some (cuts_in e) ≡ true) (sym is) (carries_cuts frame fixed old.cuts) in
-    ends_by (λ refused. Answers taken event refused new) (λ refused. Sends old frame refused new) c.answer.result
-    (λ refused h. (fixed, accepts, subst (λ (e : Event). Answers old e refused new) is (framed old taken new event refused carries c.take_cuts-cuts.ensures.left h))) c.answer.ensures
+    let carried = carried_asked c.args.frame.now at.bus c.command_into.new.self fixed c.command_into.new.policy at.cuts reply c.in-Some.hand _ c.command_into.ensures.asks c.command_into.ensures.carried in
+    rw (← c.self.view_is) (subst (λ cuts. Ends (λ refused. Sends (seen at.bus.state at.settings at.cuts at.known) c.args.frame.now refused (seen c.command_into.new.self.state at.settings cuts at.known)) c.outcome_of.result) (sym c.clear.ensures.none)
+    (sent at.bus.state c.command_into.new.self.state at.settings fixed at.cuts at.known c.args.frame.now reply c.outcome_of.result c.accepted-accepted.ensures carried.step c.outcome_of.ensures))
