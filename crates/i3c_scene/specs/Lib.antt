@@ -5,3 +5,4 @@ pub mod Pairs
 pub mod Trying
 pub mod Latest
 pub mod Near
+pub mod PlaceCodes

@@ -7,7 +7,7 @@
 //! * `risk` is which devices may lose power in a line's frame, and `ways` at which bits.
 //! * `machine` tries the lines, each in every way that can matter.
 //! * `known` is what names stand for.
-//! * `named` is one name.
+//! * `named` is one name, and `place_byte` what it stands for, in a byte.
 //! * `showing` prints a scene, and what is unmet there.
 #![tactic(auto)]
 
@@ -16,6 +16,7 @@ mod line;
 mod live;
 mod machine;
 mod named;
+mod place_byte;
 mod risk;
 mod runner;
 mod scene;
@@ -25,6 +26,7 @@ mod ways;
 pub use line::{Expectation, Line};
 pub use live::Live;
 pub use named::{Named, place_in};
+pub use place_byte::PlaceByte;
 pub use risk::Risk;
 pub use runner::Runner;
 pub use scene::{BeginFault, Scene};

@@ -1,4 +1,4 @@
-ghost use Rattle.std.specs.Prelude.{◌≡◌, ◌≢◌, Some, None, Err, List, MatchResult};
+ghost use Rattle.std.specs.Prelude.{◌≡◌, ◌≢◌, Some, None, Err, List, MatchResult, OnOk};
 ghost use Rattle.i3c_script.specs.declared.settings.Settings.{Settings as SettingsValue};
 ghost use Rattle.i3c_base.specs.Cutting.{no_cuts};
 ghost use Rattle.i3c_bus.specs.Hands.{HandFits};
@@ -133,7 +133,7 @@ impl Live {
             return Err(AllocError);
         };
         self.settings = rest.settings.copied();
-        self.cuts = rest.cuts.clone()?;
+        copy_cuts(&mut self.cuts, &rest.cuts)?;
         if !named {
             self.known.copy_from(&rest.known)?;
         }
@@ -627,6 +627,16 @@ fn slot_in(place: Option<Place>) -> Result<Slot, Refusal>
         Place::Slot(slot) => Ok(slot),
         Place::Legacy(_) | Place::Gone => Err(Refusal::Bus(BusRefusal::NoDevice)),
     }
+}
+
+/// Cuts become the same as others. Mostly there are none.
+fn copy_cuts(cuts: &mut Cuts, others: &Cuts) -> Result<(), AllocError>
+    ensures { OnOk result (cuts.new ≡ others.now) }
+{
+    if !cuts.is_empty() || !others.is_empty() {
+        *cuts = others.clone()?;
+    }
+    Ok(())
 }
 
 /// The role or session, which the bus takes for a while.

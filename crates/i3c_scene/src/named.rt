@@ -1,6 +1,7 @@
 ghost use Rattle.std.specs.Prelude.{◌≡◌, ◌++◌, ◌∷◌, [], map, IsTrue, OnOk, true, false};
 ghost use Rattle.i3c_scene.specs.Scenes.{given, left, left_slot, name_in, place_in, put, stands_in};
 
+use crate::place_byte::PlaceByte;
 use i3c_base::Slot;
 use i3c_lines::{Name, Place};
 use std::alloc::AllocError;
@@ -11,7 +12,7 @@ pub struct Named {
     /// The name.
     pub name: Name,
     /// What it stands for.
-    pub place: Place,
+    pub place: PlaceByte,
 }
 
 impl Named {
@@ -21,7 +22,10 @@ impl Named {
     pub fn new(name: Name, place: Place) -> Named
         ensures { result ≡ record { name = name; place = place } }
     {
-        Named { name, place }
+        Named {
+            name,
+            place: PlaceByte::of(place),
+        }
     }
 }
 
@@ -31,7 +35,7 @@ pub fn place_in(names: &[Named], name: &Name) -> Option<Place>
 {
     for named in names {
         if named.name == *name {
-            return Some(named.place);
+            return Some(named.place.get());
         }
     }
     None
@@ -52,7 +56,7 @@ fn leave(names: &mut [Named], slot: Slot)
     let Some((first, rest)) = names.split_first_mut() else {
         return;
     };
-    first.place = left_slot(slot, first.place);
+    first.place = PlaceByte::of(left_slot(slot, first.place.get()));
     leave(rest, slot);
 }
 
@@ -80,7 +84,7 @@ fn put(names: &mut Vec<Named>, name: &Name, place: Place) -> Result<(), AllocErr
 fn add(names: &mut Vec<Named>, name: &Name, place: Place) -> Result<(), AllocError>
     ensures { OnOk result (names.new.items ≡ names.old.items ++ record { name = name.now; place = place } ∷ []) }
 {
-    names.push(Named { name: *name, place })?;
+    names.push(Named::new(*name, place))?;
     Ok(())
 }
 
@@ -93,7 +97,7 @@ fn change(names: &mut [Named], name: &Name, place: &Place) -> bool
         return false;
     };
     if first.name == *name {
-        first.place = *place;
+        first.place = PlaceByte::of(*place);
         return true;
     }
     change(rest, name, place)
@@ -104,7 +108,7 @@ pub(crate) fn standing_in(names: &[Named], slot: Slot) -> Option<Name>
     ensures { result ≡ name_in names.now slot }
 {
     let (first, rest) = names.split_first()?;
-    if stands_in(first.place, slot) {
+    if stands_in(first.place.get(), slot) {
         return Some(first.name);
     }
     standing_in(rest, slot)
@@ -139,5 +143,5 @@ pub(crate) fn are_same(names: &[Named], others: &[Named]) -> bool
 fn is_same(one: &Named, other: &Named) -> bool
     ensures { IsTrue result → one.now ≡ other.now }
 {
-    one.name.is_same(&other.name) && one.place == other.place
+    one.name.is_same(&other.name) && one.place.is_same(other.place)
 }

@@ -102,7 +102,7 @@ fn place_name(names: &mut Names, named: &Named) -> Result<(), AllocError>
     ensures slots { OnOk result (slot_names names.new ≡ put_slot named.now.place named.now.name (slot_names names.old)) }
     ensures targets { OnOk result (legacy_names names.new ≡ put_legacy named.now.place named.now.name (legacy_names names.old)) }
 {
-    match named.place {
+    match named.place.get() {
         Place::Slot(slot) => names.give_slot(&named.name, slot),
         Place::Legacy(address) => names.give_address(&named.name, address),
         Place::Gone => Ok(()),
