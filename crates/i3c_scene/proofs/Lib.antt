@@ -2,4 +2,4 @@ mod Pairs
 pub mod Late
 pub mod Steps
 mod Behind
-mod Naming
+mod Setting

@@ -19,12 +19,20 @@ pub record RaisesIn (old : Seen) (command : Option Command) (slot : ℕ) (byte :
   pub raise : command ≡ Some (Command.Raise name byte)
   pub named : slot_named (place_in old.names name) ≡ Ok slot
 
--- a command may give a name to a device
-abbrev pub names_some : Option Command → Bool
-names_some (Some (Command.Attach name setup)) = true
-names_some _ = false
+-- a command may give a name, or change what frames accept or which records have left the log
+abbrev pub sets_some : Option Command → Bool
+sets_some (Some (Command.Attach name setup)) = true
+sets_some (Some (Command.Policy kinds)) = true
+sets_some (Some (Command.PolicyBut kinds but)) = true
+sets_some (Some (Command.Forget last)) = true
+sets_some _ = false
 
--- the new scene has the old one's names, unless a name may have been given, and where it differs in one slot at most, the rest
--- is the old one's too
+-- the new scene has the old one's settings and names
+pub record HasSameSettings (old new : Seen) : Type 0 where
+  pub settings : new.settings ≡ old.settings
+  pub names : new.names ≡ old.names
+
+-- the new scene has the old one's settings and names, unless they may have been set, and where it differs in one slot at most, the
+-- rest is the old one's too
 abbrev pub IsCloseTo : Bool → Option ℕ → Seen → Seen → Type 0
-IsCloseTo named touched old new = (named ≡ false → new.names ≡ old.names) × IfSome touched (λ slot. IsBehind slot old new)
+IsCloseTo set touched old new = (set ≡ false → HasSameSettings old new) × IfSome touched (λ slot. IsBehind slot old new)

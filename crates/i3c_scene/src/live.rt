@@ -10,7 +10,7 @@ ghost use Rattle.i3c_lines.specs.declared.refusals.Refusal.{Refusal as RefusalVa
 ghost use Rattle.i3c_script.specs.Stops.{Ends};
 ghost use Rattle.i3c_text.specs.declared.stop.Stop.{Stop as StopValue};
 ghost use Rattle.i3c_scene.specs.Going.{Assigns, sends, session_refusal};
-ghost use Rattle.i3c_scene.specs.Near.{names_some};
+ghost use Rattle.i3c_scene.specs.Near.{sets_some};
 ghost use Rattle.i3c_scene.specs.Scenes.{seen};
 ghost use Rattle.i3c_scene.specs.declared.named.Named.{Named as NamedValue};
 
@@ -101,7 +101,7 @@ impl Scene {
 impl Live {
     ghost use Rattle.std.specs.Prelude.{◌≡◌, ◌<◌, ◌≤◌, ◌+◌, ◌++◌, ◌^◌, ℕ, length, None, Ok, Err, IfOk, IfSome, IsTrue, MatchResult, OnOk, Option};
     ghost use Rattle.i3c_base.specs.Cutting.{no_cuts};
-    ghost use Rattle.i3c_scene.specs.Near.{IsBehind, RaisesIn};
+    ghost use Rattle.i3c_scene.specs.Near.{HasSameSettings, IsBehind, RaisesIn};
     ghost use Rattle.i3c_step.specs.declared.events.Event.{Event as EventValue};
     ghost use Rattle.i3c_lines.specs.Naming.{slot_named};
     ghost use Rattle.i3c_lines.specs.declared.command.Command.{Command as CommandValue};
@@ -115,14 +115,14 @@ impl Live {
     ghost use Rattle.i3c_scene.specs.Scenes.{seen};
     ghost use Rattle.i3c_scene.specs.Going.{Answers, AnswersIn, Assigns, Does, Enters, Excepts, Relieves, Sends, Sets, cut_in, risked, slot_present};
 
-    /// It comes to a scene. `named` says that it has the scene's names.
+    /// It comes to a scene. `is_set` says that it has the scene's settings and names.
     pub(crate) fn wake_to(
         &mut self,
         alloc: Global,
         scene: &Scene,
-        named: bool,
+        is_set: bool,
     ) -> Result<(), AllocError>
-        requires { IsTrue named → self.old.names ≡ scene.now.names }
+        requires { IsTrue is_set → HasSameSettings scene.now self.old }
         ensures { OnOk result (self.new ≡ scene.now) }
     {
         let rest = &*scene.rest;
@@ -132,12 +132,12 @@ impl Live {
         let Ok(()) = woken else {
             return Err(AllocError);
         };
-        self.settings = rest.settings.copied();
         copy_cuts(&mut self.cuts, &rest.cuts)?;
-        if !named {
-            self.known.copy_from(&rest.known)?;
+        if is_set {
+            return Ok(());
         }
-        Ok(())
+        self.settings = rest.settings.copied();
+        self.known.copy_from(&rest.known)
     }
 
     /// It comes back to a scene, from which it differs in one slot at most.
@@ -662,11 +662,19 @@ fn give_back(place: &mut Option<Hand>, hand: Hand)
     }
 }
 
-/// Whether a command may give a name to a device.
-pub(crate) fn names_some(command: &Option<Command>) -> bool
-    ensures { result ≡ names_some command.now }
+/// Whether a command may give a name, or set what frames accept or which records have left the log.
+pub(crate) fn sets_some(command: &Option<Command>) -> bool
+    ensures { result ≡ sets_some command.now }
 {
-    matches!(command, Some(Command::Attach { .. }))
+    matches!(
+        command,
+        Some(
+            Command::Attach { .. }
+                | Command::Policy(_)
+                | Command::PolicyBut { .. }
+                | Command::Forget(_)
+        )
+    )
 }
 
 /// Whether a command sends a frame that takes the cuts that wait.

@@ -26,7 +26,7 @@ impl Machine for Scene {
 
     ghost breaks = { LineBreaks };
 
-    ghost near = { λ runner scene. IsCloseTo runner.named runner.touched scene runner.live };
+    ghost near = { λ runner scene. IsCloseTo runner.set runner.touched scene runner.live };
 
     fn last_way(&self, line: &Line) -> usize {
         self.latest(line)

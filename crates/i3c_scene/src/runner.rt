@@ -1,5 +1,5 @@
 use crate::line::Line;
-use crate::live::{Live, names_some};
+use crate::live::{Live, sets_some};
 use crate::scene::Scene;
 use crate::ways::Ways;
 use i3c_base::Slot;
@@ -11,8 +11,8 @@ pub struct Runner {
     pub(crate) live: Live,
     // where the line that ran last changed one slot at most, this slot
     pub(crate) touched: Option<Slot>,
-    // whether the line that ran last may have given a name
-    pub(crate) named: bool,
+    // whether the line that ran last may have given a name, or set what frames accept or what has left the log
+    pub(crate) set: bool,
 }
 
 impl Runner {
@@ -28,19 +28,19 @@ impl Runner {
         Runner {
             live,
             touched: None,
-            named: true,
+            set: true,
         }
     }
 
     /// It comes to a scene: where the line that ran last began there too and changed one slot, by that slot alone, and where
-    /// that line gave no name, without the names.
+    /// that line set nothing, without settings and names.
     pub(crate) fn wake_to(
         &mut self,
         alloc: Global,
         scene: &Scene,
         again: bool,
     ) -> Result<(), AllocError>
-        requires { IsTrue again → IsCloseTo self.old.named self.old.touched scene.now self.old.live }
+        requires { IsTrue again → IsCloseTo self.old.set self.old.touched scene.now self.old.live }
         ensures { OnOk result (self.new.live ≡ scene.now) }
     {
         match self.touched {
@@ -48,19 +48,19 @@ impl Runner {
                 self.live.wake_at(scene, slot);
                 Ok(())
             }
-            _ => self.live.wake_to(alloc, scene, again && !self.named),
+            _ => self.live.wake_to(alloc, scene, again && !self.set),
         }
     }
 
     /// Tries a line in these ways of the devices at risk, from the scene that it is in: whether all that is expected holds.
-    #[tactic(auto, using(crate::proofs::Naming::run_names))]
+    #[tactic(auto, using(crate::proofs::Setting::run_same))]
     pub(crate) fn tried(&mut self, line: &Line, ways: Ways) -> Result<bool, AllocError>
         requires one { ways.one < 2 ^ 16 }
         requires other { ways.other < 2 ^ 16 }
         ensures tried { IfOk result (λ held. (before : BeforeValue) × RunsIn self.old.live line.now.command line.now.risk ways before self.new.live × (held ≡ all_hold self.new.live before line.now.expectations.items)) }
-        ensures near { OnOk result (IsCloseTo self.new.named self.new.touched self.old.live self.new.live) }
+        ensures near { OnOk result (IsCloseTo self.new.set self.new.touched self.old.live self.new.live) }
     {
-        self.named = names_some(&line.command);
+        self.set = sets_some(&line.command);
         match self.live.raise_in_line(line) {
             Some((slot, byte)) => {
                 self.touched = Some(slot);
