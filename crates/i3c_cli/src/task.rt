@@ -201,7 +201,7 @@ pub enum Task<'a> {
 }
 
 /// What the program does with a file.
-#[derive(Clone, Copy, Debug, PartialEq, Eq)]
+#[derive(Clone, Copy)]
 pub enum Work {
     /// Runs it as a script.
     Run,
@@ -222,7 +222,7 @@ pub enum Work {
 }
 
 /// How a trace is told.
-#[derive(Clone, Copy, Debug, PartialEq, Eq)]
+#[derive(Clone, Copy)]
 pub enum Telling {
     /// What it means.
     Plain,

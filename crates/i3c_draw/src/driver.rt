@@ -7,7 +7,7 @@ use i3c_frame::Symbol;
 const BROADCAST: u8 = 0x7E;
 
 /// The driver of SDA (I3C Basic 5.1.2).
-#[derive(Clone, Copy, Debug, PartialEq, Eq)]
+#[derive(Clone, Copy)]
 pub enum Driver {
     /// The active controller.
     Controller,

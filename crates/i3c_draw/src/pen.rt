@@ -20,7 +20,7 @@ const BAND: u64 = 58;
 const ANSWER: u64 = 8;
 
 /// Where the next symbol of a wire is drawn: its place in pixels, what was before it, and the level of the lines.
-#[derive(Clone, Copy, Debug, PartialEq, Eq)]
+#[derive(Clone, Copy)]
 pub struct Pen {
     pub x: u64,
     pub y: u64,

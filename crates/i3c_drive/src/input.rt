@@ -9,7 +9,7 @@ use std::io::Read;
 const PIECE: usize = 8192;
 
 /// The result of reading the next line.
-#[derive(Clone, Copy, Debug, PartialEq, Eq)]
+#[derive(Clone, Copy)]
 pub(crate) enum Next {
     /// It came with its line feed.
     Line,

@@ -29,7 +29,7 @@ const DATA: [Datum; 8] = [
 ];
 
 /// Which field of the object a printed line belongs to, if it tells no datum.
-#[derive(Clone, Copy, Debug, PartialEq, Eq)]
+#[derive(Clone, Copy)]
 pub(crate) enum Kind {
     /// The result of the frame's first request.
     Served,

@@ -11,7 +11,7 @@ const DECLINE: &[u8] = b"decline";
 const ALL: &[u8] = b"all";
 
 /// A place of a line behind its command, by what is expected there.
-#[derive(Clone, Copy, Debug, PartialEq, Eq)]
+#[derive(Clone, Copy)]
 pub enum Field {
     /// The name of a device or a legacy target.
     Name,

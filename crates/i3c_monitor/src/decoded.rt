@@ -9,7 +9,7 @@ use i3c_text::Stop;
 use thiserror::Error;
 
 /// A direct command: each target that it is for has a header of its own (I3C Basic 5.1.9.1).
-#[derive(Clone, Copy, Debug, PartialEq, Eq)]
+#[derive(Clone, Copy)]
 pub enum Direct {
     /// Enable events.
     Enec,
@@ -24,7 +24,7 @@ pub enum Direct {
 }
 
 /// Symbols of a trace that follow one another: how many come before them, and how many they are.
-#[derive(Clone, Copy, Debug, PartialEq, Eq)]
+#[derive(Clone, Copy)]
 pub struct Span {
     /// The number of symbols before it.
     pub before: usize,
@@ -48,7 +48,7 @@ impl Span {
 }
 
 /// What a trace has next. Bytes are as they are on the wire.
-#[derive(Clone, Copy, Debug, PartialEq, Eq)]
+#[derive(Clone, Copy)]
 pub enum Decoded {
     /// The frame of this number begins, counted from 1 (I3C Basic 5.1.2).
     FrameStart(usize),
@@ -184,7 +184,7 @@ fn dynamic_in(command: &Direct, address: Addr7) -> Option<Addr7>
 }
 
 /// Which rule a trace breaks. Symbols are counted from 1, over the whole trace.
-#[derive(Clone, Copy, Debug, PartialEq, Eq, Drop, Error)]
+#[derive(Clone, Copy, Debug, Drop, Error)]
 pub enum Fault {
     /// Another symbol than a word with a good T bit, where one is expected.
     #[error("symbol {0} is no word with a right T (docs/FORMATS.md, What `trace` prints)")]

@@ -10,7 +10,7 @@ use i3c_word::Word;
 use std::alloc::{AllocError, Global};
 
 /// The owner of an address, as far as a trace shows it.
-#[derive(Clone, Copy, Debug, PartialEq, Eq)]
+#[derive(Clone, Copy)]
 pub(crate) enum Owner {
     /// Nobody was given it.
     Nobody,
@@ -21,7 +21,7 @@ pub(crate) enum Owner {
 }
 
 /// What a trace shows of an address: its owner, and the symbol at which it didn't answer.
-#[derive(Clone, Copy, Debug, PartialEq, Eq)]
+#[derive(Clone, Copy)]
 pub(crate) struct Status {
     pub owner: Owner,
     pub silent: Option<usize>,

@@ -1,7 +1,7 @@
 use i3c_base::Addr7;
 
 /// Which rule a symbol of a trace breaks.
-#[derive(Clone, Copy, Debug, PartialEq, Eq)]
+#[derive(Clone, Copy)]
 pub enum Breach {
     /// Its header is to an address that nobody was given (I3C Basic 5.1.4).
     Nobody(Addr7),
@@ -23,7 +23,7 @@ pub enum Breach {
 
 /// A fault that a linter finds: in which frame, counted from 1; at which symbol, counted from 1 over the whole trace; and
 /// which rule the symbol breaks.
-#[derive(Clone, Copy, Debug, PartialEq, Eq)]
+#[derive(Clone, Copy)]
 pub struct LintFault {
     pub frame: usize,
     pub symbol: usize,

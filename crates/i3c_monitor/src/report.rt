@@ -2,7 +2,7 @@ use crate::decoded::Decoded;
 use crate::lint_fault::LintFault;
 
 /// What a linter has next.
-#[derive(Debug, Drop)]
+#[derive(Drop)]
 pub enum Report {
     /// This is decoded.
     Decoded(Decoded),

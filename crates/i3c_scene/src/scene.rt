@@ -37,7 +37,7 @@ impl Model for Scene {
 }
 
 /// Why a bus isn't begun.
-#[derive(Clone, Copy, Debug, PartialEq, Eq, Drop)]
+#[derive(Clone, Copy, Drop)]
 pub enum BeginFault {
     /// The main controller's device isn't capable of the controller role (I3C Basic 5.1.1.2.1).
     NotCapable,

@@ -7,7 +7,7 @@ use std::alloc::Global;
 use std::io::Read;
 
 /// How far a script was read.
-#[derive(Clone, Copy, PartialEq, Eq)]
+#[derive(Clone, Copy)]
 pub(crate) enum Reading {
     /// More of it may come.
     Open,

@@ -1,5 +1,5 @@
 /// The result of an exploration of a file.
-#[derive(Clone, Copy, Debug, PartialEq, Eq)]
+#[derive(Clone, Copy)]
 pub enum Answer {
     /// Every order of the part was tried, and none breaks an expectation.
     Holds,

@@ -22,7 +22,7 @@ pub struct Plan {
 }
 
 /// Why there is no plan of a file.
-#[derive(Clone, Copy, Debug, PartialEq, Eq)]
+#[derive(Clone, Copy)]
 pub enum PlanFault {
     /// There was no memory.
     Memory,

@@ -2,7 +2,7 @@ use i3c_text::Text;
 use std::alloc::AllocError;
 
 /// Why a file isn't explored. It is printed by this name.
-#[derive(Clone, Copy, Debug, PartialEq, Eq)]
+#[derive(Clone, Copy)]
 pub enum Reason {
     /// The line has no form, or is too long.
     BadLine,
@@ -44,7 +44,7 @@ impl Reason {
 }
 
 /// That a file isn't explored.
-#[derive(Clone, Copy, Debug, PartialEq, Eq)]
+#[derive(Clone, Copy)]
 pub struct Refusal {
     /// Why.
     pub reason: Reason,

@@ -17,7 +17,7 @@ const IDENTITY_BITS: u8 = 64;
 const OTHER_BITS: u8 = 9;
 
 /// What comes next inside a frame, if it is bits. A frame is an assignment behind ENTDAA.
-#[derive(Clone, Copy, Debug, PartialEq, Eq)]
+#[derive(Clone, Copy)]
 pub enum Awaited {
     /// A header, of an assignment or not.
     Header(bool),

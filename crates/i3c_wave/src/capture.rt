@@ -10,7 +10,7 @@ use i3c_base::Addresses;
 use i3c_frame::Symbol;
 
 /// One of the two lines of a bus.
-#[derive(Clone, Copy, Debug, PartialEq, Eq)]
+#[derive(Clone, Copy)]
 pub enum Line {
     /// The clock, SCL.
     Scl,
@@ -20,7 +20,7 @@ pub enum Line {
 
 /// A capture that is being read: its time in units of its timescale, the level of the lines, since when they have it, and
 /// what is heard and read of the levels before.
-#[derive(Clone, Copy, Debug, Drop)]
+#[derive(Clone, Copy, Drop)]
 pub(crate) struct Capture {
     time: u64,
     since: u64,

@@ -1,7 +1,7 @@
 use thiserror::Error;
 
 /// Why a capture isn't read to its end. Times are in units of the capture's own timescale, and lines are counted from 1.
-#[derive(Clone, Copy, Debug, PartialEq, Eq, Drop, Error)]
+#[derive(Clone, Copy, Debug, Drop, Error)]
 pub enum CaptureFault {
     /// There was no memory.
     #[error("out of memory")]

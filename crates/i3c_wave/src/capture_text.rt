@@ -12,7 +12,7 @@ use i3c_text::Text;
 const MOST_LETTERS: usize = 65_536;
 
 /// What is read of the whole words of a capture's text: what they say, the lines, and the number of the text's line.
-#[derive(Clone, Copy, Debug, Drop)]
+#[derive(Clone, Copy, Drop)]
 pub(crate) struct CaptureWords {
     dump: Dump,
     capture: Capture,

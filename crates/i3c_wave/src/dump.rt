@@ -12,7 +12,7 @@ use crate::dump_word::{
 const UNSCALED: u64 = 3;
 
 /// The place of a dump between two words.
-#[derive(Clone, Copy, Debug, PartialEq, Eq)]
+#[derive(Clone, Copy, PartialEq, Eq)]
 pub(crate) enum Place {
     /// Between commands.
     Between,
@@ -33,7 +33,7 @@ pub(crate) enum Place {
 }
 
 /// What a dump has said so far: its place, the codes of the two lines, and the setup time in its units.
-#[derive(Clone, Copy, Debug, Drop)]
+#[derive(Clone, Copy, Drop)]
 pub(crate) struct Dump {
     place: Place,
     scl: Option<Code>,
@@ -42,7 +42,7 @@ pub(crate) struct Dump {
 }
 
 /// What a word says.
-#[derive(Clone, Copy, Debug, PartialEq, Eq)]
+#[derive(Clone, Copy)]
 pub(crate) enum Item {
     /// Nothing of the two lines.
     Nothing,
@@ -55,7 +55,7 @@ pub(crate) enum Item {
 }
 
 /// A dump behind a word, and what the word says.
-#[derive(Clone, Copy, Debug, Drop)]
+#[derive(Clone, Copy, Drop)]
 pub(crate) struct DumpStep {
     pub dump: Dump,
     pub item: Item,

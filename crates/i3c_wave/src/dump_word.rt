@@ -25,7 +25,7 @@ const NINE: u64 = b'9' as u64;
 const NO_NUMBER: u64 = u64::MAX;
 
 /// What a dump calls a signal by: one to four characters, and zeros behind them.
-#[derive(Clone, Copy, Debug, PartialEq, Eq)]
+#[derive(Clone, Copy, PartialEq, Eq)]
 pub(crate) struct Code {
     first: u8,
     second: u8,
@@ -34,7 +34,7 @@ pub(crate) struct Code {
 }
 
 /// A word that begins a command.
-#[derive(Clone, Copy, Debug, PartialEq, Eq)]
+#[derive(Clone, Copy)]
 pub(crate) enum Command {
     /// `$end`: the command ends.
     End,
@@ -194,7 +194,7 @@ fn digit_more(number: u64, digit: u8) -> Option<u64>
 }
 
 /// The number of a timescale's units.
-#[derive(Clone, Copy, Debug, PartialEq, Eq)]
+#[derive(Clone, Copy, PartialEq, Eq)]
 pub(crate) enum Magnitude {
     One,
     Ten,
@@ -259,7 +259,7 @@ pub(crate) fn scaled(setup: u64, magnitude: Magnitude) -> u64
 }
 
 /// What a word between commands begins with.
-#[derive(Clone, Copy, Debug, PartialEq, Eq)]
+#[derive(Clone, Copy)]
 pub(crate) enum Lead {
     /// `$`: a command.
     Command,

@@ -4,7 +4,7 @@ ghost use Rattle.i3c_wave.specs.Edges.{bit_heard, condition};
 use crate::levels::Level;
 
 /// What a watcher of the lines hears.
-#[derive(Clone, Copy, Debug, PartialEq, Eq)]
+#[derive(Clone, Copy)]
 pub enum Mark {
     /// START or repeated START: SDA falls while SCL is high (I3C Basic 5.1.2).
     Start,
@@ -15,7 +15,7 @@ pub enum Mark {
 }
 
 /// A watcher of the lines' edges: the level of the lines, and the bit that SDA has kept since SCL rose, if it has.
-#[derive(Clone, Copy, Debug, Drop)]
+#[derive(Clone, Copy, Drop)]
 pub struct Edges {
     pub level: Level,
     pub bit: Option<bool>,

@@ -1,7 +1,7 @@
 use thiserror::Error;
 
 /// Why a dump ended early.
-#[derive(Clone, Copy, Debug, PartialEq, Eq, Drop, Error)]
+#[derive(Clone, Copy, Debug, Drop, Error)]
 pub enum WaveFault {
     /// There was no memory.
     #[error("out of memory")]

@@ -5,7 +5,7 @@ ghost use Rattle.i3c_wave.specs.Levels.{bits, bits_of, clocked, levels_of};
 use i3c_frame::Symbol;
 
 /// What the two lines are at between two changes: `true` is high (I3C Basic 5.1.2).
-#[derive(Clone, Copy, Debug, PartialEq, Eq)]
+#[derive(Clone, Copy)]
 pub struct Level {
     pub scl: bool,
     pub sda: bool,
@@ -59,7 +59,7 @@ static STOP: [Level; 3] = [
 ];
 
 /// The levels of a symbol, one after another.
-#[derive(Clone, Copy, Debug, Drop)]
+#[derive(Clone, Copy, Drop)]
 pub struct Levels {
     symbol: Symbol,
     /// How many of its levels have been given.

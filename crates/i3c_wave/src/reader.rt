@@ -7,7 +7,7 @@ use i3c_base::Addresses;
 use i3c_frame::Symbol;
 
 /// What one mark makes of the marks before it.
-#[derive(Clone, Copy, Debug)]
+#[derive(Clone, Copy)]
 pub enum Reading {
     /// A part of a symbol.
     Partial,
@@ -21,7 +21,7 @@ pub enum Reading {
 const HALF: u64 = 1 << 63;
 
 /// Reads symbols from what is heard of the lines.
-#[derive(Clone, Copy, Debug, Drop)]
+#[derive(Clone, Copy, Drop)]
 pub struct Reader {
     legacies: Addresses,
     /// The awaited symbol, if a frame is open.

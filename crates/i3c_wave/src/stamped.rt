@@ -7,7 +7,7 @@ use std::alloc::{AllocError, Global};
 
 /// A symbol of a capture, and the time of the level change that completes it, in units of the capture's timescale. A
 /// START is complete where SDA falls.
-#[derive(Clone, Copy, Debug, Drop)]
+#[derive(Clone, Copy, Drop)]
 pub struct Stamped {
     pub symbol: Symbol,
     pub time: u64,

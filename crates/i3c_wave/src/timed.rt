@@ -5,7 +5,7 @@ use i3c_text::Text;
 use std::alloc::AllocError;
 
 /// A place in a text of lines.
-#[derive(Clone, Copy, Debug, PartialEq, Eq)]
+#[derive(Clone, Copy)]
 pub enum LinePlace {
     /// A line begins here.
     Begin,

@@ -23,7 +23,7 @@ const LEGACY_LOW: u64 = 500;
 const LEGACY_HIGH: u64 = 500;
 
 /// How the bits of a symbol are timed (I3C Basic 6.2).
-#[derive(Clone, Copy, Debug, PartialEq, Eq)]
+#[derive(Clone, Copy)]
 pub enum Timing {
     /// One device drives SDA both ways.
     PushPull,

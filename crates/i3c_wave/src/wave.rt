@@ -37,7 +37,7 @@ r0 f
 ";
 
 /// A dump that is being written: the time in ns, the level of the lines, and the number of the frame.
-#[derive(Clone, Copy, Debug, Drop)]
+#[derive(Clone, Copy, Drop)]
 pub struct Wave {
     pub time: u64,
     pub level: Level,

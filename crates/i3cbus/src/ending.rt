@@ -6,7 +6,7 @@ use i3c_scenario::{ScriptFault, Tally};
 use i3c_tracks::Answer;
 
 /// How a run of the program ended.
-#[derive(Clone, Copy, Debug, PartialEq, Eq)]
+#[derive(Clone, Copy)]
 pub(crate) enum Ending {
     /// Lines were run, checked or told; the tally counts the refused ones, and the expectations not met.
     Ran(Tally),
