@@ -1,5 +1,5 @@
 /// How an answer is written.
-#[derive(Clone, Copy)]
+#[derive(Clone, Copy, Debug, PartialEq, Eq)]
 pub enum Form {
     /// As lines; the last is `ok` or `refused`.
     Lines,

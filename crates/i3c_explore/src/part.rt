@@ -4,7 +4,7 @@ use std::marker::Model;
 ///
 /// An order is in the part of the track of its first turn, in the first block in which two tracks have a line: the tracks
 /// are dealt out to the parts in turn. Where no block has two such tracks, the one order is in part 1.
-#[derive(Clone, Copy, PartialEq, Eq)]
+#[derive(Clone, Copy, Debug, PartialEq, Eq)]
 pub struct Part {
     // counted from 0
     index: usize,

@@ -2,7 +2,7 @@ use crate::limits::Limits;
 use crate::node::Node;
 
 /// How far an exploration is.
-#[derive(Clone, Copy, PartialEq, Eq)]
+#[derive(Clone, Copy, Debug, PartialEq, Eq)]
 pub struct Progress {
     /// The number of the line that is run now, of those of an order, counted from 1.
     pub line: usize,

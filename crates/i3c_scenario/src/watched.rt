@@ -16,7 +16,7 @@ use std::io::{Read, Write};
 const LINE_FEED: u8 = b'\n';
 
 /// What is shown of a script's lines beside what they print.
-#[derive(Clone, Copy)]
+#[derive(Clone, Copy, Debug, PartialEq, Eq)]
 pub struct Watching {
     /// Each printed line begins with the number of the script's line.
     pub numbers: bool,
