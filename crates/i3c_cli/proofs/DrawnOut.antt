@@ -6,7 +6,7 @@ use Rattle.i3c_draw.specs.declared.picture.Picture.{Picture}
 use Rattle.i3c_cli.specs.Drawings.{DrawsLine, DrawsRow, IsWritten}
 use Rattle.i3c_streams.specs.declared.faults.ScriptFault.{ScriptFault}
 use Rattle.i3c_streams.specs.Outcomes.{AppendsSome}
-use Rattle.i3c_scenario.proofs.Gathered.{nothing_out, some_after}
+use Rattle.i3c_runner.proofs.Gathered.{nothing_out, some_after}
 use Rattle.i3c_streams.proofs.WrittenOn.{some_out}
 use Rattle.i3c_streams.proofs.Written.{appends_both}
 

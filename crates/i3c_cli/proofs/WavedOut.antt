@@ -1,18 +1,18 @@
 -- What goes out of a script as a dump, line by line.
 use Rattle.std.proofs.Common.{◌≡◌, ◌∙◌, ℕ, List, [], ◌∷◌, ◌++◌, Option, IfSome, Result, Ok, Err, ap, append_assoc, append-nil, inl, inr, refl, subst, sym}
 use Rattle.std.specs.Io.KnownBytes.{Appends}
-use Rattle.i3c_scenario.specs.Expecting.{HasBegun}
+use Rattle.i3c_runner.specs.Expecting.{HasBegun}
 use Rattle.i3c_wave.specs.declared.wave.Wave.{Wave}
 use Rattle.i3c_wave.specs.Dump.{free_bus}
 use Rattle.i3c_wave.specs.Scripts.{script_preamble}
 use Rattle.i3c_streams.specs.declared.faults.ScriptFault.{ScriptFault}
 use Rattle.i3c_streams.specs.declared.tally.Tally.{Tally}
 use Rattle.i3c_streams.specs.Outcomes.{AppendsSome, Puts, PutsOrFails, output}
-use Rattle.i3c_scenario.specs.ScriptSteps.{Progress}
-use Rattle.i3c_scenario.specs.Viewed.{AreRun, AreSeen, Fails, Shown, ViewedGoes, Views, bytes_of}
-use Rattle.i3c_scenario.proofs.Gathered.{flush_all, flush_some, puts_both, puts_none, some_puts}
+use Rattle.i3c_runner.specs.ScriptSteps.{Progress}
+use Rattle.i3c_runner.specs.Viewed.{AreRun, AreSeen, Fails, Shown, ViewedGoes, Views, bytes_of}
+use Rattle.i3c_runner.proofs.Gathered.{flush_all, flush_some, puts_both, puts_none, some_puts}
 use Rattle.i3c_streams.proofs.WrittenOn.{front_out}
-use Rattle.i3c_scenario.proofs.ViewRuns.{bytes_more}
+use Rattle.i3c_runner.proofs.ViewRuns.{bytes_more}
 use Rattle.i3c_cli.specs.Wavings.{Dumping, FailsLine, GoesLast, IsWaved, WavesLine, WentOut, after_wire, dump_at, script_dump, seen_dump, shown_dump}
 
 -- the dump after lines, one after another

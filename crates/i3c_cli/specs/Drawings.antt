@@ -8,7 +8,7 @@ use Rattle.i3c_draw.specs.Rows.{pen_at}
 use Rattle.i3c_streams.specs.declared.faults.ScriptFault.{ScriptFault}
 use Rattle.i3c_streams.specs.declared.tally.Tally.{Tally}
 use Rattle.i3c_streams.specs.Outcomes.{AppendsSome}
-use Rattle.i3c_scenario.specs.Viewed.{ViewedGoes}
+use Rattle.i3c_runner.specs.Viewed.{ViewedGoes}
 use Rattle.i3c_cli.specs.declared.drawing.Drawing.{Drawing}
 
 -- a picture without rows: the first is below the legend

@@ -8,9 +8,9 @@ use Rattle.i3c_wave.specs.Scripts.{script_preamble, string_text}
 use Rattle.i3c_streams.specs.declared.faults.ScriptFault.{ScriptFault}
 use Rattle.i3c_streams.specs.declared.tally.Tally.{Tally}
 use Rattle.i3c_streams.specs.Outcomes.{AppendsSome, Output, Puts, PutsOrFails, output}
-use Rattle.i3c_scenario.specs.Expecting.{HasBegun}
-use Rattle.i3c_scenario.specs.ScriptSteps.{Progress}
-use Rattle.i3c_scenario.specs.Viewed.{AreRun, Shown, bytes_of}
+use Rattle.i3c_runner.specs.Expecting.{HasBegun}
+use Rattle.i3c_runner.specs.ScriptSteps.{Progress}
+use Rattle.i3c_runner.specs.Viewed.{AreRun, Shown, bytes_of}
 
 -- the dump after symbols, one after another
 abbrev pub after_wire : ℕ → Wave → List Symbol → Wave

@@ -4,7 +4,8 @@ ghost use Rattle.i3c_cli.specs.Drawings.{IsDrawn, IsWritten};
 
 use i3c_draw::Picture;
 use i3c_frame::Symbol;
-use i3c_scenario::{ScriptFault, Tally, Viewer, run_viewed, write_out};
+use i3c_runner::{Viewer, run_viewed};
+use i3c_streams::{ScriptFault, Tally, write_out};
 use i3c_text::Text;
 use std::alloc::{AllocError, Global};
 use std::io::{Read, Write};

@@ -3,7 +3,7 @@ ghost use Rattle.i3c_cli.specs.Endings.{ending, tally_status, wave_ending};
 
 use crate::fault::Fault;
 use i3c_frame::TraceFault;
-use i3c_scenario::{ScriptFault, Tally};
+use i3c_streams::{ScriptFault, Tally};
 use i3c_wave::WaveFault;
 
 /// The exit status if a script was run to its end, no line was refused, and each expectation was met; or if all holds in

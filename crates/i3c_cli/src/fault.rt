@@ -1,4 +1,4 @@
-use i3c_scenario::ScriptFault;
+use i3c_streams::ScriptFault;
 use i3c_wave::{CaptureFault, WaveFault};
 use std::alloc::AllocError;
 use thiserror::Error;

@@ -6,11 +6,10 @@ use crate::task::{Capturing, STANDARD_INPUT, Telling, Work};
 use crate::waving::wave_script;
 use i3c_base::Addresses;
 use i3c_drive::run_driven;
-use i3c_scenario::{
-    ScriptFault, Tally, WatchFault, Watching, check_script, run_explained, run_lint, run_script,
-    run_trace, run_watched, write_out,
-};
+use i3c_runner::{WatchFault, Watching, check_script, run_script, run_watched};
+use i3c_streams::{ScriptFault, Tally, write_out};
 use i3c_text::Text;
+use i3c_traces::{run_explained, run_lint, run_trace};
 use i3c_wave::{frame_times, push_timed, read_capture, run_wave, symbols_text};
 use std::alloc::Global;
 use std::io::{ErrorKind, Read, Write};

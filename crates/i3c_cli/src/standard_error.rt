@@ -1,4 +1,4 @@
-use i3c_scenario::Witness;
+use i3c_runner::Witness;
 use std::str;
 
 /// Standard error, on which the program explains the lines of a watched run.

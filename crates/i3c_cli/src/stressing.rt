@@ -1,7 +1,8 @@
 use crate::fault::Fault;
 use crate::task::Stress;
 use i3c_base::{Fixed, Slot, Verdict};
-use i3c_scenario::{Gate, MOST_DEVICES, MOST_POSTS, StressFault, StressReport, Tally, stress};
+use i3c_streams::Tally;
+use i3c_stress::{Gate, MOST_DEVICES, MOST_POSTS, StressFault, StressReport, stress};
 use std::io;
 use std::sync::Wait;
 use std::thread::Threads;

@@ -6,7 +6,8 @@ use clap::{Arg, ArgAction, ArgGroup, ArgMatches, Command, value_parser};
 use i3c_base::{Addr7, Addresses};
 use i3c_drive::Form;
 use i3c_explore::{Limits, Part};
-use i3c_scenario::{MOST_DEVICES, MOST_POSTS, Watching};
+use i3c_runner::Watching;
+use i3c_stress::{MOST_DEVICES, MOST_POSTS};
 use i3c_text::read_byte;
 use std::alloc::Global;
 

@@ -5,7 +5,8 @@ ghost use Rattle.i3c_cli.specs.Wavings.{GoesLast, IsWaved, after_wire, line_dump
 
 use i3c_base::Addresses;
 use i3c_frame::Symbol;
-use i3c_scenario::{ScriptFault, Tally, Viewer, run_viewed, write_out};
+use i3c_runner::{Viewer, run_viewed};
+use i3c_streams::{ScriptFault, Tally, write_out};
 use i3c_text::Text;
 use i3c_wave::{Wave, push_script_line, push_script_preamble, push_served};
 use std::alloc::{AllocError, Global};

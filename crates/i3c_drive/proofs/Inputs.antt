@@ -7,7 +7,7 @@ use Rattle.i3c_drive.specs.Inputs.{EndsFront, HasFront, IsInHand, Takes, pending
 use Rattle.i3c_lines.specs.Gathering.{gathered}
 use Rattle.i3c_streams.specs.Outcomes.{HasNoFeed}
 use Rattle.i3c_streams.proofs.BytesRead.{more_read, none_read}
-use Rattle.i3c_scenario.proofs.ScriptRuns.{first_line, no_feed_in_both, no_feed_in_none, take_both}
+use Rattle.i3c_runner.proofs.ScriptRuns.{first_line, no_feed_in_both, no_feed_in_none, take_both}
 
 -- what is left of a piece behind the first feed
 pub left_behind : (piece : List ℕ) (next end at : ℕ) → next ≤ end → end ≤ length piece

@@ -16,13 +16,13 @@ use Rattle.i3c_lines.specs.Gathering.{gathered}
 use Rattle.i3c_lines.specs.declared.refusals.Refusal.{Refusal}
 use Rattle.i3c_streams.specs.declared.faults.ScriptFault.{ScriptFault}
 use Rattle.i3c_streams.specs.Outcomes.{HasNoFeed}
-use Rattle.i3c_scenario.specs.Scripts.{Lead, LineDoes, LineRun, lines_bytes, lines_refused, refusals_of}
+use Rattle.i3c_runner.specs.Scripts.{Lead, LineDoes, LineRun, lines_bytes, lines_refused, refusals_of}
 use Rattle.i3c_script.specs.Obeying.{IsBegun, ScriptState}
 use Rattle.i3c_lines.proofs.CapitalLaws.{capitals_have_no_feed, capitals_length, long_capitals}
 use Rattle.i3c_streams.proofs.BytesRead.{ended_is, more_read, none_read, script_is, unread}
-use Rattle.i3c_scenario.proofs.CheckRuns.{some_out}
-use Rattle.i3c_scenario.proofs.Gathered.{nothing_out, some_after}
-use Rattle.i3c_scenario.proofs.ScriptRuns.{bytes_both, refused_both}
+use Rattle.i3c_runner.proofs.CheckRuns.{some_out}
+use Rattle.i3c_runner.proofs.Gathered.{nothing_out, some_after}
+use Rattle.i3c_runner.proofs.ScriptRuns.{bytes_both, refused_both}
 use Rattle.i3c_streams.proofs.Written.{appends_both}
 
 -- the line that one stands for has no line feed either

@@ -13,7 +13,7 @@ use Rattle.i3c_lines.specs.Refusing.{refusal_text}
 use Rattle.i3c_streams.specs.declared.faults.ScriptFault.{ScriptFault}
 use Rattle.i3c_streams.specs.declared.tally.Tally.{Tally}
 use Rattle.i3c_streams.specs.Outcomes.{AppendsSome, HasNoFeed}
-use Rattle.i3c_scenario.specs.Scripts.{Lead, LineDoes, LineRun, lines_bytes, lines_refused}
+use Rattle.i3c_runner.specs.Scripts.{Lead, LineDoes, LineRun, lines_bytes, lines_refused}
 use Rattle.i3c_script.specs.declared.stage.Stage.{Stage}
 use Rattle.i3c_script.specs.Obeying.{IsBegun, ScriptState}
 use Rattle.i3c_script.specs.Printed.{TellsAskers, numbered_text}

@@ -6,7 +6,7 @@ use Rattle.i3c_drive.specs.declared.form.Form.{Form}
 use Rattle.i3c_drive.specs.Answers.{AreAnswered, AreLinesOf, Asks, DrivenDoes, IsAnswered, IsNews, IsWritten, WentBefore, forgotten_of, log_of}
 use Rattle.i3c_lines.specs.declared.refusals.Refusal.{Refusal}
 use Rattle.i3c_streams.specs.declared.faults.ScriptFault.{ScriptFault}
-use Rattle.i3c_scenario.specs.Scripts.{LineRun, lines_bytes, lines_refused, refusals_of}
+use Rattle.i3c_runner.specs.Scripts.{LineRun, lines_bytes, lines_refused, refusals_of}
 use Rattle.i3c_script.specs.Obeying.{ScriptState, script}
 use Rattle.i3c_script.specs.Telling.{Prints}
 use Rattle.i3c_text.specs.declared.stop.Stop.{Stop}

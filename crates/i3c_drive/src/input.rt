@@ -1,7 +1,7 @@
 ghost use Rattle.std.specs.Prelude.{◌≤◌, ◌<◌, length};
 
 use i3c_lines::Line;
-use i3c_scenario::{ScriptFault, position_of_feed};
+use i3c_streams::{ScriptFault, position_of_feed};
 use std::alloc::{AllocError, Global};
 use std::io::Read;
 

@@ -1,34 +1,13 @@
-//! What a user runs: a script, and by `i3c_traces` and `i3c_stress` a trace that is told in lines, and devices that post
-//! from threads of their own.
-//!
-//! * `script` reads a script's lines, runs them and counts the refusals.
-//! * `expecting` prints whether expectations are met.
-//! * `lasting` tests those that last to the next `close`.
-//! * `check` tells which lines of a script have no form.
-//! * `watched` runs a script and shows more of it.
-//! * `reasons` says why a line was refused.
-//! * `viewed` shows each line to a viewer, with what it printed and the symbols that it sent.
-//! * `output` prints that a line is refused.
-//! * `laws` says that the lines of a script make a legal run.
+//! What a user runs: a script by `i3c_runner`, a trace that is told in lines by `i3c_traces`, and devices that post from
+//! threads of their own by `i3c_stress`. It passes their names on, and has nothing of its own.
 #![tactic(auto)]
 
-mod check;
-mod expecting;
-mod lasting;
-mod laws;
-mod output;
-mod reasons;
-mod script;
-mod viewed;
-mod watched;
-
-pub use check::check_script;
+pub use i3c_runner::{
+    Viewer, WatchFault, Watching, Witness, check_script, commands_are_legal_runs,
+    lines_are_legal_runs, run_script, run_viewed, run_watched, watched_lines_print_the_same,
+};
 pub use i3c_streams::{ScriptFault, ScriptLines, Tally, position_of_feed, write_out};
 pub use i3c_stress::{
     Gate, MOST_DEVICES, MOST_POSTS, StressFault, StressReport, Watch, stress, stress_watched,
 };
 pub use i3c_traces::{run_explained, run_lint, run_trace};
-pub use laws::{commands_are_legal_runs, lines_are_legal_runs, watched_lines_print_the_same};
-pub use script::run_script;
-pub use viewed::{Viewer, run_viewed};
-pub use watched::{WatchFault, Watching, Witness, run_watched};

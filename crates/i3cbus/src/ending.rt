@@ -2,7 +2,7 @@ ghost use Rattle.std.specs.Prelude.{◌≡◌};
 ghost use Rattle.i3cbus.specs.Endings.{exit_status, explore_ending, lines_ending};
 
 use i3c_cli::{BREAKS, DONE, FAULT, Fault, REFUSED, tally_status};
-use i3c_scenario::{ScriptFault, Tally};
+use i3c_streams::{ScriptFault, Tally};
 use i3c_tracks::Answer;
 
 /// How a run of the program ended.

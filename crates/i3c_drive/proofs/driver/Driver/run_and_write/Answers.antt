@@ -1,6 +1,6 @@
 use Rattle.std.proofs.Common.{subst}
 use Rattle.std.specs.Io.KnownBytes.{Appends}
-use Rattle.i3c_scenario.proofs.CheckRuns.{some_out}
+use Rattle.i3c_runner.proofs.CheckRuns.{some_out}
 use Rattle.i3c_streams.proofs.Written.{still_written}
 use Rattle.i3c_drive.proofs.driver.Driver.run_and_write.Goals as goal
 

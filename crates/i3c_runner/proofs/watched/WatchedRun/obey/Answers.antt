@@ -1,0 +1,31 @@
+use Rattle.std.proofs.Common.{◌≡◌, ◌≢◌, ◌∙◌, ◌+◌, ◌++◌, Err, ap, min, subst, sym}
+use Rattle.i3c_text.specs.declared.stop.Stop.{Stop}
+use Rattle.i3c_script.specs.Printed.{end_text}
+use Rattle.i3c_script.specs.Stops.{refusals}
+use Rattle.i3c_runner.specs.Scripts.{LineRuns}
+use Rattle.i3c_runner.specs.ScriptSteps.{noted, progress, state}
+use Rattle.i3c_runner.specs.Watched.{echoed, numbered_by}
+use Rattle.i3c_runner.proofs.ScriptRuns.{does_in, passes, refusal_in}
+use Rattle.i3c_runner.proofs.WatchRuns.{line_ran}
+use Rattle.i3c_runner.proofs.watched.WatchedRun.obey.Goals as goal
+
+pub returns-in-Ok-show-clause-ran : goal.returns-in-Ok-show-clause-ran
+returns-in-Ok-show-clause-ran c =
+    let old = c.args.self.now.script in
+    let obeyed = c.obey-outcome.new.self in
+    let outcome = c.obey-outcome.result in
+    let settled = c.settle.new.self in
+    let new = c.show.new.self.script in
+    let line = c.args.line.now in
+    let watching = c.args.self.now.watching in
+    let number = c.args.number in
+    let same = c.explain.ensures.script in
+    let alive : outcome ≢ Err Stop.Memory = λ short. passes c.settle.result _ c.in-Ok-settle.is (c.settle.ensures.memory short) in
+    let does = does_in (state old) line c.clear.new.self obeyed.text outcome (noted (state obeyed) outcome) c.obey-outcome.ensures.reads c.clear.ensures alive in
+    let stays : noted (state obeyed) outcome ≡ state new = ap (λ s. noted (state s) outcome) (sym same) ∙ sym c.settle.ensures.state ∙ ap (λ s. state s) (sym c.show.ensures.script) in
+    let text : settled.text ≡ obeyed.text ++ end_text outcome = c.in-Ok-settle.ensures.told ∙ ap (λ s. s.text ++ end_text outcome) same in
+    let shows = c.in-Ok-show.ensures.shown ∙ ap (λ w. numbered_by w number (echoed w line ++ settled.text)) c.explain.ensures.watching ∙ ap (λ t. numbered_by watching number (echoed watching line ++ t)) text in
+    let count : new.refused ≡ min (old.refused + refusals outcome) 18446744073709551615 =
+    ap (λ s. s.refused) c.show.ensures.script ∙ c.settle.ensures.counted ∙ ap (λ s. min (s.refused + refusals outcome) 18446744073709551615) same
+    ∙ ap (λ n. min (n + refusals outcome) 18446744073709551615) c.obey-outcome.ensures.refused in
+    line_ran watching number line obeyed.text c.show.new.self.shown outcome (progress old) (progress new) (subst (LineRuns (state old) line obeyed.text (refusal_in outcome)) stays does) shows count

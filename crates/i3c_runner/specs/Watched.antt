@@ -1,0 +1,145 @@
+-- What goes out of a script that is watched.
+use Rattle.std.specs.Prelude.{◌≡◌, ◌⊎◌, ℕ, ◌+◌, ◌==◌, Bool, true, false, List, [], ◌∷◌, ◌++◌, codes, min, Option, IfSome, Result, if◌then◌else◌, not, ◌||◌, MatchResult}
+use Rattle.std.specs.Fmt.{decimal}
+use Rattle.std.specs.Io.KnownBytes.{Appends}
+use Rattle.i3c_lines.specs.declared.refusals.Refusal.{Refusal}
+use Rattle.i3c_streams.specs.declared.tally.Tally.{Tally}
+use Rattle.i3c_runner.specs.declared.watched.Watching.{Watching}
+use Rattle.i3c_runner.specs.declared.watched.WatchFault.{WatchFault}
+use Rattle.i3c_runner.specs.Expecting.{HasBegun, IsBad, Standing}
+use Rattle.i3c_streams.specs.Outcomes.{AppendsSome}
+use Rattle.i3c_runner.specs.Scripts.{LineRun, LineRuns, LinesLead, lines_bytes, lines_out, lines_refused, refusals_of, run_text}
+use Rattle.i3c_runner.specs.ScriptSteps.{Progress}
+
+-- nothing more is shown than of any script
+abbrev pub is_plain : Watching → Bool
+is_plain watching = not (watching.numbers || (watching.echo || (watching.explain || watching.strict)))
+
+-- a text with this start in front of each of its lines; the second argument says whether a line begins here
+abbrev pub numbered : List ℕ → Bool → List ℕ → List ℕ
+numbered start begins [] = []
+numbered start true (byte ∷ text) = start ++ (byte ∷ numbered start (byte == 10) text)
+numbered start false (byte ∷ text) = byte ∷ numbered start (byte == 10) text
+
+-- a line as it goes out itself, unless it is empty
+abbrev pub echo_text : List ℕ → List ℕ
+echo_text [] = []
+echo_text (byte ∷ line) = codes "> " ++ ((byte ∷ line) ++ 10 ∷ [])
+
+-- a line, if lines go out themselves
+abbrev pub echoed : Watching → List ℕ → List ℕ
+echoed watching line = if watching.echo then echo_text line else []
+
+-- a text whose lines each begin with this number, if lines are numbered
+abbrev pub numbered_by : Watching → ℕ → List ℕ → List ℕ
+numbered_by watching number text = if watching.numbers then numbered (decimal number ++ codes ": ") true text else text
+
+-- what goes out of one line: itself, and what it prints, with its refusal
+abbrev pub shown : Watching → ℕ → LineRun → List ℕ
+shown watching number run = numbered_by watching number (echoed watching run.line ++ run_text run)
+
+-- what goes out of lines, counted from this number on
+abbrev pub shown_out : Watching → ℕ → List LineRun → List ℕ
+shown_out watching number [] = []
+shown_out watching number (run ∷ rest) = shown watching number run ++ shown_out watching (number + 1) rest
+
+-- a strict run has no line that a script may not have
+abbrev pub IsFormed : Watching → List ℕ → Type 0
+IsFormed watching line = watching.strict ≡ true → IsBad line → ⊥
+
+-- what ends a strict run at a line: it has no form, or there is no memory to say so
+abbrev pub EndsAt : Watching → List ℕ → WatchFault → Type 0
+EndsAt watching line (WatchFault.Script fault) = Unit {0}
+EndsAt watching line (WatchFault.NoForm reason) = IsBad line × (watching.strict ≡ true)
+
+-- the same of each of these lines
+abbrev pub AreFormed : Watching → List LineRun → Type 0
+AreFormed watching [] = Unit {0}
+AreFormed watching (run ∷ rest) = IsFormed watching run.line × AreFormed watching rest
+
+-- a line was run and shown
+pub record LineWatched (watching : Watching) (number : ℕ) (line : List ℕ) (old new : Option (List ℕ)) (from to : Progress) : Type 0 where
+  pub said : List ℕ
+  pub refused : Option Refusal
+  pub formed : IsFormed watching line
+  pub does : LineRuns from.state line said refused to.state
+  pub out : Appends old new (shown watching number (record { line = line; said = said; refused = refused }))
+  pub count : to.refused ≡ min (from.refused + refusals_of refused) 18446744073709551615
+
+-- a line was run, and this is to be shown of it
+pub record LineRan (watching : Watching) (number : ℕ) (line shows : List ℕ) (from to : Progress) : Type 0 where
+  pub said : List ℕ
+  pub refused : Option Refusal
+  pub does : LineRuns from.state line said refused to.state
+  pub text : shows ≡ shown watching number (record { line = line; said = said; refused = refused })
+  pub count : to.refused ≡ min (from.refused + refusals_of refused) 18446744073709551615
+
+-- a line was run, and a prefix of its output was written out
+pub record LineCut (watching : Watching) (number : ℕ) (line : List ℕ) (old new : Option (List ℕ)) (from : Progress) : Type 0 where
+  pub said : List ℕ
+  pub refused : Option Refusal
+  pub to : Standing
+  pub formed : IsFormed watching line
+  pub does : LineRuns from.state line said refused to
+  pub out : AppendsSome old new (shown watching number (record { line = line; said = said; refused = refused }))
+
+-- what ends the run at a line: a fault, before which a prefix of the line's output was written out, or nothing; or that the
+-- line has no form
+abbrev pub LineFails : Watching → ℕ → List ℕ → Option (List ℕ) → Option (List ℕ) → Progress → WatchFault → Type 0
+LineFails watching number line old new from (WatchFault.Script fault) = (new ≡ old) ⊎ LineCut watching number line old new from
+LineFails watching number line old new from (WatchFault.NoForm reason) = IsBad line × (watching.strict ≡ true) × (new ≡ old)
+
+-- the result of a line
+abbrev pub LineEndsWatched : Watching → ℕ → List ℕ → Option (List ℕ) → Option (List ℕ) → Progress → Progress → Result (Unit {0}) WatchFault → Type 0
+LineEndsWatched watching number line old new from to result =
+    MatchResult result (λ _. LineWatched watching number line old new from to) (LineFails watching number line old new from)
+
+-- lines were run from one state on, and shown
+pub record WatchedWhole (watching : Watching) (known old new : Option (List ℕ)) (from to : Progress) : Type 0 where
+  pub lines : List LineRun
+  pub run : LinesLead from.state lines to.state
+  pub formed : AreFormed watching lines
+  pub all : IfSome known (λ script. lines_bytes lines ≡ script ++ 10 ∷ [])
+  pub out : Appends old new (shown_out watching 1 lines)
+  pub count : min to.refused 18446744073709551615 ≡ min (from.refused + lines_refused lines) 18446744073709551615
+
+-- the first lines of a script were run, and then a fault ended the run: a prefix of their output was written out
+pub record WatchedPart (watching : Watching) (known old new : Option (List ℕ)) (from : Progress) : Type 0 where
+  pub lines : List LineRun
+  pub to : Standing
+  pub rest : List ℕ
+  pub run : LinesLead from.state lines to
+  pub formed : AreFormed watching lines
+  pub first : IfSome known (λ script. lines_bytes lines ++ rest ≡ script ++ 10 ∷ [])
+  pub out : AppendsSome old new (shown_out watching 1 lines)
+
+-- the lines before one without a form were run, and all that is shown of them went out
+pub record WatchedTo (watching : Watching) (known old new : Option (List ℕ)) (from : Progress) : Type 0 where
+  pub lines : List LineRun
+  pub to : Standing
+  pub line : List ℕ
+  pub rest : List ℕ
+  pub strict : watching.strict ≡ true
+  pub none : IsBad line
+  pub run : LinesLead from.state lines to
+  pub formed : AreFormed watching lines
+  pub first : IfSome known (λ script. lines_bytes lines ++ (line ++ 10 ∷ rest) ≡ script ++ 10 ∷ [])
+  pub out : Appends old new (shown_out watching 1 lines)
+
+-- what ends a run early
+abbrev pub WatchedEnds : Watching → Option (List ℕ) → Option (List ℕ) → Option (List ℕ) → Progress → WatchFault → Type 0
+WatchedEnds watching known old new from (WatchFault.Script fault) = WatchedPart watching known old new from
+WatchedEnds watching known old new from (WatchFault.NoForm reason) = WatchedTo watching known old new from
+
+-- the result of a run
+abbrev pub RunsWatched : Watching → Option (List ℕ) → Option (List ℕ) → Option (List ℕ) → Progress → Progress → Result (Unit {0}) WatchFault → Type 0
+RunsWatched watching known old new from to result = MatchResult result (λ _. WatchedWhole watching known old new from to) (WatchedEnds watching known old new from)
+
+-- the same from a script's start, with no line refused; the tally counts the refused ones, and the expectations that weren't met
+abbrev pub WatchedGoesOut : Watching → Option (List ℕ) → Option (List ℕ) → Option (List ℕ) → Result Tally WatchFault → Type 0
+WatchedGoesOut watching known old new result = (from : Progress) × HasBegun from.state × (from.refused ≡ 0)
+    × MatchResult result (λ tally. (to : Progress) × (to.refused ≡ tally.refused) × (to.state.unmet ≡ tally.unmet) × WatchedWhole watching known old new from to) (WatchedEnds watching known old new from)
+
+-- Without numbers and without the lines themselves, what goes out of lines is what they put out
+abbrev pub WatchedLinesPrintTheSame : Type 0
+WatchedLinesPrintTheSame = (watching : Watching) (number : ℕ) (lines : List LineRun) → watching.numbers ≡ false → watching.echo ≡ false → shown_out watching number lines ≡ lines_out lines

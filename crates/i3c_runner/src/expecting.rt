@@ -1,0 +1,49 @@
+ghost use Rattle.std.specs.Prelude.{◌≡◌, ◌++◌, ◌∷◌, [], codes, IfOk, MatchOption, OnOk};
+ghost use Rattle.i3c_lines.specs.Forms.{HasNoForm};
+ghost use Rattle.i3c_runner.specs.Expecting.{IsBad, IsMarked, unmet_line};
+
+use i3c_bus::Bus;
+use i3c_facts::{Before, Facts, read_mark};
+use i3c_lines::{FormFault, Names, form_fault};
+use i3c_text::Text;
+use std::alloc::{AllocError, Global};
+
+/// Why a script may not have a line, if it may not.
+pub(crate) fn line_fault(alloc: Global, line: &[u8]) -> Result<Option<FormFault<'_>>, AllocError>
+    ensures { IfOk result (λ fault. MatchOption fault (HasNoForm line.now → IsMarked line.now) (λ _. IsBad line.now)) }
+{
+    let Some(fault) = form_fault(line) else {
+        return Ok(None);
+    };
+    match read_mark(alloc, line) {
+        Ok(Some(_)) => Ok(None),
+        Ok(None) => Ok(Some(fault)),
+        Err(short) => Err(short),
+    }
+}
+
+/// Prints that an expectation is met.
+pub(crate) fn push_met(text: &mut Text) -> Result<(), AllocError>
+    ensures { OnOk result (text.new ≡ text.old ++ (codes "met" ++ 10 ∷ [])) }
+{
+    text.push(b"met")?;
+    text.end()
+}
+
+/// Prints that an expectation isn't met: the number of its line, and the first fact as it would hold.
+pub(crate) fn push_unmet(
+    bus: &Bus,
+    names: &Names,
+    before: &Before,
+    number: u64,
+    facts: &Facts,
+    text: &mut Text,
+) -> Result<(), AllocError>
+    ensures { OnOk result (text.new ≡ text.old ++ unmet_line bus.now.state names.now before.now number facts.now) }
+{
+    text.push(b"unmet ")?;
+    text.push_decimal(number)?;
+    text.push(b" ")?;
+    facts.push_unmet(bus, names, names, before, text)?;
+    text.end()
+}

@@ -1,5 +1,0 @@
-use Rattle.i3c_scenario.proofs.Reaching.{reached}
-use Rattle.i3c_scenario.proofs.laws.commands_are_legal_runs.Goals as goal
-
-pub returns : goal.returns
-returns c old lines new ran begun lead is = reached old lines new ran begun lead is
