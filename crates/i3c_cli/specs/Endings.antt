@@ -4,6 +4,7 @@ use Rattle.i3c_frame.specs.declared.traces.TraceFault.{TraceFault}
 use Rattle.i3c_streams.specs.declared.faults.ScriptFault.{ScriptFault}
 use Rattle.i3c_streams.specs.declared.tally.Tally.{Tally}
 use Rattle.i3c_stress.specs.declared.report.StressFault.{StressFault}
+use Rattle.i3c_task.specs.declared.words_fault.WordsFault.{WordsFault}
 use Rattle.i3c_wave.specs.declared.capture_fault.CaptureFault.{CaptureFault}
 use Rattle.i3c_wave.specs.declared.fault.WaveFault.{WaveFault}
 use Rattle.i3c_cli.specs.declared.fault.Fault.{Fault}
@@ -33,18 +34,10 @@ capture_told_as CaptureFault.Memory = Fault.Memory
 capture_told_as CaptureFault.Read = Fault.Read
 capture_told_as fault = Fault.Capture fault
 
--- a fault of the command line is want of memory, or told in the parser's own words
-abbrev pub IsOfWords : Fault → Type 0
-IsOfWords Fault.Memory = Unit {0}
-IsOfWords (Fault.Usage words) = Unit {0}
-IsOfWords Fault.Read = ⊥
-IsOfWords Fault.Write = ⊥
-IsOfWords Fault.TooLarge = ⊥
-IsOfWords Fault.NotBalanced = ⊥
-IsOfWords Fault.Legacy = ⊥
-IsOfWords Fault.Part = ⊥
-IsOfWords (Fault.Capture fault) = ⊥
-IsOfWords (Fault.NoForm reason) = ⊥
+-- the program's fault for a fault of the command line
+abbrev pub words_told_as : WordsFault → Fault
+words_told_as WordsFault.Memory = Fault.Memory
+words_told_as fault = Fault.Words fault
 
 -- a script's own fault comes first; output that isn't taken to its end is lost
 abbrev pub ending : Result Tally ScriptFault → Bool → Result Tally Fault

@@ -1,4 +1,3 @@
 pub mod Drawings
 pub mod Endings
 pub mod Wavings
-pub mod Words

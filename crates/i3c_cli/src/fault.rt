@@ -1,4 +1,5 @@
 use i3c_streams::ScriptFault;
+use i3c_task::WordsFault;
 use i3c_wave::{CaptureFault, WaveFault};
 use std::alloc::AllocError;
 use thiserror::Error;
@@ -6,9 +7,9 @@ use thiserror::Error;
 /// Why the program gives up, as standard error is told.
 #[derive(Debug, Drop, Error)]
 pub enum Fault {
-    /// The words of the command line mean nothing, or ask for help: the parser's own text, line feeds and all.
+    /// The words of the command line ask for nothing, and why.
     #[error("{0}")]
-    Usage(clap::Error),
+    Words(WordsFault),
     #[error("i3cbus: cannot read\n")]
     Read,
     #[error("i3cbus: write failed\n")]
@@ -19,10 +20,6 @@ pub enum Fault {
     Memory,
     #[error("i3cbus: not balanced\n")]
     NotBalanced,
-    #[error("i3cbus: --legacy takes an address of two capital hex digits, 08 to 77\n")]
-    Legacy,
-    #[error("i3cbus: --part takes K/N, two decimal numbers, K from 1 to N\n")]
-    Part,
     /// A capture isn't read to its end, and why.
     #[error("i3cbus: {0}\n")]
     Capture(CaptureFault),
@@ -89,16 +86,16 @@ impl From<AllocError> for Fault {
     }
 }
 
-// The parser's want of memory isn't told in its words.
-impl From<clap::Error> for Fault {
-    ghost use Rattle.i3c_cli.specs.Endings.{IsOfWords};
+impl From<WordsFault> for Fault {
+    ghost use Rattle.std.specs.Prelude.{◌≡◌};
+    ghost use Rattle.i3c_cli.specs.Endings.{words_told_as};
 
-    ghost from_gives = { λ _ fault. IsOfWords fault };
+    ghost from_gives = { λ fault told. told ≡ words_told_as fault };
 
-    fn from(error: clap::Error) -> Fault {
-        match error.kind() {
-            clap::error::ErrorKind::OutOfMemory => Fault::Memory,
-            _ => Fault::Usage(error),
+    fn from(fault: WordsFault) -> Fault {
+        match fault {
+            WordsFault::Memory => Fault::Memory,
+            fault => Fault::Words(fault),
         }
     }
 }

@@ -1,7 +1,6 @@
-//! The command line of `i3cbus`: what its words ask for, and each task but `explore`.
+//! The tasks of `i3cbus`'s command line, but for `explore`.
 //!
-//! `task` parses the words, and `run` does a task with a file or with standard input, by `drawing` and `waving` too;
-//! `standard_error` explains lines there. `stressing` lets devices post from threads, and `version` says which program it is.
+//! `run` does a task with a file or with standard input, by `drawing` and `waving` too; `standard_error` explains lines there. `stressing` lets devices post from threads, and `version` says which program it is.
 //! `ending` is what a task came to, and `fault` why the program gives up.
 #![tactic(auto)]
 
@@ -11,7 +10,6 @@ mod fault;
 mod run;
 mod standard_error;
 mod stressing;
-mod task;
 mod version;
 mod waving;
 
@@ -20,6 +18,5 @@ pub use ending::{BREAKS, DONE, FAULT, REFUSED, tally_status};
 pub use fault::Fault;
 pub use run::{reading_fault, run_capture, run_file};
 pub use stressing::run_stress;
-pub use task::{Capturing, STANDARD_INPUT, Stress, Task, Telling, Work, task_named};
 pub use version::print_version;
 pub use waving::wave_script;

@@ -1,11 +1,14 @@
 use crate::fault::Fault;
-use crate::task::Stress;
 use i3c_base::{Fixed, Slot, Verdict};
 use i3c_streams::Tally;
 use i3c_stress::{Gate, MOST_DEVICES, MOST_POSTS, StressFault, StressReport, stress};
+use i3c_task::Stress;
 use std::io;
 use std::sync::Wait;
 use std::thread::Threads;
+
+// the parser's limits are those of a stress run
+const _: () = prove!(i3c_task::MOST_DEVICES == MOST_DEVICES && i3c_task::MOST_POSTS == MOST_POSTS);
 
 /// A watcher is told once the device in slot 1 has made this many tries.
 const TOLD_EVERY: u64 = 10_000;

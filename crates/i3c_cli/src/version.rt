@@ -1,5 +1,5 @@
-use i3c_streams::Tally;
 use crate::fault::Fault;
+use i3c_streams::Tally;
 
 /// The version, as CHANGELOG.md calls it.
 const VERSION: &str = "0.1.0, not yet released";

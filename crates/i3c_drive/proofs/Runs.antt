@@ -5,7 +5,7 @@ use Rattle.std.proofs.lemmas.List.{length-take, take_all}
 use Rattle.std.proofs.lemmas.List.Elements.{All-tail}
 use Rattle.std.specs.Io.KnownBytes.{Appends, Consumes, IsAtEnd}
 use Rattle.i3c_drive.specs.declared.driver.Driver.{Driver}
-use Rattle.i3c_drive.specs.declared.form.Form.{Form}
+use Rattle.i3c_streams.specs.declared.form.Form.{Form}
 use Rattle.i3c_drive.specs.declared.input.Input.{Input}
 use Rattle.i3c_base.specs.declared.requests.Record.{Record}
 use Rattle.i3c_drive.specs.Answers.{AreAnswered, AreLinesOf, Asks, DrivenDoes, IsAnswered, IsChange, IsDrivenPart, IsDrivenRun, IsNews, IsWritten, LacksFeed, StandFor, StandsFor, WentBefore, forgotten_of, log_of}

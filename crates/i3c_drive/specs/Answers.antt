@@ -3,7 +3,7 @@ use Rattle.std.specs.Prelude.{◌≡◌, ◌≢◌, ◌⊎◌, ℕ, ◌+◌, suc
 use Rattle.std.specs.Fmt.{decimal}
 use Rattle.std.specs.Io.KnownBytes.{Appends}
 use Rattle.i3c_base.specs.declared.requests.Record.{Record}
-use Rattle.i3c_drive.specs.declared.form.Form.{Form}
+use Rattle.i3c_streams.specs.declared.form.Form.{Form}
 use Rattle.i3c_json.specs.Objects.{IsLineOf, answer_data}
 use Rattle.i3c_lines.specs.declared.names.Names.{Names}
 use Rattle.i3c_lines.specs.declared.refusals.Refusal.{Refusal}

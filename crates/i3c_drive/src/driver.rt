@@ -8,13 +8,12 @@ ghost use Rattle.i3c_script.specs.Obeying.{IsBegun};
 ghost use Rattle.i3c_script.specs.Printed.{numbered_text};
 ghost use Rattle.i3c_runner.specs.Scripts.{refusals_of};
 
-use crate::form::Form;
 use crate::input::{Input, Next};
 use i3c_base::Record;
 use i3c_json::{Answer, push_object};
 use i3c_lines::{Command, Names, Refusal, is_skipped, push_capitals};
 use i3c_script::{Stage, show_askers, show_records_behind, sum_of};
-use i3c_streams::{ScriptFault, Tally, write_out};
+use i3c_streams::{Form, ScriptFault, Tally, write_out};
 use i3c_text::{Stop, Text};
 use std::alloc::{AllocError, Global};
 use std::io::{Read, Write};

@@ -7,7 +7,7 @@ use Rattle.i3c_text.specs.declared.stop.Stop.{Stop}
 use Rattle.i3c_script.specs.Printed.{end_text}
 use Rattle.i3c_script.specs.Stops.{refusals}
 use Rattle.i3c_streams.specs.declared.script_lines.ScriptLines.{ScriptLines}
-use Rattle.i3c_runner.specs.declared.watched.Watching.{Watching}
+use Rattle.i3c_streams.specs.declared.watching.Watching.{Watching}
 use Rattle.i3c_runner.specs.declared.watched.WatchFault.{WatchFault}
 use Rattle.i3c_streams.specs.Lines.{GivesLine, IsGivenOut, IsReadFrom, given, line_in_hand}
 use Rattle.i3c_streams.specs.Outcomes.{AppendsSome}

@@ -1,19 +1,15 @@
 -- What goes out of a script that is watched.
-use Rattle.std.specs.Prelude.{◌≡◌, ◌⊎◌, ℕ, ◌+◌, ◌==◌, Bool, true, false, List, [], ◌∷◌, ◌++◌, codes, min, Option, IfSome, Result, if◌then◌else◌, not, ◌||◌, MatchResult}
+use Rattle.std.specs.Prelude.{◌≡◌, ◌⊎◌, ℕ, ◌+◌, ◌==◌, Bool, true, false, List, [], ◌∷◌, ◌++◌, codes, min, Option, IfSome, Result, if◌then◌else◌, MatchResult}
 use Rattle.std.specs.Fmt.{decimal}
 use Rattle.std.specs.Io.KnownBytes.{Appends}
 use Rattle.i3c_lines.specs.declared.refusals.Refusal.{Refusal}
 use Rattle.i3c_streams.specs.declared.tally.Tally.{Tally}
-use Rattle.i3c_runner.specs.declared.watched.Watching.{Watching}
+use Rattle.i3c_streams.specs.declared.watching.Watching.{Watching}
 use Rattle.i3c_runner.specs.declared.watched.WatchFault.{WatchFault}
 use Rattle.i3c_runner.specs.Expecting.{HasBegun, IsBad, Standing}
 use Rattle.i3c_streams.specs.Outcomes.{AppendsSome}
 use Rattle.i3c_runner.specs.Scripts.{LineRun, LineRuns, LinesLead, lines_bytes, lines_out, lines_refused, refusals_of, run_text}
 use Rattle.i3c_runner.specs.ScriptSteps.{Progress}
-
--- nothing more is shown than of any script
-abbrev pub is_plain : Watching → Bool
-is_plain watching = not (watching.numbers || (watching.echo || (watching.explain || watching.strict)))
 
 -- a text with this start in front of each of its lines; the second argument says whether a line begins here
 abbrev pub numbered : List ℕ → Bool → List ℕ → List ℕ

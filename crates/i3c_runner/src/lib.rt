@@ -22,7 +22,8 @@ mod viewed;
 mod watched;
 
 pub use check::check_script;
+pub use i3c_streams::Watching;
 pub use laws::{commands_are_legal_runs, lines_are_legal_runs, watched_lines_print_the_same};
 pub use script::run_script;
 pub use viewed::{Viewer, run_viewed};
-pub use watched::{WatchFault, Watching, Witness, run_watched};
+pub use watched::{WatchFault, Witness, run_watched};

@@ -1,10 +1,8 @@
 use crate::ending::{Ending, explore_ending, lines_ending, status_of};
 use crate::watcher::Watcher;
-use i3c_cli::{
-    Fault, STANDARD_INPUT, Task, print_version, reading_fault, run_capture, run_file, run_stress,
-    task_named,
-};
+use i3c_cli::{Fault, print_version, reading_fault, run_capture, run_file, run_stress};
 use i3c_explore::{Limits, Part};
+use i3c_task::{STANDARD_INPUT, Task, task_named};
 use i3c_tracks::run_explore;
 use std::io::{Read, Write};
 use std::rt::{Env, Files};

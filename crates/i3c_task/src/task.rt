@@ -1,13 +1,11 @@
 ghost use Rattle.std.specs.Prelude.{◌≡◌, ◌<◌, length, IsOkAnd};
-ghost use Rattle.i3c_cli.specs.Words.{RunsInput};
+ghost use Rattle.i3c_task.specs.Words.{RunsInput};
 
-use crate::fault::Fault;
+use crate::words_fault::WordsFault;
 use clap::{Arg, ArgAction, ArgGroup, ArgMatches, Command, value_parser};
 use i3c_base::{Addr7, Addresses};
-use i3c_drive::Form;
 use i3c_explore::{Limits, Part};
-use i3c_runner::Watching;
-use i3c_stress::{MOST_DEVICES, MOST_POSTS};
+use i3c_streams::{Form, Watching};
 use i3c_text::read_byte;
 use std::alloc::Global;
 
@@ -98,6 +96,11 @@ const STRESS: &str = "stress";
 const DEVICES: &str = "devices";
 
 const POSTS: &str = "posts";
+
+/// The most devices that may post, and the most posts of each. A stress run takes as many (`i3c_stress`).
+pub const MOST_DEVICES: u8 = 63;
+
+pub const MOST_POSTS: u32 = 100_000;
 
 /// The option of `stress` that prints the totals of the posts too.
 const TOTALS: &str = "totals";
@@ -255,7 +258,7 @@ pub struct Stress {
 }
 
 /// What the command line's words ask for, which come without the program's. No words at all mean `run -`.
-pub fn task_named<'a>(alloc: Global, words: &'a [String]) -> Result<Task<'a>, Fault>
+pub fn task_named<'a>(alloc: Global, words: &'a [String]) -> Result<Task<'a>, WordsFault>
     ensures none { length words.now ≡ 0 → IsOkAnd result RunsInput }
 {
     if words.is_empty() {
@@ -276,12 +279,12 @@ fn is_version(words: &[String]) -> bool {
 }
 
 /// The words, as the parser reads them.
-fn parsed<'a>(alloc: Global, words: &'a [String]) -> Result<ArgMatches<'a>, Fault> {
+fn parsed<'a>(alloc: Global, words: &'a [String]) -> Result<ArgMatches<'a>, WordsFault> {
     Ok(commands(alloc)?.try_get_matches_from(words)?)
 }
 
 /// The task that was given. The parser requires a command, and its arguments.
-fn task_given<'a>(matches: &ArgMatches<'a>) -> Result<Task<'a>, Fault> {
+fn task_given<'a>(matches: &ArgMatches<'a>) -> Result<Task<'a>, WordsFault> {
     if let Some(stress) = stress_given(matches) {
         return Ok(Task::Stress(stress));
     }
@@ -319,7 +322,7 @@ fn drive_given(matches: &ArgMatches<'_>) -> Work {
 }
 
 /// The trace or the capture that was given, and whether its faults are asked for.
-fn trace_given<'a>(matches: &ArgMatches<'a>) -> Result<Task<'a>, Fault> {
+fn trace_given<'a>(matches: &ArgMatches<'a>) -> Result<Task<'a>, WordsFault> {
     let file = matches.get_str(FILE).unwrap_or(STANDARD_INPUT);
     let legacies = legacies_given(matches.get_strs(LEGACY).unwrap_or(&[]))?;
     let telling = telling_given(matches, legacies);
@@ -350,7 +353,7 @@ fn telling_given(matches: &ArgMatches<'_>, legacies: Addresses) -> Telling {
 }
 
 /// The script, or the trace, that was given to be printed as a waveform.
-fn wave_given<'a>(matches: &ArgMatches<'a>) -> Result<Task<'a>, Fault> {
+fn wave_given<'a>(matches: &ArgMatches<'a>) -> Result<Task<'a>, WordsFault> {
     let file = matches.get_str(FILE).unwrap_or(STANDARD_INPUT);
     let legacies = legacies_given(matches.get_strs(LEGACY).unwrap_or(&[]))?;
     if matches.get_flag(FROM_TRACE) {
@@ -361,7 +364,7 @@ fn wave_given<'a>(matches: &ArgMatches<'a>) -> Result<Task<'a>, Fault> {
 }
 
 /// The file that was given to be explored, its limits, the part of its orders, and the number of jobs.
-fn explore_given<'a>(matches: &ArgMatches<'a>) -> Result<Task<'a>, Fault> {
+fn explore_given<'a>(matches: &ArgMatches<'a>) -> Result<Task<'a>, WordsFault> {
     let limits = Limits {
         steps: matches.get_one::<u64>(MOST).unwrap_or(MOST_STEPS),
         states: MOST_STATES,
@@ -376,18 +379,18 @@ fn explore_given<'a>(matches: &ArgMatches<'a>) -> Result<Task<'a>, Fault> {
 }
 
 /// The part that a text `K/N` names.
-fn part_of(text: &str) -> Result<Part, Fault> {
+fn part_of(text: &str) -> Result<Part, WordsFault> {
     let Some((number, of)) = text.split_once('/') else {
-        return Err(Fault::Part);
+        return Err(WordsFault::Part);
     };
     match (number.parse::<usize>(), of.parse::<usize>()) {
-        (Ok(number), Ok(of)) => Part::new(number, of).ok_or(Fault::Part),
-        _ => Err(Fault::Part),
+        (Ok(number), Ok(of)) => Part::new(number, of).ok_or(WordsFault::Part),
+        _ => Err(WordsFault::Part),
     }
 }
 
 /// The addresses of legacy targets that were given.
-fn legacies_given(texts: &[&str]) -> Result<Addresses, Fault> {
+fn legacies_given(texts: &[&str]) -> Result<Addresses, WordsFault> {
     let mut legacies = Addresses::new();
     for text in texts {
         legacies = legacies.with(legacy_address(text.as_bytes())?);
@@ -396,13 +399,13 @@ fn legacies_given(texts: &[&str]) -> Result<Addresses, Fault> {
 }
 
 /// The address of two hex digits, if a legacy target may have it.
-fn legacy_address(digits: &[u8]) -> Result<Addr7, Fault> {
+fn legacy_address(digits: &[u8]) -> Result<Addr7, WordsFault> {
     let [high, low] = digits else {
-        return Err(Fault::Legacy);
+        return Err(WordsFault::Legacy);
     };
     match read_byte(*high, *low) {
-        Some(number @ LEAST_LEGACY..=MOST_LEGACY) => Addr7::new(number).or(Err(Fault::Legacy)),
-        _ => Err(Fault::Legacy),
+        Some(number @ LEAST_LEGACY..=MOST_LEGACY) => Addr7::new(number).or(Err(WordsFault::Legacy)),
+        _ => Err(WordsFault::Legacy),
     }
 }
 
@@ -443,7 +446,7 @@ fn file_given<'a>(matches: &ArgMatches<'a>, command: &str) -> Option<&'a str> {
 }
 
 /// What the command line may ask for.
-fn commands<'a>(alloc: Global) -> Result<Command<'a>, Fault> {
+fn commands<'a>(alloc: Global) -> Result<Command<'a>, WordsFault> {
     let program = with(program(alloc)?, run_command(alloc))?;
     let program = with(program, drive_command(alloc))?;
     let program = with(program, check_command(alloc))?;
@@ -457,13 +460,13 @@ fn commands<'a>(alloc: Global) -> Result<Command<'a>, Fault> {
 /// The program with one more command, if that could be made.
 fn with<'a>(
     program: Command<'a>,
-    command: Result<Command<'a>, Fault>,
-) -> Result<Command<'a>, Fault> {
-    program.subcommand(command?).or(Err(Fault::Memory))
+    command: Result<Command<'a>, WordsFault>,
+) -> Result<Command<'a>, WordsFault> {
+    program.subcommand(command?).or(Err(WordsFault::Memory))
 }
 
 /// The program, without its commands.
-fn program<'a>(alloc: Global) -> Result<Command<'a>, Fault> {
+fn program<'a>(alloc: Global) -> Result<Command<'a>, WordsFault> {
     let program = Command::new(alloc, PROGRAM).bin_name(PROGRAM)?;
     Ok(
         program
@@ -475,7 +478,7 @@ fn program<'a>(alloc: Global) -> Result<Command<'a>, Fault> {
 }
 
 /// The command that runs a script.
-fn run_command<'a>(alloc: Global) -> Result<Command<'a>, Fault> {
+fn run_command<'a>(alloc: Global) -> Result<Command<'a>, WordsFault> {
     let run = Command::new(alloc, RUN)
         .about("Runs a script")
         .after_help(TEACHING);
@@ -496,7 +499,7 @@ fn run_command<'a>(alloc: Global) -> Result<Command<'a>, Fault> {
             EXPLAIN,
             "Tells on standard error why lines are refused",
         ))
-        .or(Err(Fault::Memory))
+        .or(Err(WordsFault::Memory))
 }
 
 /// An option without a value.
@@ -508,7 +511,7 @@ fn flag<'a>(alloc: Global, name: &'a str, help: &'a str) -> Arg<'a> {
 }
 
 /// The command that answers another program.
-fn drive_command<'a>(alloc: Global) -> Result<Command<'a>, Fault> {
+fn drive_command<'a>(alloc: Global) -> Result<Command<'a>, WordsFault> {
     let drive = Command::new(alloc, DRIVE)
         .about(
             "Answers the lines on standard input, each before it reads the next, for another program",
@@ -520,30 +523,30 @@ fn drive_command<'a>(alloc: Global) -> Result<Command<'a>, Fault> {
             JSON,
             "Answers each line with one JSON object on one line",
         ))
-        .or(Err(Fault::Memory))
+        .or(Err(WordsFault::Memory))
 }
 
 /// The command that checks a script.
-fn check_command<'a>(alloc: Global) -> Result<Command<'a>, Fault> {
+fn check_command<'a>(alloc: Global) -> Result<Command<'a>, WordsFault> {
     let check = Command::new(alloc, CHECK).about(
         "Tells the lines of a script that have no form, and the names that no line gives, and runs nothing",
     );
     check
         .arg(file_argument(alloc, "The script, or - for standard input"))
-        .or(Err(Fault::Memory))
+        .or(Err(WordsFault::Memory))
 }
 
 /// The command that prints a picture of a script.
-fn draw_command<'a>(alloc: Global) -> Result<Command<'a>, Fault> {
+fn draw_command<'a>(alloc: Global) -> Result<Command<'a>, WordsFault> {
     let draw = Command::new(alloc, DRAW)
         .about("Runs a script, and prints a picture of its wire, an SVG for a browser")
         .after_help(DRAWING);
     draw.arg(file_argument(alloc, "The script, or - for standard input"))
-        .or(Err(Fault::Memory))
+        .or(Err(WordsFault::Memory))
 }
 
 /// The command that tries every order.
-fn explore_command<'a>(alloc: Global) -> Result<Command<'a>, Fault> {
+fn explore_command<'a>(alloc: Global) -> Result<Command<'a>, WordsFault> {
     let explore = Command::new(alloc, EXPLORE)
         .about(
             "Tries every order of a file's tracks, and tells where they end, or one in which something doesn't hold",
@@ -554,7 +557,7 @@ fn explore_command<'a>(alloc: Global) -> Result<Command<'a>, Fault> {
         .arg(part_argument(alloc))?
         .arg(jobs_argument(alloc))?
         .arg(file_argument(alloc, "The file, or - for standard input"))
-        .or(Err(Fault::Memory))
+        .or(Err(WordsFault::Memory))
 }
 
 /// How many lines may be run.
@@ -583,7 +586,7 @@ fn jobs_argument<'a>(alloc: Global) -> Arg<'a> {
 }
 
 /// The command that reads a trace.
-fn trace_command<'a>(alloc: Global) -> Result<Command<'a>, Fault> {
+fn trace_command<'a>(alloc: Global) -> Result<Command<'a>, WordsFault> {
     let trace = Command::new(alloc, TRACE).about(
         "Tells what a trace says: symbols as the line 'symbols' of a script prints them",
     );
@@ -594,11 +597,11 @@ fn trace_command<'a>(alloc: Global) -> Result<Command<'a>, Fault> {
     with_capture(alloc, trace)?
         .group(ArgGroup::new(alloc, WITH_LEGACIES).multiple(true))?
         .arg(file_argument(alloc, "The trace, or - for standard input"))
-        .or(Err(Fault::Memory))
+        .or(Err(WordsFault::Memory))
 }
 
 /// The same command with the options of a capture.
-fn with_capture<'a>(alloc: Global, trace: Command<'a>) -> Result<Command<'a>, Fault> {
+fn with_capture<'a>(alloc: Global, trace: Command<'a>) -> Result<Command<'a>, WordsFault> {
     trace
         .arg(capture_argument(alloc).group(WITH_LEGACIES)?)?
         .arg(signal_argument(alloc, SCL, "The signal of SCL, scl without this").requires_arg(VCD)?)?
@@ -609,7 +612,7 @@ fn with_capture<'a>(alloc: Global, trace: Command<'a>) -> Result<Command<'a>, Fa
             "Ends the line of each frame with the time of its START",
         )
         .requires_arg(VCD)?)
-        .or(Err(Fault::Memory))
+        .or(Err(WordsFault::Memory))
 }
 
 /// Whether the file is a capture.
@@ -654,18 +657,18 @@ fn legacy_argument<'a>(alloc: Global) -> Arg<'a> {
 }
 
 /// The command that prints a waveform.
-fn wave_command<'a>(alloc: Global) -> Result<Command<'a>, Fault> {
+fn wave_command<'a>(alloc: Global) -> Result<Command<'a>, WordsFault> {
     let wave = Command::new(alloc, WAVE).about(
         "Runs a script, and prints SCL and SDA as a value change dump, for a waveform viewer",
     );
     wave.arg(flag(alloc, FROM_TRACE, "The file is a trace, and no script"))?
         .arg(legacy_argument(alloc))?
         .arg(file_argument(alloc, "The script, or the trace, or - for standard input"))
-        .or(Err(Fault::Memory))
+        .or(Err(WordsFault::Memory))
 }
 
 /// The command with threads.
-fn stress_command<'a>(alloc: Global) -> Result<Command<'a>, Fault> {
+fn stress_command<'a>(alloc: Global) -> Result<Command<'a>, WordsFault> {
     let stress = Command::new(alloc, STRESS).about(
         "Lets devices post from threads of their own, and checks that each post is accounted for",
     );
@@ -677,7 +680,7 @@ fn stress_command<'a>(alloc: Global) -> Result<Command<'a>, Fault> {
             TOTALS,
             "Prints what became of the posts: turned away, recorded, waiting",
         ))
-        .or(Err(Fault::Memory))
+        .or(Err(WordsFault::Memory))
 }
 
 /// How many devices post.
