@@ -1,6 +1,7 @@
 //! The tasks of `i3cbus`'s command line, but for `explore`.
 //!
-//! `run` does a task with a file or with standard input, by `drawing` and `waving` too; `standard_error` explains lines there. `stressing` lets devices post from threads, and `version` says which program it is.
+//! `run` does a task with a file or with standard input, by `drawing` and `waving` too; `standard_error` explains lines
+//! there. `stressing` lets devices post from threads, and `version` says which program it is.
 //! `ending` is what a task came to, and `fault` why the program gives up.
 #![tactic(auto)]
 
