@@ -1,12 +1,15 @@
 //! What the words of `i3cbus`'s command line ask for.
 //!
-//! `task` parses the words. `words_fault` is why they ask for nothing.
+//! `task` says what the words ask for. `verb` has what the program can be told, and its parser; `argument` are the arguments
+//! of a verb, and `help` longer texts of the help. `words_fault` is why words ask for nothing.
 #![tactic(auto)]
 
+mod argument;
+mod help;
 mod task;
+mod verb;
 mod words_fault;
 
-pub use task::{
-    Capturing, MOST_DEVICES, MOST_POSTS, STANDARD_INPUT, Stress, Task, Telling, Work, task_named,
-};
+pub use task::{Capturing, STANDARD_INPUT, Stress, Task, Telling, Work, task_named};
+pub use verb::{MOST_DEVICES, MOST_POSTS};
 pub use words_fault::WordsFault;
