@@ -11,3 +11,4 @@ pub mod Arguments
 pub mod PrintedLines
 pub mod PrintedForms
 pub mod CapitalLaws
+pub mod OtherCommands

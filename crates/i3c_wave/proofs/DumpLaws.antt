@@ -6,8 +6,8 @@ use Rattle.i3c_wave.specs.declared.timing.Timing.{Timing}
 use Rattle.i3c_wave.specs.declared.wave.Wave.{Wave}
 use Rattle.i3c_wave.specs.Dump.{after_symbol, level_text, levels_text, moved, symbol_dump, symbols_dump}
 
--- a symbol by its number begins what is left from there
-pub drop_item : (xs : List Symbol) (i : ℕ) (x : Symbol) → i < length xs → x ≡ get_or xs i x → drop i xs ≡ x ∷ drop (i + 1) xs
+-- an item by its number begins what is left from there
+pub drop_item : {A : Type 0} (xs : List A) (i : ℕ) (x : A) → i < length xs → x ≡ get_or xs i x → drop i xs ≡ x ∷ drop (i + 1) xs
 drop_item [] i x within is = absurd (omega arith)
 drop_item (y ∷ xs) zero x within is = ap (λ z. z ∷ xs) (sym is)
 drop_item (y ∷ xs) (suc i) x within is = let more : suc i + 1 ≡ suc (i + 1) = omega arith in rw more (drop_item xs i x (omega arith) is)

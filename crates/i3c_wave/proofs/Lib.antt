@@ -10,3 +10,4 @@ pub mod ReadBack
 pub mod CaptureLaws
 pub mod PartLaws
 pub mod NumberLaws
+pub mod WordLaws
