@@ -14,6 +14,7 @@ pub mod Fronts
 mod Moving
 pub mod Turns
 pub mod Splitting
+pub mod Stopping
 pub mod Opening
 pub mod Covering
 pub mod Blocks

@@ -3,12 +3,16 @@ use Rattle.std.specs.List.{Contains}
 use Rattle.i3c_explore.specs.Layers.{IsBreak}
 use Rattle.i3c_explore.specs.Parts.{Part, opening}
 use Rattle.i3c_explore.specs.Shares.{IsLed, IsSharedNext}
+use Rattle.i3c_explore.proofs.Stopping.{memory_breaks}
 use Rattle.i3c_explore.proofs.Lists.{get_below}
 use Rattle.i3c_explore.proofs.Expanding.{all_passed}
 use Rattle.i3c_explore.proofs.Shares.{shares_all}
-use Rattle.i3c_explore.proofs.Blocks.{ends_held, ends_reached, first_break, held_first, held_then, lead_on_first, lead_on_next, no_more, reached_first, reached_then, some_first, some_next}
+use Rattle.i3c_explore.proofs.Blocks.{AreHeld, AreReached, LeadOn, ends_held, ends_reached, first_break, held_first, held_then, lead_on_first, lead_on_next, no_more, reached_first, reached_then, some_first, some_next}
 use Rattle.i3c_explore.proofs.Ends.{IsCounted, counted_first, counted_next, ends_shared, next_shared}
 use Rattle.i3c_explore.proofs.block.explore_block.Goals as goal
+
+one_more : (count : ℕ) → suc count ≡ count + 1
+one_more count = omega arith
 
 pub loop-ran-init : goal.loop-ran-init
 loop-ran-init g c =
@@ -76,16 +80,19 @@ loop-ran-preserved g c =
     let held = held_then steps part tracks starts layer next count c.deref.result.now chosen c.deref.ensures.value c.only_if-opening.ensures was.reached (all_passed steps (opening c.only_if-opening.result tracks) (length tracks) c.deref.result.now next made.expanded) was.held in
     let reached = reached_then steps part tracks starts layer next count c.deref.result.now chosen c.deref.ensures.value c.only_if-opening.ensures was.reached made.from in
     let lead = lead_on_next steps part tracks starts next count was.lead_on held in
+    let same = one_more count in
     record {
-      lead_on = λ s at order le. lead s at order (omega arith);
-      held = λ s at order len. held s at order (omega arith);
-      reached = λ n at. let (s, in_starts, (r, len, fits)) = reached n at in (s, in_starts, (r, omega arith, fits));
+      lead_on = subst (λ (k : ℕ). LeadOn steps part tracks starts k) same lead;
+      held = subst (λ (k : ℕ). AreHeld steps part tracks starts k next) same held;
+      reached = subst (λ (k : ℕ). AreReached steps part tracks starts k next) same reached;
       counted = λ past shared.
           let before = was.counted past shared in
           let then_ = next_shared steps tracks (opening chosen tracks) (length tracks) layer next starts past c.deref.result.now c.deref.ensures.value before.share (shares_all steps tracks (opening chosen tracks) (length tracks) c.deref.result.now next made.counted) before.shared before.meant in
           let here = subst (λ (p : Part). IsSharedNext (IsLed steps tracks starts past) (opening p tracks) (length tracks) layer next before.share) c.only_if-opening.ensures then_ in
           let more : IsCounted steps part tracks starts past (suc count) next = counted_next steps part tracks starts past count layer next before here in
-          let same : suc count ≡ count + 1 = omega arith in
           subst (λ (k : ℕ). IsCounted steps part tracks starts past k next) same more;
       some = some_next steps part tracks starts next count held c.requires.begins (λ over. let is = c.is_over.ensures.1 over in cc);
     }
+
+pub returns-in_err-restart_all-clause-broken : goal.returns-in_err-restart_all-clause-broken
+returns-in_err-restart_all-clause-broken g c = memory_breaks _ c.from_residual.result c.from_residual.ensures.1

@@ -1,4 +1,4 @@
-use Rattle.std.proofs.Common.{◌≡◌, ◌∙◌, Some, arith, drop, length, subst, sym}
+use Rattle.std.proofs.Common.{◌≡◌, ◌∙◌, Some, ap, arith, drop, length, refl, subst, sym}
 use Rattle.std.specs.List.{slice_get}
 use Rattle.std.proofs.lemmas.List.{take_at}
 use Rattle.std.proofs.lemmas.Option.{slice_get_within}
@@ -24,3 +24,16 @@ returns-clause-restarted g c n k found =
     let within = slice_get_within xs k n here in
     let (old, at, again) = was.restarted k (omega arith) n here in
     (old, subst (λ l. slice_get l k ≡ Some old) c.deref_mut-node-items.ensures.value at, again)
+
+pub returns-clause-length : goal.returns-clause-length
+returns-clause-length g c =
+    let was = c.loop-node.invariant in let xs = c.loop-node.node-items in
+    let whole = take_at xs (drop (length xs) c.args.nodes.now.items) c.args.nodes.now.len (was.length ∙ c.deref_mut-node-items.ensures.len) in
+    ap length whole ∙ was.length ∙ ap length c.deref_mut-node-items.ensures.value
+
+pub loop-node-init : goal.loop-node-init
+loop-node-init g c = record {
+  length = refl;
+  restarted = λ k lt. absurd (omega arith);
+  left = λ k le. refl;
+}

@@ -1,5 +1,6 @@
 use borrow.Author.Count.{below_more}
-use Rattle.std.proofs.Common.{◌≡◌, ◌<◌, ◌∙◌, ℕ, ap, arith, inl, inr, length, subst, sym}
+use Rattle.std.proofs.Common.{◌≡◌, ◌<◌, ◌≤◌, ◌∙◌, ℕ, ap, arith, inl, inr, length, subst, sym}
+use Rattle.i3c_explore.proofs.Stopping.{memory_breaks}
 use Rattle.i3c_explore.proofs.Expanding.{like_successor, passed_here, passed_kept}
 use Rattle.i3c_explore.specs.Nexts.{IsNextOf}
 use Rattle.i3c_explore.specs.Owners.{own}
@@ -7,6 +8,9 @@ use Rattle.i3c_explore.specs.Parts.{opening}
 use Rattle.i3c_explore.proofs.Nexts.{next_none}
 use Rattle.i3c_explore.proofs.Shares.{shares_more}
 use Rattle.i3c_explore.proofs.expand.expand_turns.Goals as goal
+
+at_end : (a b : ℕ) → a ≤ b → b ≤ a → a ≡ b
+at_end a b ab ba = omega arith
 
 pub loop-index-init : goal.loop-index-init
 loop-index-init g c =
@@ -18,7 +22,7 @@ loop-index-preserved g c =
     let done = c.in-Ok.ensures in let was = c.loop-index.invariant in
     let steps = g.M.Machine.steps in let tracks = c.args.tracks.now in let lines = opening c.args.part tracks in let count = length tracks in let ran = own c.args.owners.now count c.args.job lines in let layer = c.args.layer.now in let index = c.loop-index.index in
     let old = c.loop-index.next.nodes.items in let new = c.expand.new.next.nodes.items in let node = c.index-layer-index.result in
-    let lt : index < length layer = omega arith in record {
+    let lt : index < length layer = c.loop-index-test.true in record {
       expanded = below_more _ _ (passed_kept steps ran count layer 0 index old new done.keeps was.expanded) (λ le. passed_here steps (ran index) count layer index node new c.index-layer-index.is done.expanded);
       from = λ n is. elim (done.from n is) [
         | inl (m, before, like) ↦ (let (o, at, made) = was.from m before in (o, at, like_successor steps lines o n m like made))
@@ -28,10 +32,19 @@ loop-index-preserved g c =
     }
 
 pub returns-in-Err-clause-broken : goal.returns-in-Err-clause-broken
-returns-in-Err-clause-broken g c order is = (c.index-layer-index.result, (c.loop-index.index, omega arith, sym c.index-layer-index.is), c.in-Err.ensures.broken order is)
+returns-in-Err-clause-broken g c order is = (c.index-layer-index.result, (c.loop-index.index, c.loop-index-test.true, sym c.index-layer-index.is), c.in-Err.ensures.broken order is)
 
 pub returns-clause-next : goal.returns-clause-next
 returns-clause-next g c =
     let tracks = c.args.tracks.now in let lines = opening c.args.part tracks in
-    let all : c.loop-index.index ≡ length c.args.layer.now = omega arith in
+    let all = at_end c.loop-index.index (length c.args.layer.now) c.loop-index.auto.index-end c.loop-index-test.false in
     subst (λ (k : ℕ). IsNextOf g.M.Machine.steps tracks lines (own c.args.owners.now (length tracks) c.args.job lines) c.args.layer.now 0 k c.loop-index.next.nodes.items) all c.loop-index.invariant
+
+pub expand-requires : goal.expand-requires
+expand-requires g c = record { sized = c.requires.sized c.index-layer-index.result (c.loop-index.index, c.loop-index-test.true, sym c.index-layer-index.is) }
+
+pub returns-in_err-make_room-clause-broken : goal.returns-in_err-make_room-clause-broken
+returns-in_err-make_room-clause-broken g c = memory_breaks _ c.from_residual.result c.from_residual.ensures.1
+
+pub returns-in_err-next-clause-broken : goal.returns-in_err-next-clause-broken
+returns-in_err-next-clause-broken g c = memory_breaks _ c.from_residual-in_err-next.result c.from_residual-in_err-next.ensures.1

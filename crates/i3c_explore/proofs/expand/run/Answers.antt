@@ -1,5 +1,7 @@
 use Rattle.std.proofs.Common.{inl, inr, subst, sym}
 use Rattle.i3c_explore.specs.Layers.{IsSuccessor, advanced}
+use Rattle.i3c_explore.specs.Stops.{IsShort}
+use Rattle.i3c_explore.proofs.Stopping.{memory_breaks}
 use Rattle.i3c_explore.proofs.Counting.{turn_added}
 use Rattle.i3c_explore.proofs.NextLines.{successor_of}
 use Rattle.i3c_explore.proofs.Putting.{behind_from, behind_put, has_moved, put_has, put_keeps}
@@ -40,3 +42,21 @@ returns-in-Ok-clause-counted g c =
     let step = subst (λ state. steps node.state c.args.line.now c.args.turn.way state) (sym put.state) (stepped g c) in
     turn_added steps c.args.tracks.now old new node put.made c.args.turn c.args.line.now
     c.requires.within c.requires.next step put.places put.orders (behind_put old new node c.args.turn end put)
+
+pub run-requires : goal.run-requires
+run-requires g c = record { again = c.requires.again }
+
+pub put-requires : goal.put-requires
+put-requires g c = record { within = c.requires.within; fits = c.requires.fits }
+
+pub returns-in_err-run-clause-broken : goal.returns-in_err-run-clause-broken
+returns-in_err-run-clause-broken g c = memory_breaks _ c.from_residual.result c.from_residual.ensures.1
+
+pub returns-in_err-order-clause-broken : goal.returns-in_err-order-clause-broken
+returns-in_err-order-clause-broken g c = memory_breaks _ c.from_residual-in_err-order.result c.from_residual-in_err-order.ensures.1
+
+pub returns-in-Ok-clause-near : goal.returns-in-Ok-clause-near
+returns-in-Ok-clause-near g c = c.in_ok-run.ensures.near
+
+pub returns-in-Err-clause-broken : goal.returns-in-Err-clause-broken
+returns-in-Err-clause-broken g c order is lines next = absurd (subst IsShort is c.in-Err.ensures.short)

@@ -1,5 +1,9 @@
 use borrow.Author.Count.{below_more}
-use Rattle.std.proofs.Common.{◌≡◌, ◌<◌, arith, length, subst, None, Some}
+use Rattle.std.proofs.Common.{◌≡◌, ◌<◌, ◌+◌, ℕ, [], Option, arith, length, subst, None, Some}
+use Rattle.std.specs.Global.{Vec}
+use Rattle.std.specs.List.{slice_get, slice_index}
+use Rattle.std.proofs.lemmas.Option.{slice_get_within}
+use Rattle.i3c_explore.specs.Orders.{lines_in}
 use Rattle.i3c_explore.specs.Shares.{IsLed}
 use Rattle.i3c_explore.proofs.Counting.{gains_line, gains_no_line, gains_way}
 use Rattle.i3c_explore.proofs.Sharing.{added_none}
@@ -62,3 +66,50 @@ returns-clause-counted g c =
     let here : c.args.track < length c.args.node.now.places.items = omega arith in
     gains_line g.M.Machine.steps c.args.tracks.now (opening c.args.part c.args.tracks.now) c.args.node.now c.args.next.now.nodes.items c.loop-way.next.nodes.items c.args.track c.loop-way.way c.in-Some.line.now
     (next_at (opening c.args.part c.args.tracks.now) c.args.node.now.places.items c.args.track c.index.result.now (Some c.in-Some.line.now) here c.index.ensures c.in-Some.ensures) (omega arith) c.loop-way.invariant.counted
+
+pub returns-clause-keeps : goal.returns-clause-keeps
+returns-clause-keeps g c = c.loop-way.invariant.keeps
+
+pub returns-clause-from : goal.returns-clause-from
+returns-clause-from g c = c.loop-way.invariant.from
+
+pub returns-clause-near : goal.returns-clause-near
+returns-clause-near g c = c.loop-way.invariant.near
+
+pub returns-in-Err-clause-broken : goal.returns-in-Err-clause-broken
+returns-in-Err-clause-broken g c order is =
+    let here : c.args.track < length c.args.node.now.places.items = omega arith in
+    c.in-Err.ensures.broken order is (opening c.args.part c.args.tracks.now)
+    (next_at (opening c.args.part c.args.tracks.now) c.args.node.now.places.items c.args.track c.index.result.now (Some c.in-Some.line.now) here c.index.ensures c.in-Some.ensures)
+
+pub returns-in_default-clause-keeps : goal.returns-in_default-clause-keeps
+returns-in_default-clause-keeps g c = λ places state has. has
+
+pub returns-in_default-clause-tracked : goal.returns-in_default-clause-tracked
+returns-in_default-clause-tracked g c line next =
+    let here : c.args.track < length c.args.node.now.places.items = omega arith in
+    let none = next_at (opening c.args.part c.args.tracks.now) c.args.node.now.places.items c.args.track c.index.result.now None here c.index.ensures c.in_default.ensures in absurd (cc)
+
+pub returns-in_default-clause-near : goal.returns-in_default-clause-near
+returns-in_default-clause-near g c = c.requires.again
+
+pub run-requires-clause-within : goal.run-requires-clause-within
+run-requires-clause-within g c = omega arith
+
+pub run-requires-clause-again : goal.run-requires-clause-again
+run-requires-clause-again g c = c.loop-way.invariant.near
+
+pub next_line-requires : goal.next_line-requires
+next_line-requires g c = c.requires.within
+
+-- behind the place of a line there is room for one more
+fits_behind : {L : Type 0} (track : Option (Vec L)) (place : ℕ) (line : L) → slice_get (lines_in track) place ≡ Some line → place + 1 < 18446744073709551616
+fits_behind None place line found = let within = slice_get_within [] place line found in absurd (omega arith)
+fits_behind (Some lines) place line found = let within = slice_get_within lines.items place line found in omega arith
+
+pub run-requires-clause-fits : goal.run-requires-clause-fits
+run-requires-clause-fits g c =
+    let here : c.args.track < length c.args.node.now.places.items = omega arith in
+    fits_behind (slice_get c.args.tracks.now c.args.track) (slice_index c.args.node.now.places.items c.args.track) c.in-Some.line.now
+    (opened c.args.part c.args.tracks.now c.args.node.now.places.items c.args.track c.in-Some.line.now
+    (next_at (opening c.args.part c.args.tracks.now) c.args.node.now.places.items c.args.track c.index.result.now (Some c.in-Some.line.now) here c.index.ensures c.in-Some.ensures)).1

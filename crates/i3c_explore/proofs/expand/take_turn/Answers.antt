@@ -27,3 +27,18 @@ returns-in-Ok-clause-counted g c =
     let more = subst (λ (v : VecValue (NodeValue g.row.M.Denot)). Gains steps tracks node v.items new (by_track lines node.places.items c.args.track)) c.turn_to.ensures c.in-Ok.ensures.counted in
     gains_as steps tracks lines (own owners (length tracks) c.args.job lines c.args.index) node c.args.next.now.nodes.items new c.args.track
     (sym (chosen (takes owners (length tracks) c.args.job c.args.index c.args.track) (lines c.args.track) is)) more
+
+pub run_track-requires : goal.run_track-requires
+run_track-requires g c = record { within = c.requires.within; sized = c.requires.sized; again = c.requires.again }
+
+pub returns-in-Ok-clause-near : goal.returns-in-Ok-clause-near
+returns-in-Ok-clause-near g c = c.in-Ok.ensures.near
+
+pub returns-in-Err-clause-broken : goal.returns-in-Err-clause-broken
+returns-in-Err-clause-broken g c = c.in-Err.ensures.broken
+
+pub returns-then-not-takes-clause-keeps : goal.returns-then-not-takes-clause-keeps
+returns-then-not-takes-clause-keeps g c = λ places state has. has
+
+pub returns-then-not-takes-clause-near : goal.returns-then-not-takes-clause-near
+returns-then-not-takes-clause-near g c = c.requires.again

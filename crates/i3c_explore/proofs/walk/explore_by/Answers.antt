@@ -1,4 +1,4 @@
-use Rattle.std.proofs.Common.{◌≡◌, ◌∙◌, ◌<◌, ◌+◌, ◌⊎◌, ℕ, suc, List, ap, arith, get_or, inl, inr, length, refl, subst, sym}
+use Rattle.std.proofs.Common.{◌≡◌, ◌∙◌, ◌<◌, ◌≤◌, ◌+◌, ◌⊎◌, ℕ, suc, List, ap, arith, get_or, inl, inr, length, refl, subst, sym}
 use Rattle.std.specs.Global.{Vec}
 use Rattle.std.proofs.lemmas.Bool.Decides.{eqb_tells}
 use Rattle.std.proofs.lemmas.Option.{slice_get_read}
@@ -8,11 +8,14 @@ use Rattle.i3c_explore.specs.Counts.{IsShared}
 use Rattle.i3c_explore.specs.Layers.{IsFirstBreak}
 use Rattle.i3c_explore.specs.Shares.{AreShared, all_below}
 use Rattle.i3c_explore.specs.Numbers.{IsNumber}
-use Rattle.i3c_explore.specs.Parts.{HasLine, Part, fork, whole}
+use Rattle.i3c_explore.specs.declared.turn.Turn.{Turn}
+use Rattle.i3c_explore.specs.Parts.{HasLine, IsOfPart, Part, fork, whole}
+use Rattle.i3c_explore.proofs.Stopping.{memory_breaks}
 use Rattle.i3c_explore.proofs.Courses.{CoursesLead, HoldCourses, ReachCourses, begun_within, hold_first, hold_next, lead_first, lead_next, leads_on_once, none_breaks, reach_first, reach_next, shortest_break}
 use Rattle.i3c_explore.proofs.Opening.{InPart, block_part}
 use Rattle.i3c_explore.proofs.Parting.{block_ready, none_counted}
 use Rattle.i3c_explore.proofs.Totals.{SharesCourses, all_counted, share_next, share_start}
+use Rattle.i3c_explore.proofs.walk.explore_by.Given.{Over}
 use Rattle.i3c_explore.proofs.walk.explore_by.Goals as goal
 
 pub returns-then-not-has_orders-clause-counted : goal.returns-then-not-has_orders-clause-counted
@@ -24,6 +27,15 @@ returns-then-not-has_orders-clause-counted g c =
     ] in
     none_counted g.M.Machine.steps c.args.part blocks c.args.start found.ends.items found.orders (sym c.fork-split.ensures ∙ none) (λ first. let has = c.has_orders.ensures.1 (λ e. first) in cc)
     (ap length c.nothing.ensures.ends) c.nothing.ensures.orders
+
+up_to : (a b c : ℕ) → a ≤ b → b ≤ c → a ≤ c
+up_to a b c ab bc = omega arith
+
+at_end : (a b : ℕ) → a ≤ b → b ≤ a → a ≡ b
+at_end a b ab ba = omega arith
+
+one_more : (count : ℕ) → suc count ≡ count + 1
+one_more count = omega arith
 
 -- the block that is read is the one of this number
 block_read : {L : Type 0} (blocks : List (Vec (Vec L))) (index : ℕ) (item : Vec (Vec L)) (tracks : List (Vec L)) → index < length blocks → item ≡ get_or blocks index item → tracks ≡ item.items → tracks ≡ block blocks index
@@ -70,7 +82,7 @@ loop-index-preserved g c =
     let layer = c.loop-index.layer.nodes.items in let ends = c.in-Ok.layer.nodes.items in let was = c.loop-index.invariant in let done = c.in-Ok.ensures in
     let here : tracks ≡ block blocks count = block_read blocks count c.index-blocks-index.result tracks c.loop-index-test.true c.index-blocks-index.is c.deref.ensures.value in
     let chosen = part_read part split c.fork-split.result count c.only_if-opening.result c.fork-split.ensures c.only_if-opening.ensures in
-    let next : suc count ≡ count + 1 = omega arith in record {
+    let next = one_more count in record {
       lead = subst (λ (k : ℕ). CoursesLead steps part split blocks start k) next
           (lead_next steps part split blocks start count layer tracks here was.lead was.held (λ s at order prefix fits. done.all s at order prefix (subst (λ (p : Part). InPart p order) (sym chosen) fits)));
       held = subst (λ (k : ℕ). HoldCourses steps part split blocks start k ends) next
@@ -84,7 +96,7 @@ loop-index-preserved g c =
     }
 
 pub returns-clause-all : goal.returns-clause-all
-returns-clause-all g c course begun (fits, _) = let e = begun_within c.args.blocks.now course begun in c.loop-index.invariant.lead course begun fits (omega arith)
+returns-clause-all g c course begun (fits, _) = let e = begun_within c.args.blocks.now course begun in c.loop-index.invariant.lead course begun fits (up_to (length course) (length c.args.blocks.now) c.loop-index.index e c.loop-index-test.false)
 
 pub returns-clause-unbroken : goal.returns-clause-unbroken
 returns-clause-unbroken g c determined exclusive course begun of_part broken =
@@ -92,22 +104,50 @@ returns-clause-unbroken g c determined exclusive course begun of_part broken =
     none_breaks g.M.Machine.steps g.M.Machine.breaks c.args.blocks.now c.args.start determined exclusive course end leads broken
 
 pub returns-clause-ends : goal.returns-clause-ends
-returns-clause-ends g c course (is, len) (fits, _) = c.loop-index.invariant.held course is fits (omega arith)
+returns-clause-ends g c course (is, len) (fits, _) = c.loop-index.invariant.held course is fits (len ∙ sym (at_end c.loop-index.index (length c.args.blocks.now) c.loop-index.auto.index-end c.loop-index-test.false))
 
 pub returns-clause-only : goal.returns-clause-only
 returns-clause-only g c determined course (is, len) (fits, _) end leads =
-    let (n, at, led) = c.loop-index.invariant.held course is fits (omega arith) in
+    let (n, at, led) = c.loop-index.invariant.held course is fits (len ∙ sym (at_end c.loop-index.index (length c.args.blocks.now) c.loop-index.auto.index-end c.loop-index-test.false)) in
     (n, at, leads_on_once g.M.Machine.steps c.args.blocks.now c.args.start determined course n.state end led leads)
 
 pub returns-clause-reached : goal.returns-clause-reached
 returns-clause-reached g c n at =
     let (course, is, fits, len, order, led) = c.loop-index.invariant.reached n at in
-    (course, (is, omega arith), (fits, λ none. c.has_orders.ensures.0 c.if-not-has_orders.false (c.fork-split.ensures ∙ none)), order, led)
+    (course, (is, len ∙ at_end c.loop-index.index (length c.args.blocks.now) c.loop-index.auto.index-end c.loop-index-test.false), (fits, λ none. c.has_orders.ensures.0 c.if-not-has_orders.false (c.fork-split.ensures ∙ none)), order, led)
 
 pub returns-clause-counted : goal.returns-clause-counted
 returns-clause-counted g c =
     let ends = c.loop-index.layer.nodes.items in
-    let all : c.loop-index.index ≡ length c.args.blocks.now = omega arith in
+    let all = at_end c.loop-index.index (length c.args.blocks.now) c.loop-index.auto.index-end c.loop-index-test.false in
     all_counted g.M.Machine.steps c.args.part c.args.blocks.now c.args.start c.loop-index.index ends c.total-orders.result all (λ none. c.has_orders.ensures.0 c.if-not-has_orders.false (c.fork-split.ensures ∙ none))
     (subst (λ (l : List (Node g.row.M.Denot)). (share : ℕ → List (List (List ℕ))) → IsShared l share → IsNumber c.total-orders.result (length (all_below share (length l)))) c.deref-2.ensures.value c.total-orders.ensures)
     c.loop-index.invariant.counted
+
+pub returns-in_err-layer-clause-broken : goal.returns-in_err-layer-clause-broken
+returns-in_err-layer-clause-broken g c = memory_breaks _ c.from_residual-in_err-layer.result c.from_residual-in_err-layer.ensures.1
+
+pub returns-in_err-runner-clause-broken : goal.returns-in_err-runner-clause-broken
+returns-in_err-runner-clause-broken g c = memory_breaks _ c.from_residual.result c.from_residual.ensures.1
+
+pub returns-clause-within : goal.returns-clause-within
+returns-clause-within g c = omega arith
+
+-- a part that has no order has no course
+never : (g : Over) (c : goal.After-drop-start g) (course : List (List Turn)) → IsOfPart c.args.part c.args.blocks.now course → ⊥
+never g c course (fits, only) = let has = c.has_orders.ensures.1 (λ e. only (sym c.fork-split.ensures ∙ e)) in cc
+
+pub returns-then-not-has_orders-clause-all : goal.returns-then-not-has_orders-clause-all
+returns-then-not-has_orders-clause-all g c course begun of_part = absurd (never g c course of_part)
+
+pub returns-then-not-has_orders-clause-unbroken : goal.returns-then-not-has_orders-clause-unbroken
+returns-then-not-has_orders-clause-unbroken g c determined exclusive course begun of_part broken = never g c course of_part
+
+pub returns-then-not-has_orders-clause-ends : goal.returns-then-not-has_orders-clause-ends
+returns-then-not-has_orders-clause-ends g c course is of_part = absurd (never g c course of_part)
+
+pub returns-then-not-has_orders-clause-only : goal.returns-then-not-has_orders-clause-only
+returns-then-not-has_orders-clause-only g c determined course is of_part end leads = absurd (never g c course of_part)
+
+pub returns-then-not-has_orders-clause-reached : goal.returns-then-not-has_orders-clause-reached
+returns-then-not-has_orders-clause-reached g c n (k, lt, _) = let none = ap length c.nothing.ensures.ends in absurd (omega arith)
