@@ -12,6 +12,10 @@
 #include <stddef.h>
 #include <stdint.h>
 
+#ifdef __cplusplus
+extern "C" {
+#endif
+
 enum {
     DASKREYF_SLOTS = 64,         /* places for devices, the main controller's counted */
     DASKREYF_LEGACIES = 16,      /* legacy I2C targets at most */
@@ -301,5 +305,9 @@ enum daskreyf_result daskreyf_forget(struct daskreyf *bus, uint64_t last);
 enum daskreyf_result daskreyf_show_all(struct daskreyf *bus);
 enum daskreyf_result daskreyf_symbols(struct daskreyf *bus);
 enum daskreyf_result daskreyf_frames(struct daskreyf *bus, uint16_t count);
+
+#ifdef __cplusplus
+}
+#endif
 
 #endif

@@ -160,6 +160,16 @@ class DeviceDetails:
 
 
 @dataclass(frozen=True)
+class Term:
+    """The records that were made while one device was the active controller."""
+
+    slot: int
+    first: int
+    """The number of the first of them, counted from the log's beginning, also if a `forget` took it."""
+    last: int
+
+
+@dataclass(frozen=True)
 class BusDetails:
     """All of the bus, as `show all` prints it."""
 
@@ -170,6 +180,8 @@ class BusDetails:
     """Whether no address has changed since the last `list`."""
     in_session: bool
     """Whether an assignment is open."""
+    terms: tuple[Term, ...] = ()
+    """The terms of active controllers in which interrupts were recorded, the oldest first."""
 
 
 @dataclass(frozen=True)
@@ -584,11 +596,16 @@ class Bus:
         self.line(f"forget {_place(last)}")
 
     def show_all(self) -> BusDetails:
-        """`show all`: the same, what each device is, may and wants, and whether the list is current and a session open."""
+        """`show all`: the same, what each device is, may and wants, whether the list is current and a session open, and which
+        records were made under which active controller."""
         lines = self.line("show all").lines
         state = _state(lines)
-        devices = lines[-2 - len(state.devices) : -2]
-        return BusDetails(state, tuple(map(_details, devices)), lines[-2] == "list current", lines[-1] == "session open")
+        end = next(index for index, line in enumerate(lines) if line in ("list current", "list stale"))
+        devices = lines[end - len(state.devices) : end]
+        listed, session, *terms = lines[end:]
+        return BusDetails(
+            state, tuple(map(_details, devices)), listed == "list current", session == "session open", tuple(map(_term, terms))
+        )
 
     def symbols(self) -> tuple[str, ...]:
         """`symbols`: the last symbols on the wire, 256 at most, as docs/FORMATS.md writes them."""
@@ -746,6 +763,12 @@ def _details(line: str) -> DeviceDetails:
     words = line.split()
     enabled = functools.reduce(operator.or_, map(_kind, words[9:-2]))
     return DeviceDetails(words[1], int(words[3], 16), int(words[5], 16), int(words[7], 16), enabled, _kind(words[-1]))
+
+
+def _term(line: str) -> Term:
+    """The records under one active controller, as a line of `show all` has them."""
+    words = line.split()
+    return Term(int(words[2]), int(words[4]), int(words[6]))
 
 
 def _kind(word: str) -> Kinds:

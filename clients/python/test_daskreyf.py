@@ -11,7 +11,7 @@ import unittest
 
 import daskreyf
 from daskreyf import Answer, Assigned, Bus, BusDetails, BusGone, BusState, Device, DeviceDetails, DeviceState, Kinds
-from daskreyf import LegacyTarget, Nobody, Policy, ReadLength, Record, Refused, Torn, TurnedDown
+from daskreyf import LegacyTarget, Nobody, Policy, ReadLength, Record, Refused, Term, Torn, TurnedDown
 
 PROGRAM = os.environ.get("I3CBUS", "i3cbus")
 
@@ -79,6 +79,24 @@ class LinesTest(unittest.TestCase):
         self.bus.send_list()
         self.bus.open_daa()
         self.assertEqual((self.bus.show_all().listed, self.bus.show_all().in_session), (True, True))
+
+    def test_the_records_of_each_active_controller(self) -> None:
+        with_hub(self.bus)
+        self.bus.attach("c", pid=0x020400000020, bcr=0x46, dcr=0xC1)
+        target = with_target(self.bus)
+        self.bus.daa()
+        for byte in (0x11, 0x12):
+            target.raise_interrupt(byte)
+            self.bus.serve()
+        self.assertEqual(self.bus.show_all().terms, (Term(0, 1, 2),))
+        self.bus.send_list()
+        self.bus.handover(0x0A)
+        target.raise_interrupt(0x13)
+        self.bus.serve()
+        details = self.bus.show_all()
+        self.assertEqual(details.terms, (Term(0, 1, 2), Term(1, 3, 3)))
+        self.assertEqual([it.name for it in details.devices], ["hub", "c", "t"])
+        self.assertEqual((details.listed, details.in_session), (False, False))
 
     def test_an_assignment_of_one_line(self) -> None:
         with_hub(self.bus)

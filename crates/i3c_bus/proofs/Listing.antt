@@ -1,5 +1,6 @@
 -- The list of a bus, written and read.
-use Rattle.std.proofs.Common.{cond, Option, None, Some, ◌≡◌, ℕ, ◌+◌, ◌*◌, if◌then◌else◌, count_by, is_some, ◌<◌, List, [], ◌∷◌, ◌++◌, length, take, get_or, map, option_map, refl, sym, ap, ◌∙◌, arith, subst}
+use Rattle.std.proofs.Common.{cond, Option, None, Some, IfSome, ◌≡◌, ◌≢◌, ◌⊎◌, inl, inr, true, nat_le, ℕ, ◌+◌, ◌*◌, if◌then◌else◌, count_by, is_some, ◌<◌, List, [], ◌∷◌, ◌++◌, length, take, get_or, map, option_map, refl, sym, ap, ◌∙◌, arith, subst}
+use Rattle.std.proofs.lemmas.Bool.{and_parts, leb-true}
 use Rattle.std.proofs.lemmas.List.Sums.{sum_by-cons}
 use Rattle.std.specs.List.{flat_map}
 use Rattle.std.proofs.lemmas.List.{flat_map_more, map-append, take_more}
@@ -14,12 +15,13 @@ use Rattle.i3c_base.specs.Covered.{IsCopy, IsTable, Table}
 use Rattle.i3c_base.specs.Cutting.{Lost}
 use Rattle.i3c_base.specs.Frames.{active_has, list_bits}
 use Rattle.i3c_base.specs.Serve.{Serves, drives, each_driver, without_front, without_join, without_role}
-use Rattle.i3c_base.specs.State.{Device, State, device_at, has_address, in_slot, unkept}
+use Rattle.i3c_base.specs.State.{Device, Entry as Given, State, device_at, entry_at, entry_in, has_address, in_slot, is_static, unkept}
 use Rattle.i3c_base.proofs.Lookups.{each_at}
 use Rattle.i3c_deftgts.specs.declared.entries.Entry.{Entry}
 use Rattle.i3c_deftgts.specs.Copies.{copy_of, table_of}
 use Rattle.i3c_deftgts.specs.Entries.{entries_of}
 use Rattle.i3c_deftgts.specs.Layout.{bytes_of, list_bytes, Carry}
+use Rattle.i3c_deftgts.specs.Reading.{AreTellable}
 use Rattle.i3c_deftgts.proofs.LayoutLaws.{carry_append}
 use Rattle.i3c_frame.specs.declared.symbols.Symbol.{Symbol}
 use Rattle.i3c_frame.specs.Taps.{Tells}
@@ -27,6 +29,7 @@ use Rattle.i3c_frame.proofs.TapLaws.{NotesAll-append}
 use Rattle.i3c_word.specs.Parity.{HasOddParity}
 use Rattle.i3c_word.specs.declared.Word.{Word}
 use Rattle.i3c_bus.specs.Wire.{AreWordsOf, IsListOf}
+use Rattle.i3c_step.specs.Sound.{Addresses}
 use Rattle.i3c_bus.proofs.Owning.{KeepsList, either_address, same_address}
 
 -- four words, one by one
@@ -63,6 +66,26 @@ bytes_more entries i entry l is =
 pub copy_written : (st : State) (table : Table) (list : List Entry) → IsTable st table → table_of list ≡ copy_of table → IsCopy st (table_of list)
 copy_written st table list covered copied =
     (ap (λ (t : Table). t.given) copied ∙ ap (map (option_map unkept)) covered.0, ap (λ (t : Table). t.legacy) copied ∙ covered.1)
+
+-- a static address that may be declared is neither 00 nor 7E
+static_told : (f x : ℕ) → is_static f ≡ true → (x < 0x08) ⊎ (0x77 < x) → f ≢ x
+static_told f x static out e =
+    let parts = and_parts (nat_le 0x08 f) (nat_le f 0x77) static in
+    let low = leb-true 0x08 f parts.0 in
+    let high = leb-true f 0x77 parts.1 in
+    elim out [ inl under ↦ omega (arith, low, under, e) | inr over ↦ omega (arith, high, over, e) ]
+
+-- an entry whose static address is declared has none that a list can't tell
+entry_told : (st : State) (x : ℕ) → Addresses st → (x < 0x08) ⊎ (0x77 < x) → (a : ℕ) (o : Option Given) → entry_at st a ≡ o → IfSome o (λ entry. entry.fixed ≢ Some x)
+entry_told st x inv out a None e = tt
+entry_told st x inv out a (Some entry) e = λ same. let there = inv.fixed a entry e x same in static_told x x (inv.static x there.0 there.1) out refl
+
+-- a list can tell the static addresses of a sound bus's table
+pub tellable : (st : State) (table : Table) (own : ℕ) → Addresses st → table.given ≡ st.given → AreTellable table own
+tellable st table own inv same = record {
+  each = λ a. entry_told st 0x00 inv (inl (omega arith)) a (entry_in table.given a) (ap (λ given. entry_in given a) (sym same));
+  first = entry_told st 0x7E inv (inr (omega arith)) own (entry_in table.given own) (ap (λ given. entry_in given own) (sym same));
+}
 
 -- serving leaves the table, and the active controller its address
 pub record KeepsTable (old new : State) : Type 0 where

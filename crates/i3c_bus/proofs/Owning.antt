@@ -36,6 +36,7 @@ copied_still old new list keeps copied listed =
         keeps.own copy.1.0 ∙ copy.1.1,
         copy.1.2 ∙ (λ t. entries_of (record { given = sym keeps.given t; legacy = sym keeps.legacy t; declared = old.declared; listed = sym keeps.listed t }) copy.1.0),
       ),
+      copy.2,
     )
 
 pub same_address : (a : ℕ) (f : Device → Device) (o : Option Device) → ((d : Device) → (f d).address ≡ d.address) → in_slot (has_address a) (option_map f o) ≡ in_slot (has_address a) o

@@ -1,6 +1,5 @@
 ghost use Rattle.std.specs.Prelude.{◌≡◌};
 ghost use Rattle.i3c_base.specs.State.{attached, fixed_of};
-ghost use Rattle.i3c_table.specs.Rows.{HasStatic};
 
 use crate::hand::Hand;
 use crate::raises::Raises;
@@ -372,8 +371,7 @@ impl Bus {
 
 /// A device that was just attached to a bus with these declared static addresses.
 fn device(setup: Setup, legacies: &Legacies) -> Device
-    ensures new { result ≡ attached (fixed_of legacies.now.declared setup.identity) setup }
-    ensures static_alone { HasStatic result.fixed }
+    ensures { result ≡ attached (fixed_of legacies.now.declared setup.identity) setup }
 {
     let identity = setup.identity;
     let fixed = legacies.fixed_of(&identity);

@@ -1,8 +1,9 @@
--- Common command codes and their bytes.
-use Rattle.std.specs.Prelude.{◌≡◌, ◌≢◌, ℕ}
+-- Common command codes, their bytes, and which of them are known by name.
+use Rattle.std.specs.Prelude.{ℕ, ◌==◌, ◌||◌, Bool, true, false, List, [], ◌∷◌, ◌++◌, if◌then◌else◌}
 use Rattle.i3c_base.specs.declared.datum.Datum.{Datum}
 use Rattle.i3c_base.specs.declared.datum.Direction.{Direction}
 use Rattle.i3c_ccc.specs.declared.codes.Code.{Code}
+use Rattle.i3c_ccc.specs.declared.codes.CodeSet.{CodeSet}
 use Rattle.i3c_ccc.specs.declared.codes.Code.TheVariants.{Enec, Disec, Rstdaa, Entdaa, Deftgts, SetLength, EnecDirect, DisecDirect, Setdasa, Setnewda, SetLengthDirect, Get, Getacccr, Other}
 
 -- the byte of the code that asks for a datum
@@ -35,29 +36,37 @@ byte_of_code (Get what) = byte_of_datum what
 byte_of_code Getacccr = 0x91
 byte_of_code (Other byte) = byte
 
--- a byte that is none of the codes known by name
-abbrev pub IsUnnamed : ℕ → Type 0
-IsUnnamed b =
-    (b ≢ 0x00) × (b ≢ 0x01) × (b ≢ 0x06) × (b ≢ 0x07) × (b ≢ 0x08) × (b ≢ 0x09) × (b ≢ 0x0A) × (b ≢ 0x80) × (b ≢ 0x81) × (b ≢ 0x87) × (b ≢ 0x88)
-    × (b ≢ 0x89) × (b ≢ 0x8A) × (b ≢ 0x8B) × (b ≢ 0x8C) × (b ≢ 0x8D) × (b ≢ 0x8E) × (b ≢ 0x8F) × (b ≢ 0x90) × (b ≢ 0x91) × (b ≢ 0x94) × (b ≢ 0x95)
+-- the table of codes, which a trace knows
+abbrev pub table : List Code
+table = Enec ∷ Disec ∷ Rstdaa ∷ Entdaa ∷ Deftgts ∷ EnecDirect ∷ DisecDirect ∷ Setdasa ∷ Setnewda ∷ Getacccr ∷ []
 
--- `Other` has only bytes without a name
-abbrev pub IsNamedWhereKnown : Code → Type 0
-IsNamedWhereKnown (Other byte) = IsUnnamed byte
-IsNamedWhereKnown Enec = Unit {0}
-IsNamedWhereKnown Disec = Unit {0}
-IsNamedWhereKnown Rstdaa = Unit {0}
-IsNamedWhereKnown Entdaa = Unit {0}
-IsNamedWhereKnown Deftgts = Unit {0}
-IsNamedWhereKnown (SetLength way) = Unit {0}
-IsNamedWhereKnown EnecDirect = Unit {0}
-IsNamedWhereKnown DisecDirect = Unit {0}
-IsNamedWhereKnown Setdasa = Unit {0}
-IsNamedWhereKnown Setnewda = Unit {0}
-IsNamedWhereKnown (SetLengthDirect way) = Unit {0}
-IsNamedWhereKnown (Get what) = Unit {0}
-IsNamedWhereKnown Getacccr = Unit {0}
+-- the codes that this engine knows beyond the table
+abbrev pub extension : List Code
+extension =
+    SetLength Direction.Write ∷ SetLength Direction.Read ∷ SetLengthDirect Direction.Write ∷ SetLengthDirect Direction.Read
+    ∷ Get Datum.WriteLength ∷ Get Datum.ReadLength ∷ Get Datum.Pid ∷ Get Datum.Bcr ∷ Get Datum.Dcr ∷ Get Datum.Status ∷ Get Datum.Speed
+    ∷ Get Datum.Capabilities ∷ []
 
--- this is the code of the byte
-abbrev pub IsCodeOf : ℕ → Code → Type 0
-IsCodeOf byte code = (byte_of_code code ≡ byte) × IsNamedWhereKnown code
+-- all codes that this engine knows
+abbrev pub extended : List Code
+extended = extension ++ table
+
+-- the codes of a set
+abbrev pub codes_of : CodeSet → List Code
+codes_of CodeSet.Table = table
+codes_of CodeSet.Extended = extended
+
+-- the code among these with this byte, or `Other` where none has it
+abbrev pub code_among : List Code → ℕ → Code
+code_among [] byte = Other byte
+code_among (code ∷ rest) byte = if byte == byte_of_code code then code else code_among rest byte
+
+-- one of these codes has this byte
+abbrev pub is_among : ℕ → List Code → Bool
+is_among byte [] = false
+is_among byte (code ∷ rest) = (byte == byte_of_code code) || is_among byte rest
+
+-- a code that isn't known by name
+abbrev pub is_other : Code → Bool
+is_other (Other byte) = true
+is_other code = false

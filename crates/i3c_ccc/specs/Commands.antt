@@ -5,7 +5,8 @@ use Rattle.i3c_word.specs.Parity.{bit_of}
 use Rattle.i3c_ccc.specs.declared.commands.CccFault.{CccFault}
 use Rattle.i3c_ccc.specs.declared.commands.CccFault.TheVariants.{Truncated, Parity}
 use Rattle.i3c_ccc.specs.declared.commands.Command.{Command}
-use Rattle.i3c_ccc.specs.Codes.{IsCodeOf}
+use Rattle.i3c_ccc.specs.declared.codes.Code.{Code}
+use Rattle.i3c_ccc.specs.Codes.{code_among}
 
 -- a byte of kinds follows this code word: broadcast ENEC and DISEC
 abbrev pub takes_kinds : ℕ → Bool
@@ -32,7 +33,7 @@ kinds_of [] = None
 kinds_of (code ∷ []) = None
 kinds_of (code ∷ kinds ∷ rest) = if takes_kinds code.byte then Some kinds.byte else None
 
--- the command that the words are: the first one's code, and the byte of kinds where it takes one
-abbrev pub IsCommandOf : List Word → Command → Type 0
-IsCommandOf [] command = ⊥
-IsCommandOf (word ∷ rest) command = IsCodeOf word.byte command.code × (command.kinds ≡ kinds_of (word ∷ rest))
+-- the command that the words are, where these codes are known by name: the first one's code, and the byte of kinds where it takes one
+abbrev pub IsCommandOf : List Code → List Word → Command → Type 0
+IsCommandOf codes [] command = ⊥
+IsCommandOf codes (word ∷ rest) command = (command.code ≡ code_among codes word.byte) × (command.kinds ≡ kinds_of (word ∷ rest))

@@ -1,5 +1,5 @@
-ghost use Rattle.std.specs.Prelude.{◌≡◌};
-ghost use Rattle.i3c_ccc.specs.Codes.{IsCodeOf, byte_of_code, byte_of_datum};
+ghost use Rattle.std.specs.Prelude.{◌≡◌, not};
+ghost use Rattle.i3c_ccc.specs.Codes.{byte_of_code, byte_of_datum, code_among, extended, is_among, is_other, table};
 
 use i3c_base::{Datum, Direction};
 
@@ -32,13 +32,39 @@ pub enum Code {
     Get(Datum),
     /// Get accept controller role: `91`.
     Getacccr,
-    /// A code that this engine doesn't use.
+    /// A code that isn't known by name.
     Other(u8),
 }
 
-/// The code of a byte: `Other` only where it is none of those known by name.
+/// Which codes are known by name. Each other code is `Code::Other`.
+#[derive(Clone, Copy, Debug, PartialEq, Eq)]
+pub enum CodeSet {
+    /// The table of codes, which a trace knows.
+    Table,
+    /// The table, and the codes that this engine knows beyond it (own).
+    Extended,
+}
+
+impl CodeSet {
+    ghost use Rattle.std.specs.Prelude.{◌≡◌};
+    ghost use Rattle.i3c_ccc.specs.Codes.{code_among, codes_of};
+
+    /// The code of a byte, where these codes are known by name.
+    pub fn code_of(self, byte: u8) -> Code
+        ensures { result ≡ code_among (codes_of self) byte }
+    {
+        match self {
+            CodeSet::Table => code_of(byte),
+            CodeSet::Extended => extended_code_of(byte),
+        }
+    }
+}
+
+/// The code of a byte by the table of codes: `Other` exactly where the table has none with this byte.
 pub fn code_of(byte: u8) -> Code
-    ensures { IsCodeOf byte result }
+    ensures code { result ≡ code_among table byte }
+    ensures byte { byte_of_code result ≡ byte }
+    ensures other { is_other result ≡ not (is_among byte table) }
 {
     match byte {
         0x00 => Code::Enec,
@@ -46,12 +72,24 @@ pub fn code_of(byte: u8) -> Code
         0x06 => Code::Rstdaa,
         0x07 => Code::Entdaa,
         0x08 => Code::Deftgts,
-        0x09 => Code::SetLength(Direction::Write),
-        0x0A => Code::SetLength(Direction::Read),
         0x80 => Code::EnecDirect,
         0x81 => Code::DisecDirect,
         0x87 => Code::Setdasa,
         0x88 => Code::Setnewda,
+        0x91 => Code::Getacccr,
+        other => Code::Other(other),
+    }
+}
+
+/// An extension of this engine (own): the code of a byte where SETMWL, SETMRL, GETPID and its like are known beside the table.
+pub fn extended_code_of(byte: u8) -> Code
+    ensures code { result ≡ code_among extended byte }
+    ensures byte { byte_of_code result ≡ byte }
+    ensures other { is_other result ≡ not (is_among byte extended) }
+{
+    match byte {
+        0x09 => Code::SetLength(Direction::Write),
+        0x0A => Code::SetLength(Direction::Read),
         0x89 => Code::SetLengthDirect(Direction::Write),
         0x8A => Code::SetLengthDirect(Direction::Read),
         0x8B => Code::Get(Datum::WriteLength),
@@ -60,10 +98,9 @@ pub fn code_of(byte: u8) -> Code
         0x8E => Code::Get(Datum::Bcr),
         0x8F => Code::Get(Datum::Dcr),
         0x90 => Code::Get(Datum::Status),
-        0x91 => Code::Getacccr,
         0x94 => Code::Get(Datum::Speed),
         0x95 => Code::Get(Datum::Capabilities),
-        other => Code::Other(other),
+        other => code_of(other),
     }
 }
 

@@ -1,8 +1,9 @@
 ghost use Rattle.std.specs.Prelude.{◌≡◌, Some, None, MatchResult, option_map, slice_get};
 ghost use Rattle.i3c_word.specs.declared.Word.{Word as WordValue};
+ghost use Rattle.i3c_ccc.specs.Codes.{codes_of, extended, table};
 ghost use Rattle.i3c_ccc.specs.Commands.{IsCommandOf, first_fault, wanted};
 
-use crate::codes::{Code, code_of};
+use crate::codes::{Code, CodeSet};
 use i3c_word::{Word, read_word};
 use thiserror::Error;
 
@@ -26,11 +27,29 @@ pub enum CccFault {
     Parity(usize),
 }
 
-/// Reads the words after one header as a command: the code, and for a broadcast ENEC or DISEC one word more
-/// (I3C Basic 5.1.9.3). Further words aren't looked at. The first word that lacks or has a wrong T bit is the fault.
+/// Reads the words after one header as a command, by the table of codes: the code, and for a broadcast ENEC or DISEC one word
+/// more (I3C Basic 5.1.9.3). Further words aren't looked at. The first word that lacks or has a wrong T bit is the fault.
 pub fn read_command(words: &[Word]) -> Result<Command, CccFault>
     ensures { MatchResult result
-        (λ command. (first_fault 1 (wanted words.now) words.now ≡ None) × IsCommandOf words.now command)
+        (λ command. (first_fault 1 (wanted words.now) words.now ≡ None) × IsCommandOf table words.now command)
+        (λ fault. first_fault 1 (wanted words.now) words.now ≡ Some fault) }
+{
+    command_in(CodeSet::Table, words)
+}
+
+/// An extension of this engine (own): the same with the codes of `extended_code_of`.
+pub fn read_extended_command(words: &[Word]) -> Result<Command, CccFault>
+    ensures { MatchResult result
+        (λ command. (first_fault 1 (wanted words.now) words.now ≡ None) × IsCommandOf extended words.now command)
+        (λ fault. first_fault 1 (wanted words.now) words.now ≡ Some fault) }
+{
+    command_in(CodeSet::Extended, words)
+}
+
+// The command that words are, where these codes are known by name.
+fn command_in(codes: CodeSet, words: &[Word]) -> Result<Command, CccFault>
+    ensures { MatchResult result
+        (λ command. (first_fault 1 (wanted words.now) words.now ≡ None) × IsCommandOf (codes_of codes) words.now command)
         (λ fault. first_fault 1 (wanted words.now) words.now ≡ Some fault) }
 {
     let [first, rest @ ..] = words else {
@@ -39,7 +58,7 @@ pub fn read_command(words: &[Word]) -> Result<Command, CccFault>
     let Ok(byte) = read_word(*first) else {
         return Err(CccFault::Parity(1));
     };
-    let code = code_of(byte);
+    let code = codes.code_of(byte);
     let kinds = match code {
         Code::Enec | Code::Disec => Some(read_kinds(rest)?),
         _ => None,

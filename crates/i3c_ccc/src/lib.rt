@@ -4,5 +4,5 @@
 mod codes;
 mod commands;
 
-pub use codes::{Code, byte_of, code_of};
-pub use commands::{CccFault, Command, read_command};
+pub use codes::{Code, CodeSet, byte_of, code_of, extended_code_of};
+pub use commands::{CccFault, Command, read_command, read_extended_command};

@@ -45,6 +45,12 @@ ending (Err fault) flushed = Err (told_as fault)
 ending (Ok tally) true = Ok tally
 ending (Ok tally) false = Err Fault.Write
 
+-- the same where the fault is the program's already
+abbrev pub flushed_ending : Result Tally Fault → Bool → Result Tally Fault
+flushed_ending (Err fault) flushed = Err fault
+flushed_ending (Ok tally) true = Ok tally
+flushed_ending (Ok tally) false = Err Fault.Write
+
 -- a waveform's own fault comes first; a trace with a fault is a refused line
 abbrev pub wave_ending : Result (Option TraceFault) WaveFault → Bool → Result Tally Fault
 wave_ending (Err fault) flushed = Err (wave_told_as fault)

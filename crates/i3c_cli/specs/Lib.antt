@@ -1,3 +1,4 @@
 pub mod Drawings
 pub mod Endings
+pub mod Tellings
 pub mod Wavings

@@ -1,5 +1,5 @@
 ghost use Rattle.std.specs.Prelude.{◌≡◌};
-ghost use Rattle.i3c_cli.specs.Endings.{ending, tally_status, wave_ending};
+ghost use Rattle.i3c_cli.specs.Endings.{ending, flushed_ending, tally_status, wave_ending};
 
 use crate::fault::Fault;
 use i3c_frame::TraceFault;
@@ -23,6 +23,18 @@ pub const BREAKS: u8 = 3;
 /// The tally of a run, or its fault: the fault of its script, or that its output wasn't taken whole.
 pub(crate) fn tally_of(outcome: Result<Tally, ScriptFault>, flushed: bool) -> Result<Tally, Fault>
     ensures { result ≡ ending outcome flushed }
+{
+    let tally = outcome?;
+    if flushed {
+        Ok(tally)
+    } else {
+        Err(Fault::Write)
+    }
+}
+
+/// The same of a run whose fault is the program's already.
+pub(crate) fn flushed_tally(outcome: Result<Tally, Fault>, flushed: bool) -> Result<Tally, Fault>
+    ensures { result ≡ flushed_ending outcome flushed }
 {
     let tally = outcome?;
     if flushed {

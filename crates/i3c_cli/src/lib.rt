@@ -1,7 +1,7 @@
 //! The tasks of `i3cbus`'s command line, but for `explore`.
 //!
-//! `run` does a task with a file or with standard input, by `drawing` and `waving` too; `standard_error` explains lines
-//! there. `stressing` lets devices post from threads, and `version` says which program it is.
+//! `run` does a task with a file or with standard input, by `telling`, `drawing` and `waving` too; `standard_error` explains
+//! lines there. `stressing` lets devices post from threads, and `version` says which program it is.
 //! `ending` is what a task came to, and `fault` why the program gives up.
 #![tactic(auto)]
 
@@ -11,6 +11,7 @@ mod fault;
 mod run;
 mod standard_error;
 mod stressing;
+mod telling;
 mod version;
 mod waving;
 
@@ -19,5 +20,6 @@ pub use ending::{BREAKS, DONE, FAULT, REFUSED, tally_status};
 pub use fault::Fault;
 pub use run::{reading_fault, run_capture, run_file};
 pub use stressing::run_stress;
+pub use telling::{tell_capture, tell_timed, tell_trace};
 pub use version::print_version;
 pub use waving::wave_script;

@@ -1,16 +1,15 @@
 use crate::drawing::draw_script;
-use crate::ending::{tally_of, wave_ending};
+use crate::ending::{flushed_tally, tally_of, wave_ending};
 use crate::fault::Fault;
 use crate::standard_error::StandardError;
+use crate::telling::{tell_capture, tell_trace};
 use crate::waving::wave_script;
 use i3c_base::Addresses;
 use i3c_drive::run_driven;
 use i3c_runner::{WatchFault, check_script, run_script, run_watched};
-use i3c_streams::{ScriptFault, Tally, Watching, write_out};
+use i3c_streams::{Tally, Watching};
 use i3c_task::{Capturing, STANDARD_INPUT, Telling, Work};
-use i3c_text::Text;
-use i3c_traces::{run_explained, run_lint, run_trace};
-use i3c_wave::{frame_times, push_timed, read_capture, run_wave, symbols_text};
+use i3c_wave::{Source, run_wave};
 use std::alloc::Global;
 use std::io::{ErrorKind, Read, Write};
 use std::rt::Files;
@@ -79,88 +78,54 @@ fn run_from<R: Print + Eprint + AllocGlobal, S: Read>(
     let outcome = match work {
         Work::Watch(watching) => return watch_from(rt, watching, input),
         Work::Wave(legacies) => return wave_from(rt, legacies, input),
+        Work::Tell(telling) => return trace_from(rt, telling, input),
         Work::Draw => return draw_from(rt, input),
         Work::WaveScript(legacies) => return wave_script_from(rt, legacies, input),
         Work::Run => run_script(rt.alloc(), input, &mut printed),
         Work::Drive(form) => run_driven(rt.alloc(), form, input, &mut printed),
         Work::Check => check_script(rt.alloc(), input, &mut printed),
-        Work::Tell(telling) => tell_from(rt, telling, input, &mut printed),
     };
     let flushed = printed.flush().is_ok();
     tally_of(outcome, flushed)
 }
 
-/// Tells the trace of a reader.
-fn tell_from<R: Eprint + AllocGlobal, S: Read, W: Write>(
+/// Tells the trace of a reader, and standard error why its lines are refused that are.
+#[inline(never)]
+fn trace_from<R: Print + Eprint + AllocGlobal, S: Read>(
     rt: &R,
     telling: Telling,
     input: &mut S,
-    printed: &mut W,
-) -> Result<Tally, ScriptFault> {
-    match telling {
-        Telling::Plain => run_trace(rt.alloc(), input, printed),
-        Telling::Lint(legacies) => run_lint(rt.alloc(), legacies, input, printed),
-        Telling::Explain(legacies) => explain_from(rt, legacies, input, printed),
-    }
-}
-
-/// Tells the trace of a reader, and standard error why its lines are refused that are.
-#[inline(never)]
-fn explain_from<R: Eprint + AllocGlobal, S: Read, W: Write>(
-    rt: &R,
-    legacies: Option<Addresses>,
-    input: &mut S,
-    printed: &mut W,
-) -> Result<Tally, ScriptFault> {
+) -> Result<Tally, Fault> {
+    let mut printed = io::writer(rt);
     let mut notes = String::new(rt.alloc());
-    let outcome = run_explained(rt.alloc(), legacies, input, printed, &mut notes);
+    let outcome = tell_trace(rt.alloc(), telling, input, &mut printed, &mut notes);
     // what can't be told isn't missed
     let _ = rt.eprint(notes);
-    outcome
+    let flushed = printed.flush().is_ok();
+    tally_of(outcome, flushed)
 }
 
-/// Tells the symbols of a reader's capture.
+/// Tells the symbols of a reader's capture, and standard error the same.
 fn capture_from<R: Print + Eprint + AllocGlobal, S: Read>(
     rt: &R,
     capturing: Capturing<'_>,
     telling: Telling,
     input: &mut S,
 ) -> Result<Tally, Fault> {
-    let scl = capturing.scl.as_bytes();
-    let sda = capturing.sda.as_bytes();
-    let symbols = read_capture(rt.alloc(), capturing.legacies, scl, sda, input)?;
-    let text = symbols_text(rt.alloc(), &symbols)?;
-    let mut trace = text.as_bytes();
-    if capturing.numbers {
-        let times = frame_times(rt.alloc(), &symbols)?;
-        return timed_from(rt, telling, &times, &mut trace);
-    }
-    run_from(rt, Work::Tell(telling), &mut trace)
-}
-
-/// Tells the trace of a reader, whose frames begin at these times. What is told is gathered, and goes out on a fault too.
-fn timed_from<R: Print + Eprint + AllocGlobal, S: Read>(
-    rt: &R,
-    telling: Telling,
-    times: &[u64],
-    input: &mut S,
-) -> Result<Tally, Fault> {
-    let mut told = Vec::new(rt.alloc());
-    let outcome = gathered_tally(tell_from(rt, telling, input, &mut told));
-    let mut text = Text::new(rt.alloc());
-    push_timed(times, &told, &mut text)?;
     let mut printed = io::writer(rt);
-    let written = write_out(text.as_bytes(), &mut printed).is_ok();
+    let mut notes = String::new(rt.alloc());
+    let outcome = tell_capture(
+        rt.alloc(),
+        capturing,
+        telling,
+        &mut Source::new(input),
+        &mut printed,
+        &mut notes,
+    );
+    // what can't be told isn't missed
+    let _ = rt.eprint(notes);
     let flushed = printed.flush().is_ok();
-    tally_of(outcome, written && flushed)
-}
-
-/// The result of lines whose output is gathered: it is lost only for want of memory.
-fn gathered_tally(outcome: Result<Tally, ScriptFault>) -> Result<Tally, ScriptFault> {
-    match outcome {
-        Err(ScriptFault::Write) => Err(ScriptFault::Memory),
-        outcome => outcome,
-    }
+    flushed_tally(outcome, flushed)
 }
 
 /// Prints the waveform of a reader's trace.
@@ -171,7 +136,7 @@ fn wave_from<R: Print + AllocGlobal, S: Read>(
     input: &mut S,
 ) -> Result<Tally, Fault> {
     let mut printed = io::writer(rt);
-    let outcome = run_wave(rt.alloc(), legacies, input, &mut printed);
+    let outcome = run_wave(rt.alloc(), legacies, &mut Source::new(input), &mut printed);
     let flushed = printed.flush().is_ok();
     wave_ending(outcome, flushed)
 }

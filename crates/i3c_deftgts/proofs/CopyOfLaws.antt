@@ -14,7 +14,7 @@ use Rattle.i3c_base.specs.State.{is_static}
 use Rattle.i3c_legacy.specs.Rows.{places, row_at}
 use Rattle.i3c_legacy.proofs.RowLaws.{length-places, places_at}
 use Rattle.i3c_table.specs.declared.row.Row.{Row}
-use Rattle.i3c_table.specs.Rows.{entries, entry_of_row, static_in, HasStatic}
+use Rattle.i3c_table.specs.Rows.{entries, entry_of_row}
 use Rattle.i3c_deftgts.specs.declared.entries.Entry.{Entry}
 use Rattle.i3c_base.specs.State.{is_usable}
 use Rattle.i3c_deftgts.specs.Copies.{copy_of, legacies_in, row_in, table_of, target_in}
@@ -90,11 +90,6 @@ is_usable-true a u =
 device_row : (a : ℕ) (g : Given) → IsUsable a → row_in (device_at a g) ≡ Some (row_of a g)
 device_row a g u = cond-true (is_usable a) (Some (row_of a g)) None (is_usable-true a u)
 
--- a static address that may be one stays
-static_same : (o : Option ℕ) → HasStatic o → static_in o ≡ o
-static_same None h = refl
-static_same (Some f) h = cond-true (is_static f) (Some f) None h
-
 -- a fact of all elements holds where one place was emptied
 pub still : {A : Type 0} (P : A → Type 0) (xs : List (Option A)) (own a : ℕ) → IfSome (get_or xs a None) P → IfSome (get_or (set xs own None) a None) P
 still P xs own a h = elim (cases_eq a own) [
@@ -111,7 +106,7 @@ if_stands P None Q h k = tt
 if_stands P (Some x) Q h k = k x (h refl)
 
 module _ (table : Table) (own : ℕ) (g : Given) (here : entry_in table.given own ≡ Some g) (usable : (a : ℕ) → IfSome (entry_in table.given a) (λ _. IsUsable a)) (apart : (a : ℕ) → IfSome (entry_in table.given a) (λ _. IsFree table.legacy a))
-    (static : (a : ℕ) → IfSome (get_or table.legacy a None) (λ _. IsTrue (is_static a))) (fixed : (a : ℕ) → IfSome (entry_in table.given a) (λ given. HasStatic given.fixed)) where
+    (static : (a : ℕ) → IfSome (get_or table.legacy a None) (λ _. IsTrue (is_static a))) where
   abbrev others : List Entry
   others = upwards device_at 0 (set table.given own None)
 
@@ -132,21 +127,21 @@ module _ (table : Table) (own : ℕ) (g : Given) (here : entry_in table.given ow
       ap (λ o. cons_option o (filter_map row_in (others ++ targets))) (device_row own g own_usable)
       ∙ ap (λ rows. row_of own g ∷ rows) (filter_map-append row_in others targets ∙ (ap (λ rows. filter_map row_in others ++ rows) (none_picked legacy_at row_in (λ n x. refl) table.legacy 0) ∙ append-nil (filter_map row_in others)))
 
-  entry_back : (o : Option Given) (a : ℕ) → IfSome o (λ given. HasStatic given.fixed) → option_map entry_of_row (option_map (row_of a) o) ≡ option_map unkept o
-  entry_back None a h = refl
-  entry_back (Some x) a h = ap (λ (f : Option ℕ). Some (record x { kept = None; fixed = f })) (static_same x.fixed h)
+  entry_back : (o : Option Given) (a : ℕ) → option_map entry_of_row (option_map (row_of a) o) ≡ option_map unkept o
+  entry_back None a = refl
+  entry_back (Some x) a = refl
 
   row_found : (a : ℕ) → option_map entry_of_row (row_at row_address (filter_map row_in list) a) ≡ option_map unkept (entry_in table.given a)
   row_found a = ap (λ rows. option_map entry_of_row (row_at row_address rows a)) rows_are ∙ elim (cases_eq own a) [
     | inl same ↦
         ap (option_map entry_of_row) (cond-true (own == a) (Some (row_of own g)) (row_at row_address (filter_map row_in others) a) (eq-eqb own a same))
-        ∙ (entry_back (Some g) own (subst (λ (o : Option Given). IfSome o (λ given. HasStatic given.fixed)) here (fixed own))
+        ∙ (entry_back (Some g) own
         ∙ (ap (option_map unkept) (sym here) ∙ ap (λ b. option_map unkept (entry_in table.given b)) same))
     | inr other ↦
         ap (option_map entry_of_row) (cond-false (own == a) (Some (row_of own g)) (row_at row_address (filter_map row_in others) a) (ne_eqb own a other)
         ∙ picked_at device_at (λ n x. refl) row_address row_in same_row row_of (set table.given own None) a
         (λ k. if_stands (IsUsable k) (get_or (set table.given own None) k None) (λ x. row_in (device_at k x) ≡ Some (row_of k x)) (λ there. some_at (IsUsable k) (entry_in table.given k) (usable k) (stood_before table.given own k there)) (λ x u. device_row k x u)))
-        ∙ (entry_back (get_or (set table.given own None) a None) a (still (λ (given : Given). HasStatic given.fixed) table.given own a (fixed a))
+        ∙ (entry_back (get_or (set table.given own None) a None) a
         ∙ ap (option_map unkept) (get_or-set_other table.given own a None None (λ e. other (sym e))))
   ]
 
@@ -183,9 +178,9 @@ module _ (table : Table) (own : ℕ) (g : Given) (here : entry_in table.given ow
 
 -- the table of a table's own list
 pub copied_back : (table : Table) (own : ℕ) → is_some (entry_in table.given own) ≡ true → ((a : ℕ) → IfSome (entry_in table.given a) (λ _. IsUsable a)) → ((a : ℕ) → IfSome (entry_in table.given a) (λ _. IsFree table.legacy a))
-    → ((a : ℕ) → IfSome (get_or table.legacy a None) (λ _. IsTrue (is_static a))) → ((a : ℕ) → IfSome (entry_in table.given a) (λ given. HasStatic given.fixed)) → length table.given ≡ ADDRESSES → length table.legacy ≡ ADDRESSES → count_by is_some table.legacy ≤ LEGACIES → table_of (entries_of table own) ≡ copy_of table
-copied_back table own stands usable apart static fixed long all few = of_own (entry_in table.given own) refl stands
+    → ((a : ℕ) → IfSome (get_or table.legacy a None) (λ _. IsTrue (is_static a))) → length table.given ≡ ADDRESSES → length table.legacy ≡ ADDRESSES → count_by is_some table.legacy ≤ LEGACIES → table_of (entries_of table own) ≡ copy_of table
+copied_back table own stands usable apart static long all few = of_own (entry_in table.given own) refl stands
   where
     of_own : (o : Option Given) → entry_in table.given own ≡ o → is_some o ≡ true → table_of (entries_of table own) ≡ copy_of table
     of_own None e there = cc
-    of_own (Some g) e there = ap (λ es. table_of (es ++ (upwards device_at 0 (set table.given own None) ++ upwards legacy_at 0 table.legacy))) (own_is table own g e) ∙ back table own g e usable apart static fixed long all few
+    of_own (Some g) e there = ap (λ es. table_of (es ++ (upwards device_at 0 (set table.given own None) ++ upwards legacy_at 0 table.legacy))) (own_is table own g e) ∙ back table own g e usable apart static long all few

@@ -15,8 +15,7 @@ use Rattle.i3c_deftgts.specs.declared.entries.Entry.{Entry}
 use Rattle.i3c_deftgts.specs.declared.entries.Entry.TheVariants.{Device, Legacy}
 use Rattle.i3c_deftgts.specs.Entries.{device_at, entries_of, has_twice, legacy_at, upwards}
 use Rattle.i3c_deftgts.specs.Layout.{bytes, bytes_of, list_bytes, static_byte, Carry}
-use Rattle.i3c_deftgts.specs.Reading.{address_in, entries_in, entry_at, entry_fault, first_static, is_count, is_miscounted, has_wrong_t, later_entries, ReadAs}
-use Rattle.i3c_table.specs.Rows.{HasStatic}
+use Rattle.i3c_deftgts.specs.Reading.{address_in, entries_in, entry_at, entry_fault, first_static, is_count, is_miscounted, has_wrong_t, later_entries, AreTellable, ReadAs}
 use Rattle.i3c_deftgts.proofs.CopyOfLaws.{still}
 use Rattle.i3c_deftgts.proofs.DistinctLaws.{entries_once, own_is, some_at, stood_before}
 use Rattle.i3c_deftgts.proofs.FaultLaws.{told_addresses, whole_is_not}
@@ -42,18 +41,17 @@ static_shifted : (fixed : Option ℕ) → IfSome fixed (λ a. a ≢ 0) → addre
 static_shifted None h = refl
 static_shifted (Some a) h = shifted a h
 
--- an address that may be static isn't 0
-static_some : (fixed : Option ℕ) → HasStatic fixed → IfSome fixed (λ a. a ≢ 0)
+-- a static address that a list can tell isn't 0
+static_some : (fixed : Option ℕ) → fixed ≢ Some 0 → IfSome fixed (λ a. a ≢ 0)
 static_some None h = tt
-static_some (Some a) h = λ e. let low = leb-true 0x08 a (and_parts (nat_le 0x08 a) (nat_le a 0x77) h).0 in omega (arith, low, e)
+static_some (Some a) h = λ e. h (ap Some e)
 
 -- the own static address is found again
-first_shifted : (fixed : Option ℕ) → HasStatic fixed → first_static (static_byte fixed) ≡ fixed
-first_shifted None h = refl
-first_shifted (Some a) h =
-    let high = leb-true a 0x77 (and_parts (nat_le 0x08 a) (nat_le a 0x77) h).1 in
+first_shifted : (fixed : Option ℕ) → fixed ≢ Some 0 → fixed ≢ Some 0x7E → first_static (static_byte fixed) ≡ fixed
+first_shifted None h k = refl
+first_shifted (Some a) h k =
     let half : 2 * a / 2 ≡ a = omega arith in
-    cond-false (2 * a / 2 == 0x7E) None (address_in (2 * a)) (ne_eqb (2 * a / 2) 0x7E (λ e. omega (arith, half, e, high))) ∙ shifted a (static_some (Some a) h)
+    cond-false (2 * a / 2 == 0x7E) None (address_in (2 * a)) (ne_eqb (2 * a / 2) 0x7E (λ e. k (ap Some (sym half ∙ e)))) ∙ shifted a (static_some (Some a) h)
 
 -- one entry's bytes are read as the entry
 later_back : (entry : Entry) (rest : List ℕ) → HasAddress entry → later_entries (bytes_of entry ++ rest) ≡ Some entry ∷ later_entries rest
@@ -67,11 +65,11 @@ all_later [] h = refl
 all_later (entry ∷ rest) h = later_back entry (flat_map bytes_of rest) h.0 ∙ ap (λ es. Some entry ∷ es) (all_later rest h.1)
 
 -- the bytes of a list are read as its entries
-pub entries_back : (a : ℕ) (dcr : Dcr) (bcr : Bcr) (fixed : Option ℕ) (rest : List Entry) → a ≢ 0 → HasStatic fixed → HaveAddresses rest
+pub entries_back : (a : ℕ) (dcr : Dcr) (bcr : Bcr) (fixed : Option ℕ) (rest : List Entry) → a ≢ 0 → fixed ≢ Some 0 → fixed ≢ Some 0x7E → HaveAddresses rest
     → entries_in (list_bytes (Device a dcr bcr fixed ∷ rest)) ≡ map Some (Device a dcr bcr fixed ∷ rest)
-entries_back a dcr bcr fixed rest some static h =
+entries_back a dcr bcr fixed rest some told first h =
     ap (λ o. option_map (λ b. Device b dcr bcr (first_static (static_byte fixed))) o ∷ later_entries (flat_map bytes_of rest)) (shifted a some)
-    ∙ (ap (λ f. Some (Device a dcr bcr f) ∷ later_entries (flat_map bytes_of rest)) (first_shifted fixed static)
+    ∙ (ap (λ f. Some (Device a dcr bcr f) ∷ later_entries (flat_map bytes_of rest)) (first_shifted fixed told first)
     ∙ ap (λ es. Some (Device a dcr bcr fixed) ∷ es) (all_later rest h))
 
 -- no word has a wrong T bit
@@ -132,9 +130,9 @@ both_stand P (Some x) R Q h r k = k x (h refl) r
 
 -- what is written of a table is read as its entries
 pub entries_read : (table : Table) (own : ℕ) (words : List Word) → is_some (entry_in table.given own) ≡ true → ((a : ℕ) → IfSome (entry_in table.given a) (λ _. IsUsable a)) → ((a : ℕ) → IfSome (entry_in table.given a) (λ _. IsFree table.legacy a))
-    → ((a : ℕ) → IfSome (get_or table.legacy a None) (λ _. IsTrue (is_static a))) → ((a : ℕ) → IfSome (entry_in table.given a) (λ given. HasStatic given.fixed)) → Carry (list_bytes (entries_of table own)) words
+    → ((a : ℕ) → IfSome (get_or table.legacy a None) (λ _. IsTrue (is_static a))) → AreTellable table own → Carry (list_bytes (entries_of table own)) words
     → ReadAs words (entries_of table own)
-entries_read table own words stands usable apart static fixed carried = of_own (entry_in table.given own) refl stands
+entries_read table own words stands usable apart static told carried = of_own (entry_in table.given own) refl stands
   where
     not_zero : (a : ℕ) → 0x08 ≤ a → a ≢ 0
     not_zero a low e = omega (arith, low, e)
@@ -146,9 +144,9 @@ entries_read table own words stands usable apart static fixed carried = of_own (
     targets = upwards legacy_at 0 table.legacy
 
     others_have : HaveAddresses (upwards device_at 0 (set table.given own None))
-    others_have = have_upwards device_at (set table.given own None) 0 (λ k. both_stand (IsUsable k) (get_or (set table.given own None) k None) (λ x. HasStatic x.fixed) (λ x. HasAddress (device_at (0 + k) x))
+    others_have = have_upwards device_at (set table.given own None) 0 (λ k. both_stand (IsUsable k) (get_or (set table.given own None) k None) (λ x. x.fixed ≢ Some 0) (λ x. HasAddress (device_at (0 + k) x))
         (λ there. some_at (IsUsable k) (entry_in table.given k) (usable k) (stood_before table.given own k there))
-        (still (λ (given : Given). HasStatic given.fixed) table.given own k (fixed k))
+        (still (λ (given : Given). given.fixed ≢ Some 0) table.given own k (told.each k))
         (λ x u s. (not_zero (0 + k) (let low = u.0 in omega (arith, low)), static_some x.fixed s)))
 
     targets_have : HaveAddresses (upwards legacy_at 0 table.legacy)
@@ -161,6 +159,6 @@ entries_read table own words stands usable apart static fixed carried = of_own (
     of_own (Some g) e there =
         let is : entries_of table own ≡ device_at own g ∷ (others ++ targets) = ap (λ es. es ++ (others ++ targets)) (own_is table own g e) in
         let low = (some_at (IsUsable own) (entry_in table.given own) (usable own) (ap is_some e)).0 in
-        let back = entries_back own g.dcr g.bcr g.fixed (others ++ targets) (not_zero own low) (subst (λ (o : Option Given). IfSome o (λ given. HasStatic given.fixed)) e (fixed own)) (have_append others targets others_have targets_have) in
+        let back = entries_back own g.dcr g.bcr g.fixed (others ++ targets) (not_zero own low) (subst (λ (o : Option Given). IfSome o (λ given. given.fixed ≢ Some 0)) e (told.each own)) (subst (λ (o : Option Given). IfSome o (λ given. given.fixed ≢ Some 0x7E)) e told.first) (have_append others targets others_have targets_have) in
         read_back (entries_of table own) words (let long = ap length is in omega (arith, long)) carried
         (ap (λ es. entries_in (list_bytes es)) is ∙ (back ∙ ap (map Some) (sym is))) (entries_once table own g e apart)

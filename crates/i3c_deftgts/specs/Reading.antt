@@ -1,6 +1,8 @@
 -- What words are read as: the entries of a list, or the first of five faults.
-use Rattle.std.specs.Prelude.{◌≡◌, ℕ, ◌+◌, ◌-◌, ◌/◌, ◌%◌, Bool, false, not, ◌==◌, ◌||◌, nat_lt, List, [], ◌∷◌, length, map, Option, Some, None, option_map, is_none, count_ones, if◌then◌else◌}
+use Rattle.std.specs.Prelude.{◌≡◌, ◌≢◌, IfSome, ℕ, ◌+◌, ◌-◌, ◌/◌, ◌%◌, Bool, false, not, ◌==◌, ◌||◌, nat_lt, List, [], ◌∷◌, length, map, Option, Some, None, option_map, is_none, count_ones, if◌then◌else◌}
 use Rattle.std.specs.List.{filter_map, position_from}
+use Rattle.i3c_base.specs.Covered.{Table}
+use Rattle.i3c_base.specs.State.{entry_in}
 use Rattle.i3c_word.specs.declared.Word.{Word}
 use Rattle.i3c_word.specs.Parity.{bit_of}
 use Rattle.i3c_deftgts.specs.declared.entries.Entry.{Entry}
@@ -92,6 +94,12 @@ first_fault words =
     ∷ missing_address entries
     ∷ same_address entries
     ∷ [])
+
+-- a list can tell the static addresses of a table: none is 00, which says that there is none, and of the controller's own row none is
+-- 7E, which says so in the first entry
+pub record AreTellable (table : Table) (own : ℕ) : Type 0 where
+  pub each : (a : ℕ) → IfSome (entry_in table.given a) (λ entry. entry.fixed ≢ Some 0x00)
+  pub first : IfSome (entry_in table.given own) (λ entry. entry.fixed ≢ Some 0x7E)
 
 -- the words are read as these entries
 pub record ReadAs (words : List Word) (entries : List Entry) : Type 0 where

@@ -2,12 +2,12 @@ ghost use Rattle.std.specs.Prelude.{◌≡◌, ◌+◌, ◌≤◌, ◌++◌, ℕ
 ghost use Rattle.arrayvec.specs.ArrayVec.{array_vec_len};
 ghost use Rattle.i3c_base.specs.declared.range.TheConstants.{ADDRESSES};
 ghost use Rattle.i3c_base.specs.State.{entry_in, is_static};
-ghost use Rattle.i3c_table.specs.Rows.{entry_of_row, HasStatic};
+ghost use Rattle.i3c_table.specs.Rows.{entry_of_row};
 ghost use Rattle.i3c_word.specs.declared.Word.{Word as WordValue};
 ghost use Rattle.i3c_deftgts.specs.Copies.{copy_of, table_of};
 ghost use Rattle.i3c_deftgts.specs.Entries.{device_at, entries_of, given_in, legacy_at, upwards, HaveOwnAddresses};
 ghost use Rattle.i3c_deftgts.specs.Layout.{list_bytes, Carry};
-ghost use Rattle.i3c_deftgts.specs.Reading.{ReadAs};
+ghost use Rattle.i3c_deftgts.specs.Reading.{AreTellable, ReadAs};
 
 use crate::entries::{ENTRIES, Entry, List};
 use arrayvec::ArrayVec;
@@ -26,17 +26,18 @@ impl List {
     ghost use Rattle.i3c_deftgts.specs.Copies.{copy_of, table_of};
     ghost use Rattle.i3c_deftgts.specs.Entries.{entries_of};
     ghost use Rattle.i3c_deftgts.specs.Layout.{list_bytes, Carry};
-    ghost use Rattle.i3c_deftgts.specs.Reading.{ReadAs};
+    ghost use Rattle.i3c_deftgts.specs.Reading.{AreTellable, ReadAs};
 
     /// Becomes the list of a table: the own entry, then those of the other rows by address upwards, also of devices that
     /// are gone, and then those of the legacy targets by static address upwards. Whoever reads its words has this list,
-    /// and the table, but for the identities that addresses are kept for.
+    /// and the table, but for the identities that addresses are kept for. A static address `00`, and `7E` in the own row,
+    /// is read as none.
     pub fn rewrite(&mut self, table: &Table, own: Addr7)
         requires { IsSome (entry_in table.now.given own) }
         ensures entries { self.new ≡ entries_of table.now own }
         ensures long { length self.new ≡ count_by is_some table.now.given + count_by is_some table.now.legacy }
         ensures few { length self.new ≤ WRITTEN }
-        ensures read { (words : ListOf WordValue) → Carry (list_bytes self.new) words → ReadAs words self.new }
+        ensures read { AreTellable table.now own → (words : ListOf WordValue) → Carry (list_bytes self.new) words → ReadAs words self.new }
         ensures copied { table_of self.new ≡ copy_of table.now }
     {
         self.entries.clear();
@@ -52,7 +53,7 @@ fn fill(entries: &mut ArrayVec<Entry, ENTRIES>, table: &Table, own: Addr7)
     ensures own_addresses { HaveOwnAddresses entries.new.items }
     ensures long { length entries.new.items ≡ count_by is_some table.now.given + count_by is_some table.now.legacy }
     ensures few { length entries.new.items ≤ WRITTEN }
-    ensures read { (words : ListOf WordValue) → Carry (list_bytes entries.new.items) words → ReadAs words entries.new.items }
+    ensures read { AreTellable table.now own → (words : ListOf WordValue) → Carry (list_bytes entries.new.items) words → ReadAs words entries.new.items }
     ensures copied { table_of entries.new.items ≡ copy_of table.now }
 {
     if let Some(row) = table.row_of(own) {
@@ -109,7 +110,6 @@ fn push_targets(entries: &mut ArrayVec<Entry, ENTRIES>, lvrs: &[Option<Lvr>])
 
 // The entry of a row.
 fn device_entry(row: &Row) -> Entry
-    requires { HasStatic row.now.fixed }
     ensures { result ≡ device_at row.now.address (entry_of_row row.now) }
 {
     Entry::Device {

@@ -4,7 +4,7 @@ ghost use Rattle.i3c_base.specs.State.{entry_in};
 ghost use Rattle.i3c_deftgts.specs.Copies.{copy_of, table_of};
 ghost use Rattle.i3c_deftgts.specs.Entries.{entries_of};
 ghost use Rattle.i3c_deftgts.specs.Layout.{bytes_of, list_bytes, static_byte, Carry};
-ghost use Rattle.i3c_deftgts.specs.Reading.{ReadAs};
+ghost use Rattle.i3c_deftgts.specs.Reading.{AreTellable, ReadAs};
 
 use crate::entries::{Entry, List};
 use crate::listing::WRITTEN;
@@ -25,7 +25,7 @@ pub fn write_list(table: &Table, own: Addr7) -> ArrayVec<Word, WORDS>
     ensures long { length result.items ≡ 1 + 4 * (count_by is_some table.now.given + count_by is_some table.now.legacy) }
 
     // the words are read as these entries, which give the table, except for the identities that addresses are kept for
-    ensures read { ReadAs result.items (entries_of table.now own) }
+    ensures read { AreTellable table.now own → ReadAs result.items (entries_of table.now own) }
     ensures copied { table_of (entries_of table.now own) ≡ copy_of table.now }
 {
     let mut list = List::new();

@@ -1,5 +1,5 @@
 -- What happens to devices whichever of their kinds are enabled.
-use Rattle.std.proofs.Common.{◌≡◌, ℕ, Bool, true, false, if◌then◌else◌, List, Option, Some, None, is_none, option_map, refl}
+use Rattle.std.proofs.Common.{◌≡◌, ℕ, Bool, true, false, if◌then◌else◌, ◌&&◌, List, Option, Some, None, is_none, is_some, option_map, refl}
 use Rattle.i3c_base.specs.declared.requests.Request.{Request}
 use Rattle.i3c_base.specs.declared.requests.Request.TheVariants.{Interrupt, Join, Role}
 use Rattle.i3c_base.specs.declared.datum.Direction.{Direction}
@@ -8,6 +8,7 @@ use Rattle.i3c_base.specs.Round.{hears, unhearing, winner}
 use Rattle.i3c_base.specs.Serve.{without_role}
 use Rattle.i3c_base.specs.Local.{with_raise, wishing_join, wishing_role}
 use Rattle.i3c_device.specs.Enabling.{under}
+use Rattle.i3c_device.specs.Hearing.{set_length, set_new, set_static}
 use Rattle.i3c_device.specs.Walks.{taken_from}
 use Rattle.i3c_device.proofs.SeenLaws.{IsBlind}
 
@@ -65,6 +66,31 @@ pub blind_limit : (way : Direction) (most : ℕ) → IsBlind (λ s place. option
 blind_limit way most kinds s None = refl
 blind_limit Direction.Write most kinds s (Some d) = refl
 blind_limit Direction.Read most kinds s (Some d) = refl
+
+-- words that name an address or a length
+pub blind_static : (a : Option ℕ) → IsBlind (λ s place. option_map (set_static a) place)
+blind_static a kinds s None = refl
+blind_static None kinds s (Some d) = refl
+blind_static (Some a) kinds s (Some d) = go (is_none d.address && is_some d.fixed)
+  where
+    go : (b : Bool) → Some (under kinds (if b then winner a d else d)) ≡ Some (if b then winner a (under kinds d) else under kinds d)
+    go true = refl
+    go false = refl
+
+pub blind_new : (a : Option ℕ) → IsBlind (λ s place. option_map (set_new a) place)
+blind_new a kinds s None = refl
+blind_new None kinds s (Some d) = refl
+blind_new (Some a) kinds s (Some d) = go (is_some d.address)
+  where
+    go : (b : Bool) → Some (under kinds (if b then readdressed a d else d)) ≡ Some (if b then readdressed a (under kinds d) else under kinds d)
+    go true = refl
+    go false = refl
+
+pub blind_length : (way : Direction) (most : Option ℕ) → IsBlind (λ s place. option_map (set_length way most) place)
+blind_length way most kinds s None = refl
+blind_length way None kinds s (Some d) = refl
+blind_length Direction.Write (Some most) kinds s (Some d) = refl
+blind_length Direction.Read (Some most) kinds s (Some d) = refl
 
 pub blind_write : (active a : ℕ) (bytes : List ℕ) → IsBlind (λ s place. option_map (written_at active a bytes s) place)
 blind_write active a bytes kinds s None = refl

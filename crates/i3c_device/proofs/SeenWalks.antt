@@ -304,15 +304,11 @@ disabled_alike active to code words kinds now named (inr e) =
     ap (λ k. changed (λ s place. option_map (λ d. if reaches_at active to s d then under (without_kinds d.kinds k) d else d) place) now) named ∙ ap (λ c. changed (heard_at active to c words) now) (sym e)
 
 pub unheard_alike : (active : ℕ) (to : Option ℕ) (code : Code) (words : List Word) (now : List (Option Device))
-    → (code ≡ Deftgts) ⊎ (((way : Direction) × (code ≡ SetLength way)) ⊎ ((code ≡ Setdasa) ⊎ ((code ≡ Setnewda) ⊎ (((way : Direction) × (code ≡ SetLengthDirect way)) ⊎ (((what : Datum) × (code ≡ Get what)) ⊎ ((code ≡ Getacccr) ⊎ ((byte : ℕ) × (code ≡ Other byte)))))))) → now ≡ changed (heard_at active to code words) now
+    → (code ≡ Deftgts) ⊎ (((what : Datum) × (code ≡ Get what)) ⊎ ((code ≡ Getacccr) ⊎ ((byte : ℕ) × (code ≡ Other byte)))) → now ≡ changed (heard_at active to code words) now
 unheard_alike active to code words now (inl e) = unheard active to now ∙ ap (λ c. changed (heard_at active to c words) now) (sym e)
 unheard_alike active to code words now (inr (inl e)) = unheard active to now ∙ ap (λ c. changed (heard_at active to c words) now) (sym e.1)
 unheard_alike active to code words now (inr (inr (inl e))) = unheard active to now ∙ ap (λ c. changed (heard_at active to c words) now) (sym e)
-unheard_alike active to code words now (inr (inr (inr (inl e)))) = unheard active to now ∙ ap (λ c. changed (heard_at active to c words) now) (sym e)
-unheard_alike active to code words now (inr (inr (inr (inr (inl e))))) = unheard active to now ∙ ap (λ c. changed (heard_at active to c words) now) (sym e.1)
-unheard_alike active to code words now (inr (inr (inr (inr (inr (inl e)))))) = unheard active to now ∙ ap (λ c. changed (heard_at active to c words) now) (sym e.1)
-unheard_alike active to code words now (inr (inr (inr (inr (inr (inr (inl e))))))) = unheard active to now ∙ ap (λ c. changed (heard_at active to c words) now) (sym e)
-unheard_alike active to code words now (inr (inr (inr (inr (inr (inr (inr e))))))) = unheard active to now ∙ ap (λ c. changed (heard_at active to c words) now) (sym e.1)
+unheard_alike active to code words now (inr (inr (inr e))) = unheard active to now ∙ ap (λ c. changed (heard_at active to c words) now) (sym e.1)
 
 -- a kind that is enabled for the slot's device
 pub kind_there : (e : Enabled) (xs now : List (Option Device)) (kind : KindSet → Bool) (present own both : SlotSet) (s : ℕ) → seen e xs ≡ now → IsSetOf (λ d. true) present xs → has own s ≡ kind (kinds_in e s)

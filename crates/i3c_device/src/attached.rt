@@ -61,7 +61,7 @@ impl Model for Attached {
 }
 
 impl Attached {
-    ghost use Rattle.std.specs.Prelude.{◌≡◌, ◌≤◌, ◌↔◌, IsTrue, is_none, suc, length, slice_get, MatchOption, MatchResult, OnErr, OnOk, Some, None, true};
+    ghost use Rattle.std.specs.Prelude.{◌≡◌, ◌≤◌, ◌↔◌, IfSome, IsTrue, is_none, suc, length, slice_get, MatchOption, MatchResult, OnErr, OnOk, Some, None, true};
     ghost use Rattle.i3c_base.specs.declared.device.TheConstants.{REGISTERS as REGISTER_COUNT};
     ghost use Rattle.i3c_base.specs.Filling.{filled_up};
     ghost use Rattle.i3c_base.specs.Frames.{length_of, limited, overwritten, pending, readdressed, told_bytes, unaddressed_device};
@@ -71,6 +71,7 @@ impl Attached {
     ghost use Rattle.i3c_base.specs.Round.{hears, unhearing, winner};
     ghost use Rattle.i3c_base.specs.Local.{with_raise};
     ghost use Rattle.i3c_device.specs.Addressing.{IsDynamic};
+    ghost use Rattle.i3c_device.specs.Hearing.{set_length, set_new, set_static};
     ghost use Rattle.i3c_device.specs.Marks.{answer_of};
     ghost use Rattle.i3c_device.specs.Wishing.{choice_of, key_of, wishes_interrupt, wishes_join, wishes_role};
     ghost use Rattle.i3c_device.specs.Raising.{front_byte, interrupting_if, next_fault, raise_fault};
@@ -291,6 +292,41 @@ impl Attached {
         match way {
             Direction::Write => self.most_written = most,
             Direction::Read => self.most_read = most,
+        }
+    }
+
+    /// SETMWL and SETMRL set this length, where they name one (I3C Basic 5.1.9.3.5, 5.1.9.3.6).
+    pub fn set_length(&mut self, way: Direction, most: Option<Length>)
+        ensures { self.new ≡ set_length way most self.old }
+    {
+        if let Some(most) = most {
+            self.limit(way, most);
+        }
+    }
+
+    /// SETDASA: it takes this address, where one is named, if it has a static address and no dynamic one (I3C Basic
+    /// 5.1.9.3.10). No dynamic address is below `08`.
+    pub fn set_static(&mut self, address: Option<Addr7>)
+        requires { IfSome address (λ a. 8 ≤ a) }
+        ensures { self.new ≡ set_static address self.old }
+    {
+        if let Some(address) = address {
+            if self.address.is_none() && self.fixed.get().is_some() {
+                self.take_address(address);
+            }
+        }
+    }
+
+    /// SETNEWDA: it has this address, where one is named, in place of the one that it has (I3C Basic 5.1.9.3.11). No
+    /// dynamic address is below `08`.
+    pub fn set_new(&mut self, address: Option<Addr7>)
+        requires { IfSome address (λ a. 8 ≤ a) }
+        ensures { self.new ≡ set_new address self.old }
+    {
+        if let Some(address) = address {
+            if !self.address.is_none() {
+                self.readdress(address);
+            }
         }
     }
 

@@ -1,4 +1,5 @@
 use crate::attached::Attached;
+use crate::hearing::{named_address, named_length};
 use crate::kinds::named;
 use crate::own_kinds::OwnKinds;
 use i3c_base::{Addr7, Identity, REGISTERS, RaiseRefusal, Request, Setup, Waiting};
@@ -59,8 +60,9 @@ impl Device {
     }
 
     /// It hears a command and its words (I3C Basic 5.1.9.3): ENEC and DISEC enable and disable the kinds of their byte,
-    /// ENTDAA opens a session, and RSTDAA takes its address and its wish for the role. Other codes change nothing of it:
-    /// what SETDASA gives it, it takes by `take_address`.
+    /// ENTDAA opens a session, RSTDAA takes its address and its wish for the role. SETDASA gives it an address if it has a
+    /// static one and no dynamic one, SETNEWDA another one if it has one, and neither an address below `08`. SETMWL and
+    /// SETMRL set a maximum length from 1 to 16. Other codes change nothing of it.
     pub fn hear(&mut self, code: Code, words: &[Word])
         ensures { self.new ≡ heard code words.now self.old }
     {
@@ -69,14 +71,12 @@ impl Device {
             Code::Disec | Code::DisecDirect => self.kinds = self.kinds.without(named(words)),
             Code::Entdaa => self.attached.hear_opening(),
             Code::Rstdaa => self.attached.lose_address(),
-            Code::Deftgts
-            | Code::SetLength(_)
-            | Code::Setdasa
-            | Code::Setnewda
-            | Code::SetLengthDirect(_)
-            | Code::Get(_)
-            | Code::Getacccr
-            | Code::Other(_) => {}
+            Code::Setdasa => self.attached.set_static(named_address(words)),
+            Code::Setnewda => self.attached.set_new(named_address(words)),
+            Code::SetLength(way) | Code::SetLengthDirect(way) => {
+                self.attached.set_length(way, named_length(words));
+            }
+            Code::Deftgts | Code::Get(_) | Code::Getacccr | Code::Other(_) => {}
         }
     }
 

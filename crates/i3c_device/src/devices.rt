@@ -2,14 +2,16 @@ use crate::attached::LONGEST;
 use crate::device::Device;
 use crate::driven_requests::{enter_requests, slots_with};
 use crate::enabled::Enabled;
+use crate::hearing::{named_address, named_length};
 use crate::kinds::named;
 use crate::occupants::Occupants;
 use crate::places::{address_in, byte_in, front_in, identity_in, queue_key, waiting_in};
 use crate::resting::Resting;
 use crate::slot_set::{SlotSet, lost_slots};
 use crate::slot_update::{
-    Accepted, Ended, InterruptAccepted, JoinWished, Limited, Lost, Opened, Readdressed, Registers,
-    Reset, RoleLost, RoleWished, SlotUpdate, Told, Willing, Won, Written,
+    Accepted, Ended, InterruptAccepted, JoinWished, LengthHeard, Limited, Lost, NewHeard, Opened,
+    Readdressed, Registers, Reset, RoleLost, RoleWished, SlotUpdate, StaticHeard, Told, Willing,
+    Won, Written,
 };
 use arrayvec::ArrayVec;
 use i3c_base::{
@@ -443,14 +445,19 @@ impl Devices {
             }
             Code::Entdaa => self.occupants.each(reached, &Opened),
             Code::Rstdaa => self.occupants.each(reached, &Reset),
-            Code::Deftgts
-            | Code::SetLength(_)
-            | Code::Setdasa
-            | Code::Setnewda
-            | Code::SetLengthDirect(_)
-            | Code::Get(_)
-            | Code::Getacccr
-            | Code::Other(_) => {}
+            Code::Setdasa => {
+                let address = named_address(words);
+                self.occupants.each(reached, &StaticHeard { address });
+            }
+            Code::Setnewda => {
+                let address = named_address(words);
+                self.occupants.each(reached, &NewHeard { address });
+            }
+            Code::SetLength(way) | Code::SetLengthDirect(way) => {
+                let most = named_length(words);
+                self.occupants.each(reached, &LengthHeard { way, most });
+            }
+            Code::Deftgts | Code::Get(_) | Code::Getacccr | Code::Other(_) => {}
         }
     }
 

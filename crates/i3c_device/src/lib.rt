@@ -10,6 +10,7 @@ mod devices;
 mod driven_requests;
 mod enabled;
 mod flag;
+mod hearing;
 mod kept;
 mod kinds;
 mod marks;

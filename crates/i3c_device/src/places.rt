@@ -1,4 +1,4 @@
-ghost use Rattle.std.specs.Prelude.{◌≡◌, ◌↔◌, IsTrue, ◌≤◌, ◌<◌, ◌+◌, ◌^◌, ◌&&◌, ℕ, suc, true, false, Some, None, option_map, length, bit_and, slice_index, is_none, is_some, MatchResult, OnErr, OnOk};
+ghost use Rattle.std.specs.Prelude.{◌≡◌, ◌↔◌, IfSome, IsTrue, ◌≤◌, ◌<◌, ◌+◌, ◌^◌, ◌&&◌, ℕ, suc, true, false, Some, None, option_map, length, bit_and, slice_index, is_none, is_some, MatchResult, OnErr, OnOk};
 ghost use Rattle.i3c_base.specs.declared.device.TheConstants.{REGISTERS as REGISTER_COUNT};
 ghost use Rattle.i3c_base.specs.declared.range.TheConstants.{SLOTS as SLOT_COUNT};
 ghost use Rattle.i3c_base.specs.Frames.{limited, readdressed, unaddressed_device, reaches_at, written_at};
@@ -7,6 +7,7 @@ ghost use Rattle.i3c_base.specs.Serve.{without_front, without_role};
 ghost use Rattle.i3c_base.specs.State.{Device as DeviceState, in_slot};
 ghost use Rattle.i3c_base.specs.Local.{with_raise, wishing_join, wishing_role};
 ghost use Rattle.i3c_device.specs.Addressing.{IsDynamicIn};
+ghost use Rattle.i3c_device.specs.Hearing.{set_length, set_new, set_static};
 ghost use Rattle.i3c_device.specs.Holding.{length_in, address_in, byte_in, front_in, identity_in, waiting_in};
 ghost use Rattle.i3c_device.specs.Marks.{answer_in, key_in, requeued};
 ghost use Rattle.i3c_device.specs.Raising.{interrupting_if, next_fault};
@@ -413,6 +414,35 @@ pub(crate) fn limit(place: &mut Option<Attached>, way: Direction, most: Length)
 {
     if let Some(device) = place {
         device.limit(way, most);
+    }
+}
+
+/// SETMWL or SETMRL: the device here, if there is one, has this maximum length, where one is named.
+pub(crate) fn set_length(place: &mut Option<Attached>, way: Direction, most: Option<Length>)
+    ensures { place.new ≡ option_map (set_length way most) place.old }
+{
+    if let Some(device) = place {
+        device.set_length(way, most);
+    }
+}
+
+/// SETDASA: the device here, if there is one, takes this address, where one is named.
+pub(crate) fn set_static(place: &mut Option<Attached>, address: Option<Addr7>)
+    requires { IfSome address (λ a. 8 ≤ a) }
+    ensures { place.new ≡ option_map (set_static address) place.old }
+{
+    if let Some(device) = place {
+        device.set_static(address);
+    }
+}
+
+/// SETNEWDA: the device here, if there is one, has this address, where one is named.
+pub(crate) fn set_new(place: &mut Option<Attached>, address: Option<Addr7>)
+    requires { IfSome address (λ a. 8 ≤ a) }
+    ensures { place.new ≡ option_map (set_new address) place.old }
+{
+    if let Some(device) = place {
+        device.set_new(address);
     }
 }
 

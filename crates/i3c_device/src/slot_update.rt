@@ -6,6 +6,8 @@ ghost use Rattle.i3c_base.specs.Round.{hears, unhearing, winner};
 ghost use Rattle.i3c_base.specs.Serve.{without_front, without_role};
 ghost use Rattle.i3c_base.specs.State.{Device as DeviceState};
 ghost use Rattle.i3c_base.specs.Local.{wishing_join, wishing_role};
+ghost use Rattle.std.specs.Option.{ForSome};
+ghost use Rattle.i3c_device.specs.Hearing.{set_length, set_new, set_static};
 ghost use Rattle.i3c_device.specs.Marks.{AreMarks};
 ghost use Rattle.i3c_device.specs.declared.attached.TheConstants.{LONGEST};
 ghost use Rattle.i3c_device.specs.Reading.{registers_of};
@@ -15,7 +17,8 @@ use crate::attached::Attached;
 use crate::marks::Marks;
 use crate::places::{
     accept, has_role_wish, is_willing, limit, lose_front, lose_role_wish, open, reaches, readdress,
-    reset, silence, win, wish_join, wish_role, wishes_interrupt, write,
+    reset, set_length, set_new, set_static, silence, win, wish_join, wish_role, wishes_interrupt,
+    write,
 };
 use i3c_base::{Addr7, Datum, Direction, Length, Request, Slot};
 
@@ -265,6 +268,63 @@ impl SlotUpdate for Limited {
 
     fn apply(&self, place: &mut Option<Attached>, _index: usize) {
         limit(place, self.way, self.most);
+    }
+}
+
+/// The words of SETDASA were heard, which name this address, if they do. No dynamic address is below `08`.
+#[derive(Drop)]
+pub(crate) struct StaticHeard {
+    pub address: Option<Addr7>,
+    ghost dynamic: { ForSome address (λ a. 8 ≤ a) },
+}
+
+impl SlotUpdate for StaticHeard {
+    ghost after = { λ h s place. option_map (set_static h.address) place };
+
+    fn concerns(&self, _place: &Option<Attached>, _index: usize) -> bool {
+        true
+    }
+
+    fn apply(&self, place: &mut Option<Attached>, _index: usize) {
+        set_static(place, self.address);
+    }
+}
+
+/// The words of SETNEWDA were heard, which name this address, if they do. No dynamic address is below `08`.
+#[derive(Drop)]
+pub(crate) struct NewHeard {
+    pub address: Option<Addr7>,
+    ghost dynamic: { ForSome address (λ a. 8 ≤ a) },
+}
+
+impl SlotUpdate for NewHeard {
+    ghost after = { λ h s place. option_map (set_new h.address) place };
+
+    fn concerns(&self, _place: &Option<Attached>, _index: usize) -> bool {
+        true
+    }
+
+    fn apply(&self, place: &mut Option<Attached>, _index: usize) {
+        set_new(place, self.address);
+    }
+}
+
+/// The words of SETMWL or SETMRL were heard, which name this length, if they do.
+#[derive(Drop)]
+pub(crate) struct LengthHeard {
+    pub way: Direction,
+    pub most: Option<Length>,
+}
+
+impl SlotUpdate for LengthHeard {
+    ghost after = { λ h s place. option_map (set_length h.way h.most) place };
+
+    fn concerns(&self, _place: &Option<Attached>, _index: usize) -> bool {
+        true
+    }
+
+    fn apply(&self, place: &mut Option<Attached>, _index: usize) {
+        set_length(place, self.way, self.most);
     }
 }
 

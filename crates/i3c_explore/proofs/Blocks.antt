@@ -6,10 +6,10 @@ use Rattle.std.proofs.lemmas.Bool.Decides.{eqb_tells, leb_tells}
 use Rattle.std.proofs.lemmas.Option.{slice_get_within}
 use Rattle.i3c_explore.specs.declared.node.Node.{Node}
 use Rattle.i3c_explore.specs.declared.turn.Turn.{Turn}
-use Rattle.i3c_explore.specs.Layers.{Holds, IsBreak, IsExpanded, IsFirstBreak, IsReached, IsRestarted, IsSuccessor}
+use Rattle.i3c_explore.specs.Layers.{AreRestarted, Holds, IsBreak, IsExpanded, IsFirstBreak, IsReached, IsRestarted, IsSuccessor}
 use Rattle.i3c_explore.specs.Orders.{IsNext, IsOrder, IsPrefix, Leads, track, turns_of}
-use Rattle.i3c_explore.specs.Parts.{HasLine, Part, opening, whole}
-use Rattle.i3c_explore.proofs.Opening.{InPart, first_turn, grows_in_part, in_part_before, none_in_part, opened, opened_in_part, opening_has, opens, part_at, plain_successor}
+use Rattle.i3c_explore.specs.Parts.{HasLine, Part, opening, part_at, whole}
+use Rattle.i3c_explore.proofs.Opening.{InPart, first_turn, grows_in_part, in_part_before, none_in_part, opened, opened_in_part, opening_has, opens, plain_successor}
 use Rattle.i3c_explore.proofs.Lists.{contains_get, get_contains}
 use Rattle.i3c_explore.proofs.Turns.{leads_prefix, no_longer, prefix_before, turns_here, turns_other}
 use Rattle.i3c_explore.proofs.Covering.{held_more, none_longer, order_more, reached_more}
@@ -29,10 +29,6 @@ LeadOn {S} steps part tracks starts count = (s : Node S) → Contains starts s �
 -- where a part has an order there is a node
 abbrev pub AreSome : {S L : Type 0} → Part → List (Vec L) → List (Node S) → List (Node S) → Type 0
 AreSome {S} part tracks starts layer = (s : Node S) → Contains starts s → (order : List Turn) → IsOrder tracks order → InPart part order → 0 < length layer
-
--- the first layer has the starts, each at its first lines
-abbrev pub AreRestarted : {S : Type 0} → ℕ → List (Node S) → List (Node S) → Type 0
-AreRestarted {S} count starts layer = (n : Node S) (k : ℕ) → slice_get layer k ≡ Some n → (s : Node S) × (slice_get starts k ≡ Some s) × IsRestarted count s n
 
 pub lead_on_first : {S L : Type 0} (steps : S → L → ℕ → S → Type 0) (part : Part) (tracks : List (Vec L)) (starts : List (Node S)) → LeadOn steps part tracks starts 0
 lead_on_first steps part tracks starts s c [] le prefix fits = (s.state, refl)

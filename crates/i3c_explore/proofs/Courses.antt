@@ -9,8 +9,8 @@ use Rattle.i3c_explore.specs.declared.turn.Turn.{Turn}
 use Rattle.i3c_explore.specs.Blocks.{BreaksOn, IsBegun, IsCourse, IsShortestInPart, LeadsOn, block, turns}
 use Rattle.i3c_explore.specs.Layers.{IsFirstBreak}
 use Rattle.i3c_explore.specs.Orders.{Breaks, IsDetermined, IsExclusive, IsOrder, IsPrefix, Leads}
-use Rattle.i3c_explore.specs.Parts.{BeginsIn, Part, fork}
-use Rattle.i3c_explore.proofs.Opening.{InPart, block_part, in_block, of_block}
+use Rattle.i3c_explore.specs.Parts.{BeginsIn, Part, block_part, fork}
+use Rattle.i3c_explore.proofs.Opening.{InPart, in_block, of_block}
 use Rattle.i3c_explore.proofs.Turns.{breaks_prefix}
 use Rattle.i3c_explore.proofs.Blocks.{order_prefix, whole_longest}
 use Rattle.i3c_explore.proofs.Covering.{leads_once}

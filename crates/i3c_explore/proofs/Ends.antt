@@ -7,15 +7,15 @@ use Rattle.i3c_explore.specs.declared.node.Node.{Node}
 use Rattle.i3c_explore.specs.declared.turn.Turn.{Turn}
 use Rattle.i3c_explore.specs.Counts.{IsShared, plain}
 use Rattle.i3c_explore.specs.Shares.{AreShared, IsLed, IsMeant, IsSharedNext, longer}
-use Rattle.i3c_explore.specs.Layers.{IsNextAt}
+use Rattle.i3c_explore.specs.Layers.{AreRestarted, IsNextAt}
 use Rattle.i3c_explore.specs.Numbers.{IsNumber}
 use Rattle.i3c_explore.specs.Orders.{IsPrefix, track, turns_of}
-use Rattle.i3c_explore.specs.Parts.{Part, opening, whole}
-use Rattle.i3c_explore.proofs.Opening.{InPart, in_part_before, none_in_part, opened, opened_in_part, opening_has, opens, part_at}
+use Rattle.i3c_explore.specs.Parts.{Part, opening, part_at, whole}
+use Rattle.i3c_explore.proofs.Opening.{InPart, in_part_before, none_in_part, opened, opened_in_part, opening_has, opens}
 use Rattle.i3c_explore.proofs.Lists.{get_below, get_contains}
 use Rattle.i3c_explore.proofs.Turns.{leads_prefix, prefix_before, room_for}
 use Rattle.i3c_explore.proofs.Covering.{is_track}
-use Rattle.i3c_explore.proofs.Blocks.{AreHeld, AreReached, AreRestarted, AreSome, no_more, order_prefix, prefix_whole, whole_longest}
+use Rattle.i3c_explore.proofs.Blocks.{AreHeld, AreReached, AreSome, no_more, order_prefix, prefix_whole, whole_longest}
 use Rattle.i3c_explore.proofs.Sharing.{contains_map, contains_map_from, distinct_map}
 use Rattle.i3c_explore.proofs.Counting.{by_tracks_from, in_by_tracks}
 

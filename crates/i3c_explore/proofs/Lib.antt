@@ -9,6 +9,8 @@ pub mod Owning
 pub mod Shares
 pub mod Nexts
 pub mod Following
+pub mod Running
+pub mod Layering
 pub mod Merging
 pub mod Fronts
 mod Moving

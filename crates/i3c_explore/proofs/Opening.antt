@@ -1,5 +1,5 @@
 -- Which lines orders of a part begin with.
-use Rattle.std.proofs.Common.{◌≡◌, ◌⊎◌, ◌∙◌, ◌<◌, ◌%◌, ◌==◌, ℕ, Bool, true, false, List, [], ◌∷◌, ◌++◌, Some, ap, arith, if◌then◌else◌, inl, inr, length, refl, subst, sym, eq-eqb, ne_eqb, get_or}
+use Rattle.std.proofs.Common.{◌≡◌, ◌⊎◌, ◌∙◌, ◌<◌, ◌%◌, ℕ, Bool, true, false, List, [], ◌∷◌, ◌++◌, Some, ap, arith, if◌then◌else◌, inl, inr, length, refl, subst, sym, eq-eqb, ne_eqb, get_or}
 use Rattle.std.specs.Global.{Vec}
 use Rattle.std.specs.List.{slice_get}
 use Rattle.std.proofs.Math.Nat.{mod-one}
@@ -10,7 +10,7 @@ use Rattle.i3c_explore.specs.declared.node.Node.{Node}
 use Rattle.i3c_explore.specs.declared.turn.Turn.{Turn}
 use Rattle.i3c_explore.specs.Layers.{IsNextAt, IsSuccessor}
 use Rattle.i3c_explore.specs.Orders.{IsPrefix, track, turns_of}
-use Rattle.i3c_explore.specs.Parts.{Part, begins, opening, whole}
+use Rattle.i3c_explore.specs.Parts.{Part, begins, block_part, opening, part_at, whole}
 use Rattle.i3c_explore.specs.Splits.{IsInPart}
 use Rattle.i3c_explore.proofs.Splitting.{oldest_of, turns_first}
 
@@ -45,16 +45,8 @@ plain_successor steps part tracks old new made = record {
   order = made.order;
 }
 
--- the part by which the lines after `count` turns are chosen: behind the first turn each line goes
-abbrev pub part_at : Part → ℕ → Part
-part_at part count = if count == 0 then part else whole
-
 pub part_later : (part : Part) (count : ℕ) → 0 < count → part_at part count ≡ whole
 part_later part count some = ap (λ (b : Bool). if b then part else whole) (ne_eqb count 0 (λ e. omega arith))
-
--- the part of a block's orders: only those of block `split` are parted
-abbrev pub block_part : Part → ℕ → ℕ → Part
-block_part part split index = if index == split then part else whole
 
 -- the whole has each order
 pub whole_begins : (t : ℕ) → begins whole t ≡ true

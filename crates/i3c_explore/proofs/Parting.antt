@@ -7,8 +7,8 @@ use Rattle.i3c_explore.specs.declared.node.Node.{Node}
 use Rattle.i3c_explore.specs.Numbers.{IsNumber}
 use Rattle.i3c_explore.specs.declared.turn.Turn.{Turn}
 use Rattle.i3c_explore.specs.Blocks.{AreCounted, IsShortestBreak, IsShortestInPart, PartIsCounted, block, plain_course}
-use Rattle.i3c_explore.specs.Parts.{BeginsIn, HasLine, IsOfPart, Part, busy, fork, whole}
-use Rattle.i3c_explore.proofs.Opening.{block_part, whole_has}
+use Rattle.i3c_explore.specs.Parts.{BeginsIn, HasLine, IsOfPart, Part, block_part, busy, fork, whole}
+use Rattle.i3c_explore.proofs.Opening.{whole_has}
 
 -- each course is of the whole
 begins_in_whole : (split : ℕ) (course : List (List Turn)) → BeginsIn whole split course

@@ -12,8 +12,8 @@ use Rattle.i3c_explore.specs.Counts.{AllDistinct, IsShared, plain}
 use Rattle.i3c_explore.specs.Shares.{AreShared, all_below}
 use Rattle.i3c_explore.specs.Numbers.{IsNumber, IsSum}
 use Rattle.i3c_explore.specs.Orders.{IsOrder, Leads}
-use Rattle.i3c_explore.specs.Parts.{BeginsIn, Part, fork}
-use Rattle.i3c_explore.proofs.Opening.{block_part, in_block, of_block}
+use Rattle.i3c_explore.specs.Parts.{BeginsIn, Part, block_part, fork}
+use Rattle.i3c_explore.proofs.Opening.{in_block, of_block}
 use Rattle.i3c_explore.proofs.Sharing.{contains_here, contains_map, contains_map_from, distinct_append, distinct_map}
 
 -- the sum of the numbers so far

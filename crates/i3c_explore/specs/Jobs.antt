@@ -1,7 +1,8 @@
 -- The jobs that make a layer, and the layers that they make.
-use Rattle.std.specs.Prelude.{◌≡◌, ℕ, suc, List, [], ◌∷◌, ◌++◌, IsOkAnd, Result}
+use Rattle.std.specs.Prelude.{◌≡◌, ◌+◌, ◌-◌, ℕ, suc, List, [], ◌∷◌, ◌++◌, Err, IsOkAnd, Ok, Result}
 use Rattle.i3c_explore.specs.declared.jobs.Job.{Job}
 use Rattle.i3c_explore.specs.declared.layer.Layer.{Layer}
+use Rattle.i3c_explore.specs.declared.limits.Limits.{Limits}
 use Rattle.i3c_explore.specs.declared.node.Node.{Node}
 use Rattle.i3c_explore.specs.declared.stop.Stop.{Stop}
 use Rattle.i3c_explore.specs.Layers.{ArePut}
@@ -15,6 +16,17 @@ AreJobs (job ∷ jobs) from to = (job.number ≡ from) × AreJobs jobs (suc from
 abbrev pub AreJoined : {S : Type 0} → List (Node S) → List (Result (Layer S) Stop) → List (Node S) → Type 0
 AreJoined old [] new = new ≡ old
 AreJoined {S} old (made ∷ rest) new = IsOkAnd made (λ (layer : Layer S). (mid : List (Node S)) × ArePut old layer.nodes.items mid × AreJoined mid rest new)
+
+-- the steps that jobs took, each of those with which it began
+abbrev pub steps_taken : {S : Type 0} → ℕ → List (Result (Layer S) Stop) → ℕ
+steps_taken begun [] = 0
+steps_taken begun (Ok layer ∷ rest) = (begun - layer.limits.steps) + steps_taken begun rest
+steps_taken begun (Err stop ∷ rest) = steps_taken begun rest
+
+-- what jobs left of the limits, with which each of them began
+pub record AreTaken {S : Type 0} (limits left : Limits) (made : List (Result (Layer S) Stop)) : Type 0 where
+  pub steps : left.steps + steps_taken limits.steps made ≡ limits.steps
+  pub states : left.states ≡ limits.states
 
 -- the nodes of all layers, one layer's behind the other's
 abbrev pub AreNodesOf : {S : Type 0} → List (Result (Layer S) Stop) → List (Node S) → Type 0

@@ -110,6 +110,14 @@ Holds {S} steps tracks start layer order =
 abbrev pub IsRestarted : {S : Type 0} → ℕ → Node S → Node S → Type 0
 IsRestarted count old new = (new.state ≡ old.state) × (new.order.items ≡ old.order.items) × (new.orders ≡ old.orders) × ((t : ℕ) → slice_index new.places.items t ≡ 0) × (length new.places.items ≡ count)
 
+-- each node of a layer begins a block, from the one of its index
+abbrev pub AreRestarted : {S : Type 0} → ℕ → List (Node S) → List (Node S) → Type 0
+AreRestarted {S} count starts layer = (n : Node S) (k : ℕ) → slice_get layer k ≡ Some n → (s : Node S) × (slice_get starts k ≡ Some s) × IsRestarted count s n
+
+-- a layer has the start alone, to which the order without a turn leads
+abbrev pub IsAlone : {S : Type 0} → S → List (Node S) → Type 0
+IsAlone {S} start layer = (n : Node S) × (layer ≡ n ∷ []) × (n.state ≡ start) × (n.order.items ≡ []) × (n.orders ≡ Some 1)
+
 -- the first of a part's shortest orders that break an expectation: each shorter one of the part leads on
 pub record IsFirstBreak {S L : Type 0} (steps : S → L → ℕ → S → Type 0) (breaks : S → L → ℕ → Type 0) (part : Part) (tracks : List (Vec L)) (starts : List (Node S)) (order : List Turn) : Type 0 where
   pub start : Node S

@@ -9,6 +9,7 @@ pub mod Blocks
 pub mod Stops
 pub mod Sums
 pub mod Nexts
+pub mod Runs
 pub mod Moves
 pub mod Fronts
 pub mod Owners

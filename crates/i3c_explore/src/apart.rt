@@ -1,6 +1,6 @@
-ghost use Rattle.std.specs.Prelude.{◌≡◌, ◌++◌, [], IfOk, OnOk};
+ghost use Rattle.std.specs.Prelude.{◌≡◌, ◌+◌, ◌-◌, ◌++◌, [], IfOk, OnOk};
 ghost use Rattle.i3c_explore.specs.Fronts.{nodes_left};
-ghost use Rattle.i3c_explore.specs.Jobs.{AreNodesOf};
+ghost use Rattle.i3c_explore.specs.Jobs.{AreNodesOf, AreTaken};
 
 use crate::front::Front;
 use crate::layer::{Found, Layer};
@@ -24,7 +24,10 @@ pub(crate) struct Apart<M> {
 }
 
 /// Takes the steps of a job, by the limits with which it began and those that are left to it.
-fn take_steps(limits: &mut Limits, begun: Limits, left: Limits) -> Result<(), Stop> {
+fn take_steps(limits: &mut Limits, begun: Limits, left: Limits) -> Result<(), Stop>
+    ensures steps { OnOk result (limits.new.steps + (begun.steps - left.steps) ≡ limits.old.steps) }
+    ensures states { OnOk result (limits.new.states ≡ limits.old.states) }
+{
     let steps = begun.steps.saturating_sub(left.steps);
     match limits.steps.checked_sub(steps) {
         Some(left) => {
@@ -38,7 +41,9 @@ fn take_steps(limits: &mut Limits, begun: Limits, left: Limits) -> Result<(), St
 impl<M: Machine> Apart<M> {
     /// Adds what a job found that began with these limits.
     fn add(&mut self, layer: Layer<M>, limits: Limits) -> Result<(), Stop>
-        ensures { OnOk result (nodes_left self.new.fronts.items ≡ nodes_left self.old.fronts.items ++ layer.nodes.items) }
+        ensures nodes { OnOk result (nodes_left self.new.fronts.items ≡ nodes_left self.old.fronts.items ++ layer.nodes.items) }
+        ensures steps { OnOk result (self.new.limits.steps + (limits.steps - layer.limits.steps) ≡ self.old.limits.steps) }
+        ensures states { OnOk result (self.new.limits.states ≡ self.old.limits.states) }
     {
         let Found {
             nodes,
@@ -64,7 +69,8 @@ fn room_for<M: Machine>(
     layers: &[Result<Layer<M>, Stop>],
     limits: Limits,
 ) -> Result<Apart<M>, AllocError>
-    ensures { IfOk result (λ all. all.fronts.items ≡ []) }
+    ensures fronts { IfOk result (λ all. all.fronts.items ≡ []) }
+    ensures limits { IfOk result (λ all. all.limits ≡ limits) }
 {
     let mut spares = 0usize;
     for made in layers {
@@ -86,7 +92,8 @@ pub(crate) fn kept_apart<M: Machine>(
     layers: Vec<Result<Layer<M>, Stop>>,
     limits: Limits,
 ) -> Result<Apart<M>, Stop>
-    ensures { IfOk result (λ all. AreNodesOf layers.items (nodes_left all.fronts.items)) }
+    ensures nodes { IfOk result (λ all. AreNodesOf layers.items (nodes_left all.fronts.items)) }
+    ensures taken { IfOk result (λ all. AreTaken limits all.limits layers.items) }
 {
     let mut all = room_for(alloc, &layers, limits)?;
     for made in layers {

@@ -1,4 +1,4 @@
-ghost use Rattle.std.specs.Prelude.{◌≡◌, ◌<◌, ◌++◌, ◌⊎◌, ◌↔◌, ℕ, IfErr, IfOk, IsTrue, OnOk, List, Some, Contains, length, reverse, slice_get};
+ghost use Rattle.std.specs.Prelude.{◌≡◌, ◌+◌, ◌<◌, ◌≤◌, ◌++◌, ◌⊎◌, ◌↔◌, ℕ, IfErr, IfOk, IsTrue, OnOk, List, Some, Contains, length, reverse, slice_get};
 ghost use Rattle.std.specs.Global.{Vec as VecValue};
 ghost use Rattle.i3c_explore.specs.declared.node.Node.{Node as NodeValue};
 ghost use Rattle.i3c_explore.specs.declared.stop.Stop.{Stop as StopValue};
@@ -9,6 +9,7 @@ ghost use Rattle.i3c_explore.specs.Layers.{IsFirstBreak, IsRestarted};
 ghost use Rattle.i3c_explore.specs.Nexts.{ArePlaced, BreaksNext, FollowsAll};
 ghost use Rattle.i3c_explore.specs.Orders.{IsOrder, IsPrefix, Leads};
 ghost use Rattle.i3c_explore.specs.Parts.{HasLine, whole};
+ghost use Rattle.i3c_explore.specs.Runs.{IsBlockRun, IsWithin, runs_behind};
 ghost use Rattle.i3c_explore.specs.Splits.{IsInPart};
 
 use crate::layer::{Handed, Layer};
@@ -86,9 +87,12 @@ pub(crate) fn explore_block<
     requires accepts { (layer : _) (limits : _) (lines : _) (opening : _) (runner : _) (spares : _) → ArePlaced layer.now lines.now → F.pre next_layer.now layer limits lines opening runner spares }
     requires next { (layer : _) (limits : _) (lines : _) (opening : _) (runner : _) (spares : _) (made : _) (after : _) → F.post next_layer.now layer limits lines opening runner spares made after
         → IfOk made (λ next. FollowsAll M.steps lines.now opening layer.now next.nodes.items) }
+    requires within { (layer : _) (limits : _) (lines : _) (opening : _) (runner : _) (spares : _) (made : _) (after : _) → F.post next_layer.now layer limits lines opening runner spares made after
+        → IfOk made (λ next. IsWithin limits next (runs_behind M.last opening lines.now layer.now)) }
     requires breaks { (layer : _) (limits : _) (lines : _) (opening : _) (runner : _) (spares : _) (made : _) (after : _) → F.post next_layer.now layer limits lines opening runner spares made after
         → IfErr made (λ stop. (order : VecValue TurnValue) → stop ≡ StopValue.Breaks order → BreaksNext M.breaks lines.now opening layer.now order.items) }
     requires begins { (part ≡ whole) ⊎ HasLine tracks.now }
+    requires narrow { length starts.nodes.items ≤ starts.limits.states }
     // every order of the part, and every beginning of one, leads on: no line breaks an expectation
     ensures all { OnOk result ((s : NodeValue M) → Contains starts.nodes.items s → (order : List TurnValue) → IsPrefix tracks.now order → IsInPart part.index part.of order → (end : M) × Leads M.steps tracks.now s.state order end) }
     // every order of the part leads to one of the ends
@@ -99,6 +103,9 @@ pub(crate) fn explore_block<
         (s : NodeValue M) × Contains starts.nodes.items s × ((turns : List TurnValue) × IsOrder tracks.now turns × IsInPart part.index part.of turns × (n.order.items ≡ s.order.items ++ reverse turns) × Leads M.steps tracks.now s.state turns n.state)) }
     // each interleaving's order in the part with each line in way 0 is counted at one of the ends, to which it leads
     ensures counted { IfOk result (λ ends. (past : ℕ → List (List (List ℕ))) → IsShared starts.nodes.items past → AreShared M.steps part tracks.now starts.nodes.items ends.nodes.items past) }
+    // the ends are reached layer by layer, and the lines that are run are taken from the steps
+    ensures run { IfOk result (λ ends. (runs : ℕ) × IsBlockRun M.steps M.last part tracks.now starts.limits.states starts.nodes.items ends.nodes.items runs × (ends.limits.steps + runs ≡ starts.limits.steps)) }
+    ensures states { IfOk result (λ ends. ends.limits.states ≡ starts.limits.states) }
     // an order of the part that is answered in place of them breaks an expectation at its last line, and no shorter one
     // does
     ensures broken { IfErr result (λ stop. (order : VecValue TurnValue) → stop ≡ StopValue.Breaks order → IsFirstBreak M.steps M.breaks part tracks.now starts.nodes.items order.items) }

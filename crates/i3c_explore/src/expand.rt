@@ -9,6 +9,7 @@ ghost use Rattle.i3c_explore.specs.Nexts.{BreaksNext, FollowsAll, IsNextOf};
 ghost use Rattle.i3c_explore.specs.Orders.{track as lines_of};
 ghost use Rattle.i3c_explore.specs.Owners.{own};
 ghost use Rattle.i3c_explore.specs.Parts.{opening};
+ghost use Rattle.i3c_explore.specs.Runs.{IsCharged, IsWithin, runs_behind, runs_from, runs_of, ways_of};
 
 use crate::layer::Layer;
 use crate::limits::Limits;
@@ -41,6 +42,7 @@ fn run<M: Machine>(
     ensures ran { OnOk result ((new : M) × M.steps node.now.state line.now turn.way new × Has next.new.nodes.items (advanced turn.track node.now.places.items) new) }
     ensures from { OnOk result ((lines : ℕ → List M.Line) → IsNextAt lines node.now.places.items turn.track line.now → AreFrom M.steps lines node.now next.old.nodes.items next.new.nodes.items) }
     ensures counted { OnOk result (Gains M.steps tracks.now node.now next.old.nodes.items next.new.nodes.items (by_turn turn)) }
+    ensures charged { OnOk result (IsCharged next.old next.new 1) }
     ensures broken { IfErr result (λ stop. (order : VecValue TurnValue) → stop ≡ StopValue.Breaks order → (lines : ℕ → List M.Line) → IsNextAt lines node.now.places.items turn.track line.now → IsBreak M.breaks lines node.now order.items) }
     ensures near { OnOk result (M.near runner.new node.now.state) }
 {
@@ -87,6 +89,7 @@ fn run_track<M: Machine>(
     ensures tracked { OnOk result (IsTracked M.steps (opening part tracks.now) track node.now next.new.nodes.items) }
     ensures from { OnOk result (AreFrom M.steps (opening part tracks.now) node.now next.old.nodes.items next.new.nodes.items) }
     ensures counted { OnOk result (Gains M.steps tracks.now node.now next.old.nodes.items next.new.nodes.items (by_track (opening part tracks.now) node.now.places.items track)) }
+    ensures charged { OnOk result (IsCharged next.old next.new (ways_of M.last node.now.state (slice_get (opening part tracks.now track) (slice_index node.now.places.items track)))) }
     ensures broken { IfErr result (λ stop. (order : VecValue TurnValue) → stop ≡ StopValue.Breaks order → IsBreak M.breaks (opening part tracks.now) node.now order.items) }
     ensures near { IfOk result (λ near. IsTrue near → M.near runner.new node.now.state) }
 {
@@ -128,6 +131,7 @@ fn take_turn<M: Machine>(
     ensures tracked { OnOk result (IsTracked M.steps (own owners.now (length tracks.now) job (opening part tracks.now) index) track node.now next.new.nodes.items) }
     ensures from { OnOk result (AreFrom M.steps (opening part tracks.now) node.now next.old.nodes.items next.new.nodes.items) }
     ensures counted { OnOk result (Gains M.steps tracks.now node.now next.old.nodes.items next.new.nodes.items (by_track (own owners.now (length tracks.now) job (opening part tracks.now) index) node.now.places.items track)) }
+    ensures charged { OnOk result (IsCharged next.old next.new (ways_of M.last node.now.state (slice_get (own owners.now (length tracks.now) job (opening part tracks.now) index track) (slice_index node.now.places.items track)))) }
     ensures broken { IfErr result (λ stop. (order : VecValue TurnValue) → stop ≡ StopValue.Breaks order → IsBreak M.breaks (opening part tracks.now) node.now order.items) }
     ensures near { IfOk result (λ near. IsTrue near → M.near runner.new node.now.state) }
 {
@@ -159,6 +163,7 @@ fn expand<M: Machine>(
     ensures expanded { OnOk result (IsExpanded M.steps (own owners.now (length tracks.now) job (opening part tracks.now) index) (length tracks.now) node.now next.new.nodes.items) }
     ensures from { OnOk result (AreFrom M.steps (opening part tracks.now) node.now next.old.nodes.items next.new.nodes.items) }
     ensures counted { OnOk result (Gains M.steps tracks.now node.now next.old.nodes.items next.new.nodes.items (by_tracks (own owners.now (length tracks.now) job (opening part tracks.now) index) node.now.places.items (length tracks.now))) }
+    ensures charged { OnOk result (IsCharged next.old next.new (runs_of M.last (own owners.now (length tracks.now) job (opening part tracks.now) index) node.now (length tracks.now))) }
     ensures broken { IfErr result (λ stop. (order : VecValue TurnValue) → stop ≡ StopValue.Breaks order → IsBreak M.breaks (opening part tracks.now) node.now order.items) }
 {
     let mut again = false;
@@ -189,6 +194,7 @@ pub(crate) fn expand_turns<M: Machine, W: Watch>(
 ) -> Result<Layer<M>, Stop>
     requires sized { (n : NodeValue M) → Contains layer.now n → length n.places.items ≡ length tracks.now }
     ensures next { IfOk result (λ next. IsNextOf M.steps tracks.now (opening part tracks.now) (own owners.now (length tracks.now) job (opening part tracks.now)) layer.now 0 (length layer.now) next.nodes.items) }
+    ensures within { IfOk result (λ next. IsWithin limits next (runs_from M.last (own owners.now (length tracks.now) job (opening part tracks.now)) (length tracks.now) layer.now (length layer.now))) }
     ensures broken { IfErr result (λ stop. (order : VecValue TurnValue) → stop ≡ StopValue.Breaks order → BreaksNext M.breaks tracks.now part layer.now order.items) }
 {
     let mut next = Layer::new(alloc, limits);
@@ -229,6 +235,7 @@ pub(crate) fn expand_all<M: Machine, W: Watch>(
 ) -> Result<Layer<M>, Stop>
     requires sized { (n : NodeValue M) → Contains layer.now n → length n.places.items ≡ length tracks.now }
     ensures next { IfOk result (λ next. FollowsAll M.steps tracks.now part layer.now next.nodes.items) }
+    ensures within { IfOk result (λ next. IsWithin limits next (runs_behind M.last part tracks.now layer.now)) }
     ensures broken { IfErr result (λ stop. (order : VecValue TurnValue) → stop ≡ StopValue.Breaks order → BreaksNext M.breaks tracks.now part layer.now order.items) }
 {
     let owners = Owners::none(alloc);

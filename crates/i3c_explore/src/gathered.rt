@@ -27,7 +27,8 @@ pub(crate) struct Gathered<M> {
 impl<M: Machine> Gathered<M> {
     /// Adds the nodes of a job, none of which was taken yet.
     fn add(&mut self, front: Front<M>) -> Result<(), AllocError>
-        ensures { OnOk result (self.new.nodes.items ≡ self.old.nodes.items ++ front.nodes.items) }
+        ensures nodes { OnOk result (self.new.nodes.items ≡ self.old.nodes.items ++ front.nodes.items) }
+        ensures limits { OnOk result (self.new.limits ≡ self.old.limits) }
     {
         let Front {
             nodes,
@@ -46,7 +47,8 @@ impl<M: Machine> Gathered<M> {
 
 /// The nodes of all jobs, one job's behind the other's.
 pub(crate) fn gather<M: Machine>(alloc: Global, all: Apart<M>) -> Result<Gathered<M>, AllocError>
-    ensures { IfOk result (λ gathered. gathered.nodes.items ≡ nodes_left all.fronts.items) }
+    ensures nodes { IfOk result (λ gathered. gathered.nodes.items ≡ nodes_left all.fronts.items) }
+    ensures limits { IfOk result (λ gathered. gathered.limits ≡ all.limits) }
 {
     let Apart {
         fronts,

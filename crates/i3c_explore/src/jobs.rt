@@ -6,6 +6,7 @@ ghost use Rattle.i3c_explore.specs.Nexts.{ArePlaced, BreaksNext, FollowsAll, IsN
 ghost use Rattle.i3c_explore.specs.Parts.{opening};
 ghost use Rattle.i3c_explore.specs.Jobs.{AreJobs};
 ghost use Rattle.i3c_explore.specs.Owners.{own};
+ghost use Rattle.i3c_explore.specs.Runs.{IsWithin, runs_behind, runs_from};
 
 use crate::expand::{expand_all, expand_turns};
 use crate::layer::{Handed, Layer};
@@ -86,7 +87,8 @@ fn expand_job<M: Machine>(
     part: Part,
 ) -> Result<Layer<M>, Stop>
     requires sized { ArePlaced layer.now tracks.now }
-    ensures { IfOk result (λ next. IsNextOf M.steps tracks.now (opening part tracks.now) (own owners.now (length tracks.now) job.number (opening part tracks.now)) layer.now 0 (length layer.now) next.nodes.items) }
+    ensures next { IfOk result (λ next. IsNextOf M.steps tracks.now (opening part tracks.now) (own owners.now (length tracks.now) job.number (opening part tracks.now)) layer.now 0 (length layer.now) next.nodes.items) }
+    ensures within { IfOk result (λ next. IsWithin limits next (runs_from M.last (own owners.now (length tracks.now) job.number (opening part tracks.now)) (length tracks.now) layer.now (length layer.now))) }
 {
     let Job {
         number,
@@ -145,7 +147,8 @@ where
     M::Runner: Send,
     requires some { 0 < jobs }
     requires sized { ArePlaced layer.now tracks.now }
-    ensures { IfOk result (λ next. FollowsAll M.steps tracks.now part layer.now next.nodes.items) }
+    ensures next { IfOk result (λ next. FollowsAll M.steps tracks.now part layer.now next.nodes.items) }
+    ensures within { IfOk result (λ next. IsWithin limits next (runs_behind M.last part tracks.now layer.now)) }
 {
     ask_for_room(alloc, MOST);
     let Handed { mut spares, codes } = handed;
@@ -154,7 +157,8 @@ where
     let all = jobs_of(alloc, jobs, spares, surplus)?;
     let expand = |job: Job<M>| -> Result<Layer<M>, Stop>
         requires { ArePlaced layer.now tracks.now }
-        ensures { IfOk result (λ next. IsNextOf M.steps tracks.entry.now (opening part tracks.entry.now) (own owners (length tracks.entry.now) job.number (opening part tracks.entry.now)) layer.entry.now 0 (length layer.entry.now) next.nodes.items) }
+        ensures next { IfOk result (λ next. IsNextOf M.steps tracks.entry.now (opening part tracks.entry.now) (own owners (length tracks.entry.now) job.number (opening part tracks.entry.now)) layer.entry.now 0 (length layer.entry.now) next.nodes.items) }
+        ensures within { IfOk result (λ next. IsWithin limits next (runs_from M.last (own owners (length tracks.entry.now) job.number (opening part tracks.entry.now)) (length tracks.entry.now) layer.entry.now (length layer.entry.now))) }
     { expand_job(alloc, layer, &owners, job, limits, tracks, part) };
     let layers = map_vec(rt, all, &expand)?;
     match joined_by_jobs(rt, alloc, layers, owners.overlap, limits) {
@@ -182,6 +186,7 @@ where
     M::Runner: Send,
     requires sized { ArePlaced layer.now tracks.now }
     ensures next { IfOk result (λ next. FollowsAll M.steps tracks.now part layer.now next.nodes.items) }
+    ensures within { IfOk result (λ next. IsWithin limits next (runs_behind M.last part tracks.now layer.now)) }
     ensures broken { IfErr result (λ stop. (order : VecValue TurnValue) → stop ≡ StopValue.Breaks order → BreaksNext M.breaks tracks.now part layer.now order.items) }
 {
     let useful = jobs.min(layer.len() / FEW);

@@ -1,6 +1,7 @@
 ghost use Rattle.std.specs.Prelude.{◌≡◌, ◌<◌, ◌+◌, ◌^◌, ◌++◌, ◌∷◌, [], IfErr, IfOk, IfSome, IsTrue, OnOk, length, slice_index};
 ghost use Rattle.i3c_explore.specs.declared.node.Node.{Node as NodeValue};
 ghost use Rattle.i3c_explore.specs.Layers.{by_way, IsAlikeAt, IsMerged, IsPutBehind};
+ghost use Rattle.i3c_explore.specs.Runs.{IsCharged};
 ghost use Rattle.i3c_explore.specs.Stops.{IsShort};
 
 use crate::codes::code_of;
@@ -155,7 +156,8 @@ impl<M: Machine> Layer<M> {
 
     /// New nodes have this rank among those of all jobs, from now on.
     pub(crate) fn turn_to(&mut self, rank: usize)
-        ensures { self.new.nodes ≡ self.old.nodes }
+        ensures nodes { self.new.nodes ≡ self.old.nodes }
+        ensures limits { self.new.limits ≡ self.old.limits }
     {
         self.rank = rank;
     }
@@ -187,7 +189,8 @@ impl<M: Machine> Layer<M> {
 
     /// Notes the rank and the number of places of the next node, where they are asked for.
     fn note(&mut self, places: &Vec<usize>) -> Result<(), AllocError>
-        ensures { OnOk result (self.new.nodes ≡ self.old.nodes) }
+        ensures nodes { OnOk result (self.new.nodes ≡ self.old.nodes) }
+        ensures limits { OnOk result (self.new.limits ≡ self.old.limits) }
     {
         if self.weights.is_empty() {
             return Ok(());
@@ -199,7 +202,8 @@ impl<M: Machine> Layer<M> {
 
     /// Adds a node behind the others.
     fn push(&mut self, alloc: Global, key: u64, node: Node<M>) -> Result<(), AllocError>
-        ensures { OnOk result (self.new.nodes.items ≡ self.old.nodes.items ++ node ∷ []) }
+        ensures nodes { OnOk result (self.new.nodes.items ≡ self.old.nodes.items ++ node ∷ []) }
+        ensures limits { OnOk result (self.new.limits ≡ self.old.limits) }
     {
         self.index.add(alloc, key)?;
         self.note(&node.places)?;
@@ -219,6 +223,7 @@ impl<M: Machine> Layer<M> {
         requires within { turn.track < length node.now.places.items }
         requires fits { slice_index node.now.places.items turn.track + 1 < 2 ^ 64 }
         ensures put { OnOk result (IsPutBehind self.old.nodes.items node.now turn (M.shown runner.now) self.new.nodes.items) }
+        ensures charged { OnOk result (IsCharged self.old self.new 0) }
         ensures short { IfErr result IsShort }
     {
         let room = mem::replace(&mut self.room, Vec::new(alloc));
@@ -240,7 +245,8 @@ impl<M: Machine> Layer<M> {
 
     /// What it found.
     pub(crate) fn taken_apart(self) -> Found<M>
-        ensures { result.nodes ≡ self.nodes }
+        ensures nodes { result.nodes ≡ self.nodes }
+        ensures limits { result.limits ≡ self.limits }
     {
         let Layer {
             nodes,

@@ -4,8 +4,9 @@
 //! Blocks run one after another. A line can go several ways, and goes each of them.
 //!
 //! [`explore`] answers the ends that orders lead to, or an order that breaks an expectation. Its contract is about every
-//! order, and knows none of what follows. The states after the same number of lines are kept in a layer, each with the
-//! number of its orders and the first of them. Two equal states at the same places of all tracks are one.
+//! order. Of what follows only its clause `layers` speaks. The states after the same number of lines are kept in a layer,
+//! each with the number of its orders and the first of them. Two equal states at the same places of all tracks are one.
+//! No layer has more states than the limit, and each run of a line is one step.
 //!
 //! Lines run on one runner ([`Machine::Runner`]), which comes to the state of a node and then to that which the line
 //! leads to. That is kept if it is new, in the room of a node that is done with. So a step makes no state that it doesn't

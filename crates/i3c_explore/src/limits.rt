@@ -5,7 +5,7 @@ ghost use Rattle.std.specs.Prelude.{◌≡◌, ◌+◌, ◌<◌, IsTrue, ◌↔�
 pub struct Limits {
     /// The number of lines that may be run.
     pub steps: u64,
-    /// The number of states that a layer may have.
+    /// The number of states that a layer may have. The first one has the start.
     pub states: usize,
 }
 

@@ -16,6 +16,9 @@ pub trait Machine: Sized + Drop {
     /// What a line can lead to, in a way.
     ghost steps: { Self → Self.Line → ℕ → Self → Type 0 };
 
+    /// The last way to try of a line.
+    ghost last: { Self → Self.Line → ℕ };
+
     /// A line breaks an expectation, in a way.
     ghost breaks: { Self → Self.Line → ℕ → Type 0 };
 
@@ -25,6 +28,7 @@ pub trait Machine: Sized + Drop {
 
     /// The last way to try, below 4,294,967,296. A later way leads to whatever some way up to this one leads to.
     fn last_way(&self, line: &Self::Line) -> usize
+        ensures way { result ≡ last self.now line.now }
         ensures small { result < 2 ^ 32 }
         ensures last { (way : ℕ) → (tried : ℕ) × (tried ≤ result) × ((new : Self) → steps self.now line.now tried new → steps self.now line.now way new) };
 

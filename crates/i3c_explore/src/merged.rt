@@ -1,10 +1,11 @@
-ghost use Rattle.std.specs.Prelude.{◌≡◌, ◌++◌, ◌∷◌, List, Contains, IfOk, IfSome, OnOk, Some, [], length, slice_get};
+ghost use Rattle.std.specs.Prelude.{◌≡◌, ◌≤◌, ◌++◌, ◌∷◌, List, Contains, IfOk, IfSome, OnOk, Some, [], length, slice_get};
 ghost use Rattle.i3c_explore.specs.declared.node.Node.{Node as NodeValue};
 ghost use Rattle.i3c_explore.specs.declared.twin.Twin.{Twin as TwinValue};
 ghost use Rattle.i3c_explore.specs.Fronts.{nodes_left};
 ghost use Rattle.i3c_explore.specs.Layers.{ArePut, IsAlikeAt, IsPut};
-ghost use Rattle.i3c_explore.specs.Jobs.{AreJoined};
+ghost use Rattle.i3c_explore.specs.Jobs.{AreJoined, AreTaken};
 ghost use Rattle.i3c_explore.specs.Moves.{AreMoved};
+ghost use Rattle.i3c_explore.specs.Runs.{IsCharged, IsWithin};
 ghost use Rattle.i3c_explore.specs.Twins.{AllTwins};
 
 use crate::apart::{Apart, kept_apart};
@@ -38,7 +39,8 @@ fn push_behind<M: Machine>(
     node: Node<M>,
     rank: usize,
 ) -> Result<(), AllocError>
-    ensures { OnOk result (layer.new.nodes.items ≡ layer.old.nodes.items ++ node ∷ []) }
+    ensures nodes { OnOk result (layer.new.nodes.items ≡ layer.old.nodes.items ++ node ∷ []) }
+    ensures limits { OnOk result (layer.new.limits ≡ layer.old.limits) }
 {
     layer.ranks.push(rank)?;
     layer.nodes.push(node)?;
@@ -71,6 +73,7 @@ fn put_at<M: Machine>(
 ) -> Result<usize, Stop>
     requires { IfSome place (λ place. IsAlikeAt layer.old.nodes.items place node.places.items node.state) }
     ensures put { OnOk result (IsPut layer.old.nodes.items node layer.new.nodes.items) }
+    ensures charged { OnOk result (IsCharged layer.old layer.new 0) }
     ensures at { IfOk result (λ place. IsAlikeAt layer.new.nodes.items place node.places.items node.state) }
 {
     if let Some(place) = place {
@@ -96,7 +99,8 @@ fn merged<M: Machine>(
     limits: Limits,
 ) -> Result<Layer<M>, Stop>
     requires { AllTwins nodes.items twins.now }
-    ensures { IfOk result (λ layer. ArePut [] nodes.items layer.nodes.items) }
+    ensures put { IfOk result (λ layer. ArePut [] nodes.items layer.nodes.items) }
+    ensures within { IfOk result (λ layer. IsWithin limits layer 0) }
 {
     let mut layer = Layer::new(alloc, limits);
     layer.spares = spares;
@@ -129,7 +133,9 @@ pub(crate) fn joined_by_jobs<R: Threads + Sync, M: Machine + Send + Sync>(
 where
     M::Line: Sync,
     M::Runner: Send,
-    ensures { IfOk result (λ both. (joined : List (NodeValue M)) × AreJoined [] layers.items joined × AreMoved joined both.nodes.items) }
+    ensures joined { IfOk result (λ both. (joined : List (NodeValue M)) × AreJoined [] layers.items joined × AreMoved joined both.nodes.items) }
+    ensures taken { IfOk result (λ both. AreTaken limits both.limits layers.items) }
+    ensures narrow { IfOk result (λ both. length both.nodes.items ≤ limits.states) }
 {
     let all = match kept_apart(alloc, layers, limits) {
         Ok(all) => all,
@@ -144,7 +150,8 @@ where
 
 /// What all jobs found, as one layer, where no lines of two jobs lead to the same places.
 fn joined<M: Machine>(alloc: Global, all: Apart<M>) -> Result<Layer<M>, Stop>
-    ensures { IfOk result (λ both. (put : List (NodeValue M)) × ArePut [] (nodes_left all.fronts.items) put × AreMoved put both.nodes.items) }
+    ensures put { IfOk result (λ both. (put : List (NodeValue M)) × ArePut [] (nodes_left all.fronts.items) put × AreMoved put both.nodes.items) }
+    ensures within { IfOk result (λ both. IsWithin all.limits both 0) }
 {
     let Apart {
         fronts,
@@ -156,6 +163,10 @@ fn joined<M: Machine>(alloc: Global, all: Apart<M>) -> Result<Layer<M>, Stop>
         return Err(Stop::Most);
     }
     let Ranked { nodes, codes } = in_order(alloc, fronts, count)?;
+    // none is left uncounted
+    if nodes.len() > limits.states {
+        return Err(Stop::Most);
+    }
     let mut layer = Layer::new(alloc, limits);
     layer.nodes = nodes;
     layer.codes = codes;
@@ -172,7 +183,8 @@ fn overlapping<R: Threads + Sync, M: Machine + Send + Sync>(
 where
     M::Line: Sync,
     M::Runner: Send,
-    ensures { IfOk result (λ both. (put : List (NodeValue M)) × ArePut [] (nodes_left all.fronts.items) put × AreMoved put both.nodes.items) }
+    ensures put { IfOk result (λ both. (put : List (NodeValue M)) × ArePut [] (nodes_left all.fronts.items) put × AreMoved put both.nodes.items) }
+    ensures within { IfOk result (λ both. IsWithin all.limits both 0) }
 {
     let gathered = gather(alloc, all)?;
     let mut layer = match without_twins(rt, alloc, gathered) {
@@ -192,7 +204,8 @@ fn without_twins<R: Threads + Sync, M: Machine + Send + Sync>(
 where
     M::Line: Sync,
     M::Runner: Send,
-    ensures { IfOk result (λ layer. ArePut [] all.nodes.items layer.nodes.items) }
+    ensures put { IfOk result (λ layer. ArePut [] all.nodes.items layer.nodes.items) }
+    ensures within { IfOk result (λ layer. IsWithin all.limits layer 0) }
 {
     let Gathered {
         nodes,

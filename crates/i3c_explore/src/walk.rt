@@ -9,7 +9,9 @@ ghost use Rattle.i3c_explore.specs.Shares.{all_below};
 ghost use Rattle.i3c_explore.specs.Numbers.{IsNumber};
 ghost use Rattle.i3c_explore.specs.Nexts.{ArePlaced, BreaksNext, FollowsAll};
 ghost use Rattle.i3c_explore.specs.Orders.{IsDetermined, IsExclusive};
-ghost use Rattle.i3c_explore.specs.Parts.{IsOfPart};
+ghost use Rattle.i3c_explore.specs.Parts.{IsOfPart, whole};
+ghost use Rattle.i3c_explore.specs.Layers.{IsAlone};
+ghost use Rattle.i3c_explore.specs.Runs.{IsByLayers, IsWithin, runs_behind};
 
 use crate::block::explore_block;
 use crate::expand::expand_all;
@@ -49,7 +51,8 @@ fn total<M>(nodes: &[Node<M>]) -> Option<u64>
 
 /// The layer that has the start alone.
 fn first_layer<M: Machine>(alloc: Global, start: M, limits: Limits) -> Result<Layer<M>, AllocError>
-    ensures { IfOk result (λ layer. (n : NodeValue M) × (layer.nodes.items ≡ n ∷ []) × (n.state ≡ start) × (n.order.items ≡ []) × (n.orders ≡ Some 1)) }
+    ensures alone { IfOk result (λ layer. IsAlone start layer.nodes.items) }
+    ensures limits { IfOk result (λ layer. layer.limits ≡ limits) }
 {
     let mut layer = Layer::new(alloc, limits);
     layer.nodes.push(Node {
@@ -102,6 +105,11 @@ pub fn explore<M: Machine>(
         (course : List (List TurnValue)) × IsWhole blocks.now course × (n.order.items ≡ reverse (turns course)) × LeadsOn M.steps blocks.now start course n.state) }
     // the interleavings are counted, all together and at the ends to which they lead
     ensures counted { IfOk result (λ found. AreCounted M.steps blocks.now start found.ends.items found.orders) }
+    // the ends are reached layer by layer from the start alone: no layer has more states than the limits allow, and the
+    // steps are the lines that were run from the states of all layers, each in each of its ways
+    ensures layers { IfOk result (λ found. IsByLayers M.steps M.last whole blocks.now start limits.states found.ends.items found.steps) }
+    // no more ends are told than the limits allow states
+    ensures states { IfOk result (λ found. length found.ends.items ≤ limits.states) }
     // no more lines were run than the limits allow
     ensures within { IfOk result (λ found. found.steps ≤ limits.steps) }
     // an order that is answered in place of them breaks an expectation at its last line, and no shorter one does
@@ -141,6 +149,11 @@ pub fn explore_part<M: Machine>(
         (course : List (List TurnValue)) × IsWhole blocks.now course × IsOfPart part blocks.now course × (n.order.items ≡ reverse (turns course)) × LeadsOn M.steps blocks.now start course n.state) }
     // the part's interleavings are counted, all together and at the ends to which they lead
     ensures counted { IfOk result (λ found. PartIsCounted M.steps part blocks.now start found.ends.items found.orders) }
+    // the ends are reached layer by layer from the start alone: no layer has more states than the limits allow, and the
+    // steps are the lines that were run from the states of all layers, each in each of its ways
+    ensures layers { IfOk result (λ found. IsByLayers M.steps M.last part blocks.now start limits.states found.ends.items found.steps) }
+    // no more ends are told than the limits allow states
+    ensures states { IfOk result (λ found. length found.ends.items ≤ limits.states) }
     // no more lines were run than the limits allow
     ensures within { IfOk result (λ found. found.steps ≤ limits.steps) }
     // an order of the part that is answered in place of them breaks an expectation at its last line, and no shorter one
@@ -157,6 +170,7 @@ pub fn explore_part<M: Machine>(
     >], opening: Part, runner: &mut M::Runner, handed: Handed<M>| -> Result<Layer<M>, Stop>
         requires { ArePlaced layer.now tracks.now }
         ensures next { IfOk result (λ next. FollowsAll M.steps tracks.now opening layer.now next.nodes.items) }
+        ensures within { IfOk result (λ next. IsWithin limits next (runs_behind M.last opening tracks.now layer.now)) }
         ensures broken { IfErr result (λ stop. (order : VecValue TurnValue) → stop ≡ StopValue.Breaks order → BreaksNext M.breaks tracks.now opening layer.now order.items) }
     {
         let Handed { spares, codes: _ } = handed;
@@ -206,6 +220,11 @@ where
         (course : List (List TurnValue)) × IsWhole blocks.now course × IsOfPart part blocks.now course × (n.order.items ≡ reverse (turns course)) × LeadsOn M.steps blocks.now start course n.state) }
     // the part's interleavings are counted, all together and at the ends to which they lead
     ensures counted { IfOk result (λ found. PartIsCounted M.steps part blocks.now start found.ends.items found.orders) }
+    // the ends are reached layer by layer from the start alone: no layer has more states than the limits allow, and the
+    // steps are the lines that were run from the states of all layers, each in each of its ways
+    ensures layers { IfOk result (λ found. IsByLayers M.steps M.last part blocks.now start limits.states found.ends.items found.steps) }
+    // no more ends are told than the limits allow states
+    ensures states { IfOk result (λ found. length found.ends.items ≤ limits.states) }
     // no more lines were run than the limits allow
     ensures within { IfOk result (λ found. found.steps ≤ limits.steps) }
     // an order of the part that is answered in place of them breaks an expectation at its last line, and no shorter one
@@ -222,6 +241,7 @@ where
     >], opening: Part, runner: &mut M::Runner, handed: Handed<M>| -> Result<Layer<M>, Stop>
         requires { ArePlaced layer.now tracks.now }
         ensures next { IfOk result (λ next. FollowsAll M.steps tracks.now opening layer.now next.nodes.items) }
+        ensures within { IfOk result (λ next. IsWithin limits next (runs_behind M.last opening tracks.now layer.now)) }
         ensures broken { IfErr result (λ stop. (order : VecValue TurnValue) → stop ≡ StopValue.Breaks order → BreaksNext M.breaks tracks.now opening layer.now order.items) }
     {
         match next_by_jobs(
@@ -261,6 +281,8 @@ fn explore_by<
     requires accepts { (layer : _) (limits : _) (lines : _) (opening : _) (runner : _) (spares : _) → ArePlaced layer.now lines.now → F.pre next_layer.now layer limits lines opening runner spares }
     requires next { (layer : _) (limits : _) (lines : _) (opening : _) (runner : _) (spares : _) (made : _) (after : _) → F.post next_layer.now layer limits lines opening runner spares made after
         → IfOk made (λ next. FollowsAll M.steps lines.now opening layer.now next.nodes.items) }
+    requires within { (layer : _) (limits : _) (lines : _) (opening : _) (runner : _) (spares : _) (made : _) (after : _) → F.post next_layer.now layer limits lines opening runner spares made after
+        → IfOk made (λ next. IsWithin limits next (runs_behind M.last opening lines.now layer.now)) }
     requires breaks { (layer : _) (limits : _) (lines : _) (opening : _) (runner : _) (spares : _) (made : _) (after : _) → F.post next_layer.now layer limits lines opening runner spares made after
         → IfErr made (λ stop. (order : VecValue TurnValue) → stop ≡ StopValue.Breaks order → BreaksNext M.breaks lines.now opening layer.now order.items) }
     // every order of the part, and every beginning of one, leads on: no line breaks an expectation
@@ -278,6 +300,11 @@ fn explore_by<
         (course : List (List TurnValue)) × IsWhole blocks.now course × IsOfPart part blocks.now course × (n.order.items ≡ reverse (turns course)) × LeadsOn M.steps blocks.now start course n.state) }
     // the part's interleavings are counted, all together and at the ends to which they lead
     ensures counted { IfOk result (λ found. PartIsCounted M.steps part blocks.now start found.ends.items found.orders) }
+    // the ends are reached layer by layer from the start alone: no layer has more states than the limits allow, and the
+    // steps are the lines that were run from the states of all layers, each in each of its ways
+    ensures layers { IfOk result (λ found. IsByLayers M.steps M.last part blocks.now start limits.states found.ends.items found.steps) }
+    // no more ends are told than the limits allow states
+    ensures states { IfOk result (λ found. length found.ends.items ≤ limits.states) }
     // no more lines were run than the limits allow
     ensures within { IfOk result (λ found. found.steps ≤ limits.steps) }
     // an order of the part that is answered in place of them breaks an expectation at its last line, and no shorter one
@@ -287,6 +314,9 @@ fn explore_by<
     let split = fork(blocks);
     if !part.has_orders(split, blocks.len()) {
         return Ok(nothing(alloc));
+    }
+    if limits.states == 0 {
+        return Err(Stop::Most);
     }
     let mut runner = start.runner(alloc)?;
     let mut layer = first_layer(alloc, start, limits)?;

@@ -12,3 +12,4 @@ pub mod PrintedLines
 pub mod PrintedForms
 pub mod CapitalLaws
 pub mod OtherCommands
+pub mod FaultLaws

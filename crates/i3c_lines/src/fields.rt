@@ -52,7 +52,7 @@ pub enum Field {
 }
 
 impl Field {
-    ghost use Rattle.i3c_lines.specs.Faults.{IsField};
+    ghost use Rattle.i3c_lines.specs.Faults.{IsField, expected, is_hexadecimal, label};
 
     /// Whether a token has this field's form.
     pub(crate) fn fits(self, token: &[u8]) -> bool
@@ -76,7 +76,9 @@ impl Field {
     }
 
     /// What the documents call it. A token that can only be one or be left out is called nothing.
-    pub(crate) fn label(self) -> &'static str {
+    pub(crate) fn label(self) -> &'static str
+        ensures { result.now ≡ label self }
+    {
         match self {
             Field::Name => "NAME",
             Field::Pid => "PID",
@@ -97,7 +99,9 @@ impl Field {
     }
 
     /// What is expected there.
-    pub(crate) fn expected(self) -> &'static str {
+    pub(crate) fn expected(self) -> &'static str
+        ensures { result.now ≡ expected self }
+    {
         match self {
             Field::Name => "1 to 16 small letters and digits",
             Field::Pid => "12 hexadecimal digits in capitals",
@@ -118,7 +122,9 @@ impl Field {
     }
 
     /// Whether its numbers are hexadecimal.
-    pub(crate) fn is_hexadecimal(self) -> bool {
+    pub(crate) fn is_hexadecimal(self) -> bool
+        ensures { result ≡ is_hexadecimal self }
+    {
         match self {
             Field::Pid
             | Field::Bcr

@@ -1,13 +1,16 @@
-ghost use Rattle.std.specs.Prelude.{◌≡◌, ◌<◌, ℕ, List, MatchOption, IfSome, length};
+ghost use Rattle.std.specs.Prelude.{◌≡◌, ◌<◌, ◌++◌, ℕ, List, All, map, MatchOption, IfSome, OnOk, codes, length};
+ghost use Rattle.i3c_lines.specs.declared.fields.Field.{Field as FieldValue};
 ghost use Rattle.i3c_lines.specs.Forms.{HasNoForm};
-ghost use Rattle.i3c_lines.specs.Faults.{IsSo};
+ghost use Rattle.i3c_lines.specs.Faults.{IsAmong, IsEither, IsFaultText, IsLesson, IsNear, IsOwnLesson, IsSo, IsTokenFault, expected, label, labelled, printed, quoted};
+ghost use Rattle.i3c_lines.specs.Parsing.{left_tokens};
+ghost use Rattle.i3c_lines.specs.Tokens.{IsDecimalDigit, IsHex};
 
 use crate::fields::Field;
 use crate::line::{LINE_LENGTH, read_line};
 use crate::names::Name;
 use crate::policies::{ALL, BUT, EXCEPTED, REFUSE_ALL, accept};
 use crate::shapes::{Shape, nearest, shape_of};
-use crate::tokens::{SPACE, Tokens, after, is_token};
+use crate::tokens::{SPACE, Tokens, after, is_decimal, is_token};
 use arrayvec::ArrayVec;
 use i3c_text::Text;
 use std::alloc::{AllocError, Global};
@@ -107,7 +110,7 @@ fn stray_byte(line: &[u8]) -> Option<FormFault<'_>>
 
 /// The first of the tokens behind a command's first that isn't as its shape has it.
 fn misfit<'a>(first: &'a [u8], shape: &Shape, tokens: &mut Tokens<'a>) -> FormFault<'a>
-    ensures { (line : List ℕ) → IsSo line result }
+    ensures { IsTokenFault first.now (left_tokens tokens.old) result }
 {
     let mut kinds = *tokens;
     for field in shape.required {
@@ -126,7 +129,7 @@ fn misfit<'a>(first: &'a [u8], shape: &Shape, tokens: &mut Tokens<'a>) -> FormFa
 
 /// The first of a policy's tokens that may not follow those before it.
 fn kind_misfit<'a>(first: &'a [u8], tokens: &mut Tokens<'a>) -> FormFault<'a>
-    ensures { (line : List ℕ) → IsSo line result }
+    ensures { IsTokenFault first.now (left_tokens tokens.old) result }
 {
     let Some(token) = tokens.next() else {
         return FormFault::Unknown(first);
@@ -155,7 +158,7 @@ fn kind_misfit<'a>(first: &'a [u8], tokens: &mut Tokens<'a>) -> FormFault<'a>
 
 /// The first of the tokens behind a policy's `all` that isn't allowed there.
 fn behind_all<'a>(first: &'a [u8], tokens: &mut Tokens<'a>) -> FormFault<'a>
-    ensures { (line : List ℕ) → IsSo line result }
+    ensures { IsTokenFault first.now (left_tokens tokens.old) result }
 {
     let Some(token) = tokens.next() else {
         return FormFault::Unknown(first);
@@ -168,7 +171,7 @@ fn behind_all<'a>(first: &'a [u8], tokens: &mut Tokens<'a>) -> FormFault<'a>
 
 /// The first of the tokens behind a policy's `but` that may not follow those before it.
 fn names_misfit<'a>(first: &'a [u8], tokens: &mut Tokens<'a>) -> FormFault<'a>
-    ensures { (line : List ℕ) → IsSo line result }
+    ensures { IsTokenFault first.now (left_tokens tokens.old) result }
 {
     let mut names = ArrayVec::new();
     while let Some(token) = tokens.next() {
@@ -184,7 +187,7 @@ fn names_misfit<'a>(first: &'a [u8], tokens: &mut Tokens<'a>) -> FormFault<'a>
 
 /// What is wrong with a name behind others, if anything is. Otherwise it joins them.
 fn misfit_among<'a>(names: &mut ArrayVec<Name, EXCEPTED>, token: &'a [u8]) -> Option<FormFault<'a>>
-    ensures { IfSome result (λ fault. (line : List ℕ) → IsSo line fault) }
+    ensures { IfSome result (λ fault. (first : List ℕ) (rest : List (List ℕ)) → IsAmong token.now rest → IsTokenFault first rest fault) }
 {
     let Some(name) = Name::parse(token) else {
         return misfit_at(Field::Name, token);
@@ -205,7 +208,7 @@ fn last_misfit<'a>(
     optional: Option<Field>,
     tokens: &mut Tokens<'a>,
 ) -> FormFault<'a>
-    ensures { (line : List ℕ) → IsSo line result }
+    ensures { IsTokenFault first.now (left_tokens tokens.old) result }
 {
     // where each token is as its shape has it, the line has a form, and nobody asks
     let Some(token) = tokens.next() else {
@@ -225,7 +228,7 @@ fn last_misfit<'a>(
 
 /// What is wrong with a field's token, if anything is.
 fn misfit_at(field: Field, token: &[u8]) -> Option<FormFault<'_>>
-    ensures { IfSome result (λ fault. (line : List ℕ) → IsSo line fault) }
+    ensures { IfSome result (λ fault. (first : List ℕ) (rest : List (List ℕ)) → IsAmong token.now rest → IsTokenFault first rest fault) }
 {
     if token.is_empty() {
         return Some(FormFault::TwoSpaces);
@@ -238,18 +241,19 @@ fn misfit_at(field: Field, token: &[u8]) -> Option<FormFault<'_>>
 
 /// A token that is one too many.
 fn surplus(token: &[u8]) -> FormFault<'_>
-    ensures { (line : List ℕ) → IsSo line result }
+    ensures { (first : List ℕ) (rest : List (List ℕ)) → IsAmong token.now rest → IsTokenFault first rest result }
 {
-    if token.is_empty() {
-        FormFault::TwoSpaces
-    } else {
-        FormFault::Surplus(token)
+    if !token.is_empty() {
+        return FormFault::Surplus(token);
     }
+    FormFault::TwoSpaces
 }
 
 impl FormFault<'_> {
     /// Appends it to a text: the token, and what was expected there.
-    pub fn push(&self, alloc: Global, text: &mut Text) -> Result<(), AllocError> {
+    pub fn push(&self, alloc: Global, text: &mut Text) -> Result<(), AllocError>
+        ensures { OnOk result ((told : List ℕ) × IsFaultText self.now told × (text.new ≡ text.old ++ told)) }
+    {
         match self {
             FormFault::TooLong => text.push(b"longer than 256 bytes"),
             FormFault::Mark => text.push(b"begins with a byte-order mark"),
@@ -261,23 +265,34 @@ impl FormFault<'_> {
             FormFault::Unknown(token) => push_unknown(alloc, token, text),
             FormFault::Missing(field) => push_missing(*field, text),
             FormFault::Misfit(field, token) => push_misfit(*field, token, text),
-            FormFault::Surplus(token) => {
-                push_quoted(token, text)?;
-                text.push(b": a word too many")
-            }
-            FormFault::Repeated(token) => {
-                push_quoted(token, text)?;
-                text.push(b": named twice")
-            }
+            FormFault::Surplus(token) => push_behind(token, b": a word too many", text),
+            FormFault::Repeated(token) => push_behind(token, b": named twice", text),
         }
     }
 }
 
-/// Appends that no command has this token, and the nearest that one has.
-fn push_unknown(alloc: Global, token: &[u8], text: &mut Text) -> Result<(), AllocError> {
+/// Appends a token between quotes, and some words.
+fn push_behind(token: &[u8], words: &[u8], text: &mut Text) -> Result<(), AllocError>
+    ensures { OnOk result (text.new ≡ text.old ++ (quoted token.now ++ words.now)) }
+{
     push_quoted(token, text)?;
-    text.push(b": no command")?;
-    match nearest(alloc, token)? {
+    text.push(words)
+}
+
+/// Appends that no command has this token, and the nearest that one has.
+fn push_unknown(alloc: Global, token: &[u8], text: &mut Text) -> Result<(), AllocError>
+    ensures { OnOk result ((near : List ℕ) × IsNear near × (text.new ≡ text.old ++ (quoted token.now ++ (codes ": no command" ++ near)))) }
+{
+    let near = nearest(alloc, token)?;
+    push_behind(token, b": no command", text)?;
+    push_near(near, text)
+}
+
+/// Appends the nearest token, if one is near.
+fn push_near(near: Option<&str>, text: &mut Text) -> Result<(), AllocError>
+    ensures { OnOk result ((told : List ℕ) × IsNear told × (text.new ≡ text.old ++ told)) }
+{
+    match near {
         Some(near) => {
             text.push(b"; the nearest is ")?;
             push_quoted(near.as_bytes(), text)
@@ -287,50 +302,133 @@ fn push_unknown(alloc: Global, token: &[u8], text: &mut Text) -> Result<(), Allo
 }
 
 /// Appends that a field's token is missing.
-fn push_missing(field: Field, text: &mut Text) -> Result<(), AllocError> {
+fn push_missing(field: Field, text: &mut Text) -> Result<(), AllocError>
+    ensures { OnOk result (text.new ≡ text.old ++ (label field ++ (codes " is missing: " ++ expected field))) }
+{
     text.push(field.label().as_bytes())?;
     text.push(b" is missing: ")?;
     text.push(field.expected().as_bytes())
 }
 
 /// Appends a field's token, and what was expected in its place.
-fn push_misfit(field: Field, token: &[u8], text: &mut Text) -> Result<(), AllocError> {
-    let label = field.label();
-    if !label.is_empty() {
-        text.push(label.as_bytes())?;
-        text.push(b" ")?;
-    }
+fn push_misfit(field: Field, token: &[u8], text: &mut Text) -> Result<(), AllocError>
+    ensures { OnOk result ((lesson : List ℕ) × IsLesson field token.now lesson × (text.new ≡ text.old ++ (labelled (label field) ++ (quoted token.now ++ (codes ": " ++ lesson))))) }
+{
+    push_label(field.label().as_bytes(), text)?;
     push_quoted(token, text)?;
     text.push(b": ")?;
     text.push(lesson(field, token).as_bytes())
 }
 
-/// What is to be learned of a token that hasn't its field's form.
-fn lesson(field: Field, token: &[u8]) -> &'static str {
-    if field.is_hexadecimal() && token.starts_with(b"0x") {
-        return "hexadecimal digits in capitals, without 0x";
+/// Appends the name of a field, if it has one.
+fn push_label(label: &[u8], text: &mut Text) -> Result<(), AllocError>
+    ensures { OnOk result (text.new ≡ text.old ++ labelled label.now) }
+{
+    match label {
+        [] => Ok(()),
+        [_, ..] => {
+            text.push(label)?;
+            text.push(b" ")
+        }
     }
+}
+
+/// What is to be learned of a token that hasn't its field's form.
+fn lesson(field: Field, token: &[u8]) -> &'static str
+    ensures { IsLesson field token.now result.now }
+{
+    if field.is_hexadecimal() && after(token, b"0x").is_some() {
+        "hexadecimal digits in capitals, without 0x"
+    } else {
+        own_lesson(field, token)
+    }
+}
+
+/// The same of a token without `0x`.
+fn own_lesson(field: Field, token: &[u8]) -> &'static str
+    ensures { IsOwnLesson field token.now result.now }
+{
     match field {
-        Field::Name if token.len() > 16 => "longer than 16 letters",
-        Field::Addr | Field::Old | Field::New if Field::Byte.fits(token) => "above 7F",
-        Field::Bit if token.iter().all(u8::is_ascii_digit) => "above 65535",
-        _ => field.expected(),
+        Field::Name => name_lesson(token),
+        Field::Addr | Field::Old | Field::New => address_lesson(token),
+        Field::Bit => bit_lesson(token),
+        Field::Pid
+        | Field::Bcr
+        | Field::Dcr
+        | Field::Lvr
+        | Field::Byte
+        | Field::Bytes
+        | Field::Count
+        | Field::Length
+        | Field::Shown
+        | Field::Place
+        | Field::Policy
+        | Field::Kind
+        | Field::Decline => field.expected(),
+    }
+}
+
+/// What is to be learned of a token that is no name.
+fn name_lesson(token: &[u8]) -> &'static str
+    ensures { IsEither (16 < length token.now) (codes "longer than 16 letters") (expected FieldValue.Name) result.now }
+{
+    if token.len() > 16 {
+        "longer than 16 letters"
+    } else {
+        Field::Name.expected()
+    }
+}
+
+/// What is to be learned of a token that is no address.
+fn address_lesson(token: &[u8]) -> &'static str
+    ensures { IsEither (IsHex 2 token.now) (codes "above 7F") (expected FieldValue.Addr) result.now }
+{
+    if Field::Byte.fits(token) {
+        "above 7F"
+    } else {
+        Field::Addr.expected()
+    }
+}
+
+/// What is to be learned of a token that is no bit.
+fn bit_lesson(token: &[u8]) -> &'static str
+    ensures { IsEither (All IsDecimalDigit token.now) (codes "above 65535") (expected FieldValue.Bit) result.now }
+{
+    if is_decimal(token) {
+        "above 65535"
+    } else {
+        Field::Bit.expected()
     }
 }
 
 /// Appends a token between quotes. What doesn't print is a question mark.
-pub fn push_quoted(token: &[u8], text: &mut Text) -> Result<(), AllocError> {
+pub fn push_quoted(token: &[u8], text: &mut Text) -> Result<(), AllocError>
+    ensures { OnOk result (text.new ≡ text.old ++ quoted token.now) }
+{
     text.push(b"'")?;
-    for byte in token {
-        text.push(&[printed(*byte)])?;
-    }
+    push_printed(token, text)?;
     text.push(b"'")
 }
 
+/// Appends bytes as they are printed.
+fn push_printed(bytes: &[u8], text: &mut Text) -> Result<(), AllocError>
+    ensures { OnOk result (text.new ≡ text.old ++ map printed bytes.now) }
+{
+    let mut rest = bytes;
+    while let [byte, more @ ..] = rest {
+        text.push(&[printed(*byte)])?;
+        rest = more;
+    }
+    Ok(())
+}
+
 /// A byte as it is printed.
-fn printed(byte: u8) -> u8 {
-    match byte {
-        b' '..=b'~' => byte,
-        _ => UNKNOWN,
+fn printed(byte: u8) -> u8
+    ensures { result ≡ printed byte }
+{
+    if byte < 32 || byte > 126 {
+        UNKNOWN
+    } else {
+        byte
     }
 }

@@ -173,7 +173,7 @@ pub fn address(token: &[u8]) -> Option<Addr7>
 }
 
 /// Whether a token is of decimal digits alone.
-fn is_decimal(token: &[u8]) -> bool
+pub(crate) fn is_decimal(token: &[u8]) -> bool
     ensures { IsTrue result ↔ All IsDecimalDigit token.now }
 {
     token.iter().all(|byte| matches!(*byte, b'0'..=b'9'))

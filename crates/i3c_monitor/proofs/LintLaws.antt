@@ -1,6 +1,7 @@
 -- What is told as a linter goes on.
 use Rattle.std.proofs.Common.{◌≡◌, ◌≤◌, ◌∙◌, ℕ, zero, suc, ◌+◌, List, [], ◌∷◌, ◌++◌, length, drop, map, Option, Some, None, Result, Ok, Err, IfOk, ap, sym, arith}
 use Rattle.std.specs.Option.{option_to_list}
+use Rattle.i3c_ccc.specs.declared.codes.CodeSet.{CodeSet}
 use Rattle.i3c_frame.specs.declared.symbols.Symbol.{Symbol}
 use Rattle.i3c_monitor.specs.declared.header.Header.{Header}
 use Rattle.i3c_monitor.specs.declared.header.Mode.{Mode}
@@ -80,7 +81,7 @@ told_on legacies frames before known faults header rest at front found =
 
 pub headed_on : (legacies : ℕ) (mode : Mode) (frames before : ℕ) (known : Known) (faults : List LintFault) (header : Header) (rest front back : List Symbol) (count : ℕ)
     (at : Mode) (found : Told) (known_then : Known) (faults_then : List LintFault) (shown : List LintLine)
-    → front ≡ behind rest → at ≡ mode_at legacies mode header front → found ≡ settled (told at header front before)
+    → front ≡ behind rest → at ≡ mode_at legacies mode header front → found ≡ settled (told CodeSet.Extended at header front before)
     → known_then ≡ learned_of before front found.decoded known → faults_then ≡ faults ++ header_faults legacies known at frames before header front found.decoded
     → shown ≡ map Shown (option_to_list found.decoded) → count ≡ count_behind rest → length front ≡ count → back ≡ drop count rest
     → told_on legacies frames before known faults header rest (mode_at legacies mode header (behind rest)) (behind rest) (told_at legacies mode header (behind rest) before)
@@ -89,7 +90,7 @@ headed_on legacies mode frames before known faults header rest front back count 
     let more = learned_of before front found.decoded known in
     let all = faults ++ header_faults legacies known at frames before header front found.decoded in
     ap (λ front. told_on legacies frames before known faults header rest (mode_at legacies mode header front) front (told_at legacies mode header front before)) (sym front_is)
-    ∙ ap (λ at. told_on legacies frames before known faults header rest at front (settled (told at header front before))) (sym at_is)
+    ∙ ap (λ at. told_on legacies frames before known faults header rest at front (settled (told CodeSet.Extended at header front before))) (sym at_is)
     ∙ ap (λ found. told_on legacies frames before known faults header rest at front found) (sym found_is)
     ∙ ap (λ lines. map Shown (option_to_list found.decoded) ++ lines) (after_behind legacies found.mode frames before more all count rest front back count_is long back_is)
     ∙ ap (λ known. map Shown (option_to_list found.decoded) ++ linted legacies found.mode frames (before + length front) known all 0 back) (sym known_is)

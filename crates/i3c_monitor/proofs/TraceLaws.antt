@@ -3,6 +3,7 @@ use Rattle.std.proofs.Common.{◌≡◌, ◌≤◌, ◌∙◌, ℕ, zero, suc, �
 use Rattle.std.proofs.lemmas.Grind.{common_steps}
 use Rattle.std.proofs.lemmas.List.Sums.{prefix_len-le-length}
 use Rattle.std.specs.Option.{option_to_list}
+use Rattle.i3c_ccc.specs.declared.codes.CodeSet.{CodeSet}
 use Rattle.i3c_frame.specs.declared.symbols.Symbol.{Symbol}
 use Rattle.i3c_monitor.specs.declared.header.Header.{Header}
 use Rattle.i3c_monitor.specs.declared.header.Mode.{Mode}
@@ -19,23 +20,23 @@ pub or_len : (symbols : List Symbol) → unwrap_or (position ends symbols) (leng
 or_len symbols = let h : count_behind symbols ≤ length symbols = behind_fits symbols in grind (arith, common_steps, h)
 
 -- the symbols behind a header that was told are passed over
-skipped : (mode : Mode) (frames before skip : ℕ) (symbols : List Symbol) → skip ≤ length symbols
-    → rest_told mode frames before skip symbols ≡ rest_told mode frames (before + skip) 0 (drop skip symbols)
-skipped mode frames before zero symbols fits = let e : before ≡ before + 0 = omega arith in ap (λ n. rest_told mode frames n 0 symbols) e
-skipped mode frames before (suc skip) [] fits = absurd (omega (arith, fits))
-skipped mode frames before (suc skip) (symbol ∷ rest) fits =
+skipped : (codes : CodeSet) (mode : Mode) (frames before skip : ℕ) (symbols : List Symbol) → skip ≤ length symbols
+    → rest_told codes mode frames before skip symbols ≡ rest_told codes mode frames (before + skip) 0 (drop skip symbols)
+skipped codes mode frames before zero symbols fits = let e : before ≡ before + 0 = omega arith in ap (λ n. rest_told codes mode frames n 0 symbols) e
+skipped codes mode frames before (suc skip) [] fits = absurd (omega (arith, fits))
+skipped codes mode frames before (suc skip) (symbol ∷ rest) fits =
     let e : before + 1 + skip ≡ before + suc skip = omega arith in
     let less : skip ≤ length rest = omega (arith, fits) in
-    skipped mode frames (before + 1) skip rest less ∙ ap (λ n. rest_told mode frames n 0 (drop skip rest)) e
+    skipped codes mode frames (before + 1) skip rest less ∙ ap (λ n. rest_told codes mode frames n 0 (drop skip rest)) e
 
-pub after_behind : (mode : Mode) (frames before count : ℕ) (rest front back : List Symbol) → count ≡ count_behind rest
+pub after_behind : (codes : CodeSet) (mode : Mode) (frames before count : ℕ) (rest front back : List Symbol) → count ≡ count_behind rest
     → length front ≡ count → back ≡ drop count rest
-    → rest_told mode frames before (count_behind rest) rest ≡ rest_told mode frames (before + length front) 0 back
-after_behind mode frames before count rest front back is front_is back_is =
-    skipped mode frames before (count_behind rest) rest (behind_fits rest)
-    ∙ ap (λ n. rest_told mode frames (before + n) 0 (drop n rest)) (sym is)
-    ∙ ap (λ rest. rest_told mode frames (before + count) 0 rest) (sym back_is)
-    ∙ ap (λ n. rest_told mode frames (before + n) 0 back) (sym front_is)
+    → rest_told codes mode frames before (count_behind rest) rest ≡ rest_told codes mode frames (before + length front) 0 back
+after_behind codes mode frames before count rest front back is front_is back_is =
+    skipped codes mode frames before (count_behind rest) rest (behind_fits rest)
+    ∙ ap (λ n. rest_told codes mode frames (before + n) 0 (drop n rest)) (sym is)
+    ∙ ap (λ rest. rest_told codes mode frames (before + count) 0 rest) (sym back_is)
+    ∙ ap (λ n. rest_told codes mode frames (before + n) 0 back) (sym front_is)
 
 -- a header that tells something, or nothing
 pub goes_on : (outcome : Result Told Fault) (found : Told) (more : Mode → List Decoded) (rest : List Decoded) → outcome ≡ Ok found
@@ -61,19 +62,19 @@ or_this None other = other
 or_this (Some header) other = header
 
 -- what is told of a header, and then
-abbrev headed : Mode → ℕ → ℕ → Header → List Symbol → List Decoded
-headed mode frames before header rest =
-    and_on (told mode header (behind rest) (before + 1)) (λ next. rest_told next frames (before + 1) (count_behind rest) rest)
+abbrev headed : CodeSet → Mode → ℕ → ℕ → Header → List Symbol → List Decoded
+headed codes mode frames before header rest =
+    and_on (told codes mode header (behind rest) (before + 1)) (λ next. rest_told codes next frames (before + 1) (count_behind rest) rest)
 
 -- what is to come where a header does
-pub header_first : (mode : Mode) (frames before : ℕ) (symbol : Symbol) (rest : List Symbol) (header : Header) → header_in symbol ≡ Some header
-    → rest_told mode frames before 0 (symbol ∷ rest) ≡ headed mode frames before header rest
+pub header_first : (codes : CodeSet) (mode : Mode) (frames before : ℕ) (symbol : Symbol) (rest : List Symbol) (header : Header) → header_in symbol ≡ Some header
+    → rest_told codes mode frames before 0 (symbol ∷ rest) ≡ headed codes mode frames before header rest
 unfolding or_this
-header_first mode frames before (Symbol.Header address read ack) rest header is = ap (λ found. headed mode frames before (or_this found header) rest) is
-header_first mode frames before Symbol.Start rest header is = unheaded header is
-header_first mode frames before Symbol.Repeated rest header is = unheaded header is
-header_first mode frames before Symbol.Stop rest header is = unheaded header is
-header_first mode frames before (Symbol.Word word) rest header is = unheaded header is
-header_first mode frames before (Symbol.Identity identity) rest header is = unheaded header is
-header_first mode frames before (Symbol.AddressByte byte ack) rest header is = unheaded header is
-header_first mode frames before (Symbol.LegacyWord byte ack) rest header is = unheaded header is
+header_first codes mode frames before (Symbol.Header address read ack) rest header is = ap (λ found. headed codes mode frames before (or_this found header) rest) is
+header_first codes mode frames before Symbol.Start rest header is = unheaded header is
+header_first codes mode frames before Symbol.Repeated rest header is = unheaded header is
+header_first codes mode frames before Symbol.Stop rest header is = unheaded header is
+header_first codes mode frames before (Symbol.Word word) rest header is = unheaded header is
+header_first codes mode frames before (Symbol.Identity identity) rest header is = unheaded header is
+header_first codes mode frames before (Symbol.AddressByte byte ack) rest header is = unheaded header is
+header_first codes mode frames before (Symbol.LegacyWord byte ack) rest header is = unheaded header is

@@ -1,10 +1,12 @@
--- The faults that a linter finds at a header, in the symbols behind it, and over a trace.
+-- The faults that a linter finds at a header, in the symbols behind it, and over a trace. A linter knows all codes by name.
 use Rattle.std.specs.Prelude.{ℕ, zero, suc, ◌+◌, ◌/◌, ◌%◌, ◌==◌, ◌&&◌, ◌||◌, Bool, true, false, not, count_ones, drop, List, [], ◌∷◌, ◌++◌, map, Option, Some, None, option_map, position, Result, Ok, Err, if◌then◌else◌}
 use Rattle.std.specs.Option.{option_and_then, option_to_list}
 use Rattle.i3c_base.specs.Sets.{is_in}
 use Rattle.i3c_base.specs.declared.datum.Datum.{Datum}
 use Rattle.i3c_base.specs.declared.datum.Direction.{Direction}
 use Rattle.i3c_ccc.specs.declared.codes.Code.{Code}
+use Rattle.i3c_ccc.specs.declared.codes.CodeSet.{CodeSet}
+use Rattle.i3c_ccc.specs.Codes.{code_among, extended}
 use Rattle.i3c_frame.specs.declared.symbols.Symbol.{Symbol}
 use Rattle.i3c_monitor.specs.declared.decoded.Decoded.{Decoded}
 use Rattle.i3c_monitor.specs.declared.decoded.Direct.{Direct}
@@ -17,7 +19,7 @@ use Rattle.i3c_monitor.specs.declared.known.Owner.{Owner}
 use Rattle.i3c_monitor.specs.declared.lint_fault.Breach.{Breach}
 use Rattle.i3c_monitor.specs.declared.lint_fault.LintFault.{LintFault}
 use Rattle.i3c_monitor.specs.Known.{dynamic_in, forgotten, learned_of, present, status_of}
-use Rattle.i3c_monitor.specs.Told.{code_at, told}
+use Rattle.i3c_monitor.specs.Told.{told}
 use Rattle.i3c_monitor.specs.Trace.{behind, count_behind}
 
 -- a word, with a T bit or of a legacy target
@@ -58,7 +60,7 @@ settled (Err fault) = record { decoded = Some (Decoded.Refused fault); mode = Mo
 
 -- the same with what was told before
 abbrev pub told_at : ℕ → Mode → Header → List Symbol → ℕ → Told
-told_at legacies mode header symbols number = settled (told (mode_at legacies mode header symbols) header symbols number)
+told_at legacies mode header symbols number = settled (told CodeSet.Extended (mode_at legacies mode header symbols) header symbols number)
 
 -- a fault at the symbol of this number
 abbrev pub fault_at : ℕ → ℕ → Breach → LintFault
@@ -186,7 +188,7 @@ words_taken _ = Some 0
 
 -- how many symbols follow 7E/W, its code counted
 abbrev pub code_takes : List Symbol → Option ℕ
-code_takes (Symbol.Word word ∷ rest) = option_map (λ n. n + 1) (words_taken (code_at word.byte))
+code_takes (Symbol.Word word ∷ rest) = option_map (λ n. n + 1) (words_taken (code_among extended word.byte))
 code_takes _ = None
 
 -- how many follow a header of a command: its byte, a length, or a round's identity and address byte

@@ -1,9 +1,11 @@
--- What a header and the symbols behind it tell, by the frame's mode.
+-- What a header and the symbols behind it tell, by the frame's mode, where `codes` are the codes that are known by name.
 use Rattle.std.specs.Prelude.{ℕ, ◌+◌, Bool, true, false, ◌==◌, ◌&&◌, not, List, [], ◌∷◌, length, Option, Some, None, Result, Ok, Err, if◌then◌else◌}
 use Rattle.i3c_base.specs.declared.datum.Datum.{Datum}
 use Rattle.i3c_base.specs.declared.datum.Direction.{Direction}
 use Rattle.i3c_base.specs.declared.requests.Request.{Request}
 use Rattle.i3c_ccc.specs.declared.codes.Code.{Code}
+use Rattle.i3c_ccc.specs.declared.codes.CodeSet.{CodeSet}
+use Rattle.i3c_ccc.specs.Codes.{code_among, codes_of}
 use Rattle.i3c_frame.specs.declared.symbols.Symbol.{Symbol}
 use Rattle.i3c_monitor.specs.declared.header.Header.{Header}
 use Rattle.i3c_monitor.specs.declared.header.Mode.{Mode}
@@ -97,33 +99,11 @@ command_of (Code.SetLengthDirect way) symbols before = Ok (nothing (Mode.Length 
 command_of (Code.Get what) symbols before = Ok (nothing (Mode.Get what))
 command_of (Code.Other byte) symbols before = one Mode.Skipped (Decoded.Other byte)
 
--- the code of a byte that asks for a datum, or isn't known
-abbrev pub asking_at : ℕ → Code
-asking_at byte =
-    if byte == 0x8B then Code.Get Datum.WriteLength else if byte == 0x8C then Code.Get Datum.ReadLength
-    else if byte == 0x8D then Code.Get Datum.Pid else if byte == 0x8E then Code.Get Datum.Bcr else if byte == 0x8F then Code.Get Datum.Dcr
-    else if byte == 0x90 then Code.Get Datum.Status else if byte == 0x94 then Code.Get Datum.Speed
-    else if byte == 0x95 then Code.Get Datum.Capabilities else Code.Other byte
-
--- the code of a byte that sets a maximum length, or asks, or isn't known
-abbrev pub length_at : ℕ → Code
-length_at byte =
-    if byte == 0x09 then Code.SetLength Direction.Write else if byte == 0x0A then Code.SetLength Direction.Read
-    else if byte == 0x89 then Code.SetLengthDirect Direction.Write else if byte == 0x8A then Code.SetLengthDirect Direction.Read
-    else asking_at byte
-
--- the code of a byte
-abbrev pub code_at : ℕ → Code
-code_at byte =
-    if byte == 0x00 then Code.Enec else if byte == 0x01 then Code.Disec else if byte == 0x06 then Code.Rstdaa
-    else if byte == 0x07 then Code.Entdaa else if byte == 0x08 then Code.Deftgts else if byte == 0x80 then Code.EnecDirect
-    else if byte == 0x81 then Code.DisecDirect else if byte == 0x87 then Code.Setdasa else if byte == 0x88 then Code.Setnewda
-    else if byte == 0x91 then Code.Getacccr else length_at byte
-
 -- the command behind `7E`/W
-abbrev pub code_of : List Symbol → ℕ → Result Told Fault
-code_of [] before = Ok (nothing Mode.Plain)
-code_of (symbol ∷ rest) before = go_on (written_byte (symbol ∷ rest) before) (λ byte. command_of (code_at byte) rest (before + 1))
+abbrev pub code_of : CodeSet → List Symbol → ℕ → Result Told Fault
+code_of codes [] before = Ok (nothing Mode.Plain)
+code_of codes (symbol ∷ rest) before =
+    go_on (written_byte (symbol ∷ rest) before) (λ byte. command_of (code_among (codes_of codes) byte) rest (before + 1))
 
 -- a header that heads no command
 abbrev pub other_told : Mode → Header → List Symbol → ℕ → Result Told Fault
@@ -138,8 +118,8 @@ other_told Mode.Rounds header symbols before =
 other_told Mode.Skipped header symbols before = Ok (nothing Mode.Skipped)
 
 -- what a header tells: 7E/W heads a command, unless the rest of the frame is skipped
-abbrev pub told : Mode → Header → List Symbol → ℕ → Result Told Fault
-told Mode.Skipped header symbols before = Ok (nothing Mode.Skipped)
-told mode header symbols before =
-    if (header.address == 0x7E) && not header.read then code_of symbols before
+abbrev pub told : CodeSet → Mode → Header → List Symbol → ℕ → Result Told Fault
+told codes Mode.Skipped header symbols before = Ok (nothing Mode.Skipped)
+told codes mode header symbols before =
+    if (header.address == 0x7E) && not header.read then code_of codes symbols before
     else other_told mode header symbols before

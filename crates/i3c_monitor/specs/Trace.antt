@@ -1,7 +1,8 @@
--- What the symbols of a trace tell.
+-- What the symbols of a trace tell, where `codes` are the codes that are known by name.
 use Rattle.std.specs.Prelude.{ℕ, zero, suc, ◌+◌, Bool, true, false, List, [], ◌∷◌, ◌++◌, Option, Some, None, Result, Ok, Err}
 use Rattle.std.specs.List.{before_first, position_or_len}
 use Rattle.std.specs.Option.{option_to_list}
+use Rattle.i3c_ccc.specs.declared.codes.CodeSet.{CodeSet}
 use Rattle.i3c_frame.specs.declared.symbols.Symbol.{Symbol}
 use Rattle.i3c_monitor.specs.declared.header.Header.{Header}
 use Rattle.i3c_monitor.specs.declared.header.Mode.{Mode}
@@ -38,26 +39,27 @@ and_on (Err fault) rest = Decoded.Refused fault ∷ []
 
 -- what the rest of a trace tells; its first `skip` symbols are behind a header that was told. `frames` and `before` count the
 -- frames and symbols before it
-abbrev pub rest_told : Mode → ℕ → ℕ → ℕ → List Symbol → List Decoded
-rest_told mode frames before skip [] = []
-rest_told mode frames before (suc skip) (symbol ∷ rest) = rest_told mode frames (before + 1) skip rest
-rest_told mode frames before zero (Symbol.Start ∷ rest) = Decoded.FrameStart (frames + 1) ∷ rest_told Mode.First (frames + 1) (before + 1) zero rest
-rest_told mode frames before zero (Symbol.Header address read ack ∷ rest) =
-    and_on (told mode (record { address = address; read = read; ack = ack }) (behind rest) (before + 1))
-    (λ next. rest_told next frames (before + 1) (count_behind rest) rest)
-rest_told mode frames before zero (symbol ∷ rest) = rest_told mode frames (before + 1) zero rest
+abbrev pub rest_told : CodeSet → Mode → ℕ → ℕ → ℕ → List Symbol → List Decoded
+rest_told codes mode frames before skip [] = []
+rest_told codes mode frames before (suc skip) (symbol ∷ rest) = rest_told codes mode frames (before + 1) skip rest
+rest_told codes mode frames before zero (Symbol.Start ∷ rest) =
+    Decoded.FrameStart (frames + 1) ∷ rest_told codes Mode.First (frames + 1) (before + 1) zero rest
+rest_told codes mode frames before zero (Symbol.Header address read ack ∷ rest) =
+    and_on (told codes mode (record { address = address; read = read; ack = ack }) (behind rest) (before + 1))
+    (λ next. rest_told codes next frames (before + 1) (count_behind rest) rest)
+rest_told codes mode frames before zero (symbol ∷ rest) = rest_told codes mode frames (before + 1) zero rest
 
 -- what all symbols of a trace tell
-abbrev pub trace_told : List Symbol → List Decoded
-trace_told symbols = rest_told Mode.Skipped 0 0 0 symbols
+abbrev pub trace_told : CodeSet → List Symbol → List Decoded
+trace_told codes symbols = rest_told codes Mode.Skipped 0 0 0 symbols
 
 -- what a monitor is still to tell
 abbrev pub to_come : Monitor → List Decoded
-to_come monitor = rest_told monitor.mode monitor.frames monitor.before 0 monitor.rest.now
+to_come monitor = rest_told monitor.codes monitor.mode monitor.frames monitor.before 0 monitor.rest.now
 
 -- the same of a monitor that has just taken this header
 abbrev pub header_told : Monitor → Header → List Decoded
 header_told monitor header =
     let rest = monitor.rest.now in
-    and_on (told monitor.mode header (behind rest) monitor.before)
-    (λ next. rest_told next monitor.frames monitor.before (count_behind rest) rest)
+    and_on (told monitor.codes monitor.mode header (behind rest) monitor.before)
+    (λ next. rest_told monitor.codes next monitor.frames monitor.before (count_behind rest) rest)

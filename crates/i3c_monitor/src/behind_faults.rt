@@ -5,7 +5,7 @@ use crate::header::{BROADCAST, Header, Mode};
 use crate::lint::{Spot, begins_with_word, fault_at, fault_if};
 use crate::lint_fault::{Breach, LintFault};
 use i3c_base::{Datum, Direction};
-use i3c_ccc::{Code, code_of};
+use i3c_ccc::{Code, extended_code_of};
 use i3c_frame::Symbol;
 use i3c_word::read_address_byte;
 
@@ -119,7 +119,7 @@ fn code_takes(symbols: &[Symbol]) -> Option<usize>
     ensures { result ≡ code_takes symbols.now }
 {
     match symbols {
-        [Symbol::Word(word), ..] => Some(words_taken(&code_of(word.byte))? + 1),
+        [Symbol::Word(word), ..] => Some(words_taken(&extended_code_of(word.byte))? + 1),
         _ => None,
     }
 }

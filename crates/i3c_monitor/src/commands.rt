@@ -5,26 +5,27 @@ ghost use Rattle.i3c_monitor.specs.Told.{code_of as code_told, command_of};
 use crate::decoded::{Decoded, Direct, Fault};
 use crate::header::{Mode, Told};
 use crate::words::{read_entries, written_byte, written_length};
-use i3c_ccc::{Code, code_of};
+use i3c_ccc::{Code, CodeSet};
 use i3c_frame::Symbol;
 use i3c_text::Stop;
 use std::alloc::Global;
 
-/// What follows `7E`/W: the code of a command, and what is read with it (I3C Basic 5.1.9.1). No symbol is no command.
-/// `before` counts the symbols of the trace before them.
+/// What follows `7E`/W: the code of a command, and what is read with it, where these codes are known by name (I3C Basic
+/// 5.1.9.1). No symbol is no command. `before` counts the symbols of the trace before them.
 #[inline(always)]
 pub(crate) fn read_code(
     alloc: Global,
+    codes: CodeSet,
     symbols: &[Symbol],
     before: usize,
 ) -> Result<Told, Stop<Fault>>
     requires { before + length symbols.now < usize.MAX }
-    ensures { Comes (code_told symbols.now before) result }
+    ensures { Comes (code_told codes symbols.now before) result }
 {
     let [_, rest @ ..] = symbols else {
         return Ok(Told::nothing(Mode::Plain));
     };
-    let code = code_of(written_byte(symbols, before)?);
+    let code = codes.code_of(written_byte(symbols, before)?);
     read_command(alloc, code, rest, before + 1)
 }
 

@@ -71,7 +71,7 @@ pub enum Decoded {
     Deftgts(usize),
     /// SETMWL or SETMRL to all, with the two bytes of its length (I3C Basic 5.1.9.3.5, 5.1.9.3.6).
     SetLength(Direction, (u8, u8)),
-    /// A code that this engine doesn't use.
+    /// A code that isn't known by name.
     Other(u8),
     /// A round: the identity that was read, the address byte, and whether it was acknowledged (I3C Basic 5.1.4.2).
     Round {

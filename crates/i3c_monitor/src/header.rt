@@ -1,4 +1,5 @@
 ghost use Rattle.std.specs.Prelude.{◌≡◌, ◌+◌, ◌<◌, length, IfOk};
+ghost use Rattle.i3c_ccc.specs.declared.codes.CodeSet.{CodeSet};
 ghost use Rattle.i3c_monitor.specs.Due.{Comes};
 ghost use Rattle.i3c_monitor.specs.Lint.{settled};
 ghost use Rattle.i3c_monitor.specs.Told.{get_of, length_of, request_of, round_of, single_byte, single_of, span_of, told, transfer_of};
@@ -7,6 +8,7 @@ use crate::commands::read_code;
 use crate::decoded::{Decoded, Direct, Fault, Span};
 use crate::words::{due_word, written_byte, written_length};
 use i3c_base::{Addr7, Datum, Direction, Request};
+use i3c_ccc::CodeSet;
 use i3c_frame::Symbol;
 use i3c_text::Stop;
 use std::alloc::{AllocError, Global};
@@ -97,22 +99,24 @@ impl Header {
     }
 }
 
-/// Decodes a header and the symbols behind it. The number is how many symbols of the trace precede them.
+/// Decodes a header and the symbols behind it, where these codes are known by name. The number is how many symbols of the
+/// trace precede them.
 #[inline(always)]
 pub(crate) fn read_header(
     alloc: Global,
+    codes: CodeSet,
     mode: &Mode,
     header: &Header,
     symbols: &[Symbol],
     before: usize,
 ) -> Result<Told, Stop<Fault>>
     requires { before + length symbols.now < usize.MAX }
-    ensures { Comes (told mode.now header.now symbols.now before) result }
+    ensures { Comes (told codes mode.now header.now symbols.now before) result }
 {
     let is_broadcast = header.address.get() == BROADCAST;
     match mode {
         Mode::Skipped => Ok(Told::nothing(Mode::Skipped)),
-        _ if is_broadcast && !header.read => read_code(alloc, symbols, before),
+        _ if is_broadcast && !header.read => read_code(alloc, codes, symbols, before),
         Mode::First => Ok(Told::one(request_of(header, symbols), Mode::Plain)),
         Mode::Plain => Ok(Told::one(transfer_of(header, symbols.len(), before), Mode::Plain)),
         Mode::Single(command) => {
@@ -135,7 +139,7 @@ pub(crate) fn read_header(
     }
 }
 
-/// The same, but a refusal is told too: the rest of its frame is skipped.
+/// The same where all codes are known by name, but a refusal is told too: the rest of its frame is skipped.
 pub(crate) fn settled_header(
     alloc: Global,
     mode: &Mode,
@@ -144,9 +148,9 @@ pub(crate) fn settled_header(
     before: usize,
 ) -> Result<Told, AllocError>
     requires { before + length symbols.now < usize.MAX }
-    ensures { IfOk result (λ found. found ≡ settled (told mode.now header.now symbols.now before)) }
+    ensures { IfOk result (λ found. found ≡ settled (told CodeSet.Extended mode.now header.now symbols.now before)) }
 {
-    match read_header(alloc, mode, header, symbols, before) {
+    match read_header(alloc, CodeSet::Extended, mode, header, symbols, before) {
         Ok(told) => Ok(told),
         Err(Stop::Refused(fault)) => Ok(Told::one(Decoded::Refused(fault), Mode::Skipped)),
         Err(Stop::Memory) => Err(AllocError),

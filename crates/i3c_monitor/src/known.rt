@@ -208,7 +208,7 @@ impl Known {
         Ok(())
     }
 
-    /// Learns from a code that this engine doesn't use.
+    /// Learns from a code that this engine doesn't know.
     fn learn_other(&mut self, byte: u8)
         ensures { self.new ≡ (if moves_addresses byte then forgotten else self.old) }
     {
@@ -276,7 +276,7 @@ fn some_owner(owner: Owner) -> Owner
     }
 }
 
-/// Whether addresses may be others' after the command of a code that this engine doesn't use.
+/// Whether addresses may be others' after the command of a code that this engine doesn't know.
 fn moves_addresses(byte: u8) -> bool
     ensures { result ≡ moves_addresses byte }
 {

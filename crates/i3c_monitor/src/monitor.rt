@@ -3,6 +3,7 @@ ghost use Rattle.std.specs.Prelude.{◌+◌, ◌^◌, ◌<◌, ◌≤◌, length
 use crate::behind::count_behind;
 use crate::decoded::Decoded;
 use crate::header::{Header, Mode, read_header};
+use i3c_ccc::CodeSet;
 use i3c_frame::Symbol;
 use i3c_text::Stop;
 use std::alloc::{AllocError, Global};
@@ -11,6 +12,8 @@ use std::alloc::{AllocError, Global};
 #[derive(Drop)]
 pub struct Monitor<'a> {
     alloc: Global,
+    /// The codes that are known by name.
+    codes: CodeSet,
     /// The symbols that aren't told yet.
     rest: &'a [Symbol],
     /// How many symbols come before the rest.
@@ -25,14 +28,23 @@ pub struct Monitor<'a> {
 impl<'a> Monitor<'a> {
     ghost use Rattle.std.specs.Prelude.{◌≡◌, ◌≤◌, [], ◌∷◌, ◌++◌, length, IfOk, None};
     ghost use Rattle.std.specs.Option.{option_to_list};
+    ghost use Rattle.i3c_ccc.specs.declared.codes.CodeSet.{CodeSet};
     ghost use Rattle.i3c_monitor.specs.Trace.{header_told, to_come, trace_told};
 
-    /// At the beginning of these symbols.
+    /// At the beginning of these symbols. The codes of the table are told by name.
     pub fn new(alloc: Global, symbols: &'a [Symbol]) -> Monitor<'a>
-        ensures { to_come result ≡ trace_told symbols.now }
+        ensures { to_come result ≡ trace_told CodeSet.Table symbols.now }
+    {
+        Monitor::knowing(alloc, CodeSet::Table, symbols)
+    }
+
+    /// At the beginning of these symbols. These codes are told by name.
+    pub fn knowing(alloc: Global, codes: CodeSet, symbols: &'a [Symbol]) -> Monitor<'a>
+        ensures { to_come result ≡ trace_told codes symbols.now }
     {
         Monitor {
             alloc,
+            codes,
             rest: symbols,
             before: 0,
             frames: 0,
@@ -87,7 +99,7 @@ impl<'a> Monitor<'a> {
         let before = self.before;
         self.rest = after;
         self.before += symbols.len();
-        match read_header(self.alloc, &self.mode, header, symbols, before) {
+        match read_header(self.alloc, self.codes, &self.mode, header, symbols, before) {
             Ok(told) => {
                 self.mode = told.mode;
                 Ok(told.decoded)

@@ -5,7 +5,7 @@ use Rattle.std.specs.Fmt.{decimal}
 use Rattle.std.specs.Io.KnownBytes.{Appends}
 use Rattle.i3c_lines.specs.declared.names.Names.{Names}
 use Rattle.i3c_streams.specs.declared.script_lines.ScriptLines.{ScriptLines}
-use Rattle.i3c_runner.specs.Checks.{Checked, ChecksPart, ChecksWhole, LineCheck, IsToldLine, LineChecked, checks_bytes, checks_out, checks_told, tells}
+use Rattle.i3c_runner.specs.Checks.{Checked, ChecksPart, ChecksWhole, LineCheck, LineChecked, checks_bytes, checks_out, checks_told, told_line, tells}
 use Rattle.i3c_streams.specs.Lines.{GivesLine, IsGivenOut, IsReadFrom, given, line_in_hand}
 use Rattle.i3c_streams.specs.Outcomes.{AppendsSome, HasNoFeed}
 use Rattle.i3c_streams.proofs.BytesRead.{none_read, script_is, unread}
@@ -124,8 +124,8 @@ tells_some [] y ys = refl
 tells_some (x ∷ xs) y ys = refl
 
 -- a line that is told counts
-pub told_counts : (number : ℕ) (told : List ℕ) → IsToldLine number told → tells told ≡ 1
-told_counts number told (reason, e) = ap tells e ∙ tells_some (decimal number) 58 (32 ∷ (reason ++ 10 ∷ []))
+pub told_counts : (number : ℕ) (reason told : List ℕ) → told ≡ told_line number reason → tells told ≡ 1
+told_counts number reason told e = ap tells e ∙ tells_some (decimal number) 58 (32 ∷ (reason ++ 10 ∷ []))
 
 -- no line was checked
 pub no_checks : (known old : Option (List ℕ)) (start : Names) → ChecksPart known old old start

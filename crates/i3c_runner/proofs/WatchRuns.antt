@@ -13,7 +13,7 @@ use Rattle.i3c_streams.specs.Lines.{GivesLine, IsGivenOut, IsReadFrom, given, li
 use Rattle.i3c_streams.specs.Outcomes.{AppendsSome}
 use Rattle.i3c_runner.specs.Scripts.{LinesLead, LineRuns, LineRun, lines_bytes, lines_out, lines_refused, run_text}
 use Rattle.i3c_runner.specs.ScriptSteps.{Progress}
-use Rattle.i3c_runner.specs.Watched.{AreFormed, EndsAt, IsFormed, LineCut, LineFails, LineRan, LineWatched, WatchedEnds, WatchedPart, WatchedWhole, echo_text, echoed, numbered, numbered_by, shown, shown_out}
+use Rattle.i3c_runner.specs.Watched.{AreFormed, EndsAt, IsFormed, IsLastReason, LineCut, LineFails, LineRan, LineWatched, WatchedEnds, WatchedPart, WatchedWhole, echo_text, echoed, numbered, numbered_by, shown, shown_out}
 use Rattle.i3c_streams.proofs.BytesRead.{none_read, script_is, unread}
 use Rattle.i3c_runner.proofs.CheckRuns.{nothing_out, some_out}
 use Rattle.i3c_runner.proofs.Gathered.{some_after}
@@ -116,7 +116,7 @@ watched_ends watching known now next old mid new reader further from c1 number (
       first = subst (λ bytes. IfSome known (λ script. bytes ++ first.0 ≡ script ++ 10 ∷ [])) (more_bytes lines run reader further so_far.bytes gives.1) first.1;
       out = subst (AppendsSome old new) (sym (shown_more watching lines 1 number run so_far.number)) (some_after old mid new (shown_out watching 1 lines) (shown watching number run) so_far.out cut.out);
     }
-watched_ends watching known now next old mid new reader further from c1 number (WatchFault.NoForm reason) so_far gives read (none, strict, same) =
+watched_ends watching known now next old mid new reader further from c1 number (WatchFault.NoForm told) so_far gives read (none, strict, why, same) =
     let lines = so_far.lines in
     let line = line_in_hand further in
     let first = first_given known next further read in
@@ -129,6 +129,7 @@ watched_ends watching known now next old mid new reader further from c1 number (
       rest = first.0;
       strict = strict;
       none = none;
+      why = subst (λ n. IsLastReason n line told) so_far.number why;
       run = so_far.run;
       formed = so_far.formed;
       first = known_split known (given further ++ first.0) (lines_bytes lines ++ (line ++ 10 ∷ first.0)) split first.1;

@@ -6,7 +6,8 @@ use Rattle.i3c_lines.specs.declared.command.Command.{Command}
 use Rattle.i3c_lines.specs.declared.names.Name.{Name}
 use Rattle.i3c_lines.specs.declared.names.Names.{Names}
 use Rattle.i3c_lines.specs.Forms.{IsCommand, IsSkipped}
-use Rattle.i3c_lines.specs.Naming.{is_same, place_named}
+use Rattle.i3c_lines.specs.Faults.{IsReason, quoted}
+use Rattle.i3c_lines.specs.Naming.{is_same, letters, place_named}
 use Rattle.i3c_lines.specs.Namings.{name_given, names_meant}
 use Rattle.i3c_streams.specs.declared.faults.ScriptFault.{ScriptFault}
 use Rattle.i3c_streams.specs.declared.tally.Tally.{Tally}
@@ -22,13 +23,22 @@ abbrev pub IsStart : Names → Type 0
 IsStart names = (name : Name) → place_named names name ≡ None
 
 -- what a line tells: its number, and why
-abbrev pub IsToldLine : ℕ → List ℕ → Type 0
-IsToldLine number told = (reason : List ℕ) × (told ≡ decimal number ++ (codes ": " ++ (reason ++ 10 ∷ [])))
+abbrev pub told_line : ℕ → List ℕ → List ℕ
+told_line number reason = decimal number ++ (codes ": " ++ (reason ++ 10 ∷ []))
 
--- a line is told if one of the names by which it means devices isn't known
+-- a line without a form is told, for the reason that it has
+abbrev pub IsFaultTold : ℕ → List ℕ → List ℕ → Type 0
+IsFaultTold number line told = (reason : List ℕ) × IsReason line reason × (told ≡ told_line number reason)
+
+-- why a line with an unknown name is told
+abbrev pub name_reason : Name → List ℕ
+name_reason name = quoted (letters name) ++ codes ": no line before it gives this name"
+
+-- a line is told for the first of the names by which it means devices that isn't known
 abbrev pub NameTold : Names → ℕ → List Name → List ℕ → Type 0
 NameTold names number [] told = told ≡ []
-NameTold names number (name ∷ rest) told = MatchOption (place_named names name) (IsToldLine number told) (λ _. NameTold names number rest told)
+NameTold names number (name ∷ rest) told =
+    MatchOption (place_named names name) (told ≡ told_line number (name_reason name)) (λ _. NameTold names number rest told)
 
 -- a name is known from now on, if a line gives one
 abbrev pub Gives : Names → Names → Option Name → Type 0
@@ -37,7 +47,7 @@ Gives old new (Some name) = (other : Name) → is_given new other ≡ (if is_sam
 
 -- what is told of one line, and the names after it: a line is told that a script may not have, and so is one that means a device by an unknown name
 abbrev pub LineChecked : Names → ℕ → List ℕ → List ℕ → Names → Type 0
-LineChecked old number line told new = (IsBad line × IsToldLine number told × (new ≡ old))
+LineChecked old number line told new = (IsBad line × IsFaultTold number line told × (new ≡ old))
     ⊎ (IsSkipped line × (told ≡ []) × (new ≡ old))
     ⊎ (IsMarked line × (told ≡ []) × (new ≡ old))
     ⊎ ((command : Command) × IsCommand line command × NameTold old number (names_meant command) told × Gives old new (name_given command))

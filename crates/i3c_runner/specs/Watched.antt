@@ -1,8 +1,9 @@
 -- What goes out of a script that is watched.
-use Rattle.std.specs.Prelude.{◌≡◌, ◌⊎◌, ℕ, ◌+◌, ◌==◌, Bool, true, false, List, [], ◌∷◌, ◌++◌, codes, min, Option, IfSome, Result, if◌then◌else◌, MatchResult}
+use Rattle.std.specs.Prelude.{◌≡◌, ◌⊎◌, ℕ, ◌+◌, ◌==◌, Bool, true, false, List, [], ◌∷◌, ◌++◌, codes, length, min, Option, IfSome, Result, if◌then◌else◌, MatchResult}
 use Rattle.std.specs.Fmt.{decimal}
 use Rattle.std.specs.Io.KnownBytes.{Appends}
 use Rattle.i3c_lines.specs.declared.refusals.Refusal.{Refusal}
+use Rattle.i3c_lines.specs.Faults.{IsReason}
 use Rattle.i3c_streams.specs.declared.tally.Tally.{Tally}
 use Rattle.i3c_streams.specs.declared.watching.Watching.{Watching}
 use Rattle.i3c_runner.specs.declared.watched.WatchFault.{WatchFault}
@@ -43,10 +44,14 @@ shown_out watching number (run ∷ rest) = shown watching number run ++ shown_ou
 abbrev pub IsFormed : Watching → List ℕ → Type 0
 IsFormed watching line = watching.strict ≡ true → IsBad line → ⊥
 
+-- why a strict run ends at a line without a form: the line's number, and the reason that it has
+abbrev pub IsLastReason : ℕ → List ℕ → List ℕ → Type 0
+IsLastReason number line told = (reason : List ℕ) × IsReason line reason × (told ≡ decimal number ++ (codes ": " ++ reason))
+
 -- what ends a strict run at a line: it has no form, or there is no memory to say so
-abbrev pub EndsAt : Watching → List ℕ → WatchFault → Type 0
-EndsAt watching line (WatchFault.Script fault) = Unit {0}
-EndsAt watching line (WatchFault.NoForm reason) = IsBad line × (watching.strict ≡ true)
+abbrev pub EndsAt : Watching → ℕ → List ℕ → WatchFault → Type 0
+EndsAt watching number line (WatchFault.Script fault) = Unit {0}
+EndsAt watching number line (WatchFault.NoForm told) = IsBad line × (watching.strict ≡ true) × IsLastReason number line told
 
 -- the same of each of these lines
 abbrev pub AreFormed : Watching → List LineRun → Type 0
@@ -83,7 +88,7 @@ pub record LineCut (watching : Watching) (number : ℕ) (line : List ℕ) (old n
 -- line has no form
 abbrev pub LineFails : Watching → ℕ → List ℕ → Option (List ℕ) → Option (List ℕ) → Progress → WatchFault → Type 0
 LineFails watching number line old new from (WatchFault.Script fault) = (new ≡ old) ⊎ LineCut watching number line old new from
-LineFails watching number line old new from (WatchFault.NoForm reason) = IsBad line × (watching.strict ≡ true) × (new ≡ old)
+LineFails watching number line old new from (WatchFault.NoForm told) = IsBad line × (watching.strict ≡ true) × IsLastReason number line told × (new ≡ old)
 
 -- the result of a line
 abbrev pub LineEndsWatched : Watching → ℕ → List ℕ → Option (List ℕ) → Option (List ℕ) → Progress → Progress → Result (Unit {0}) WatchFault → Type 0
@@ -109,14 +114,15 @@ pub record WatchedPart (watching : Watching) (known old new : Option (List ℕ))
   pub first : IfSome known (λ script. lines_bytes lines ++ rest ≡ script ++ 10 ∷ [])
   pub out : AppendsSome old new (shown_out watching 1 lines)
 
--- the lines before one without a form were run, and all that is shown of them went out
-pub record WatchedTo (watching : Watching) (known old new : Option (List ℕ)) (from : Progress) : Type 0 where
+-- the lines before one without a form were run, and all that is shown of them went out; the fault tells this line
+pub record WatchedTo (watching : Watching) (known old new : Option (List ℕ)) (from : Progress) (told : List ℕ) : Type 0 where
   pub lines : List LineRun
   pub to : Standing
   pub line : List ℕ
   pub rest : List ℕ
   pub strict : watching.strict ≡ true
   pub none : IsBad line
+  pub why : IsLastReason (1 + length lines) line told
   pub run : LinesLead from.state lines to
   pub formed : AreFormed watching lines
   pub first : IfSome known (λ script. lines_bytes lines ++ (line ++ 10 ∷ rest) ≡ script ++ 10 ∷ [])
@@ -125,7 +131,7 @@ pub record WatchedTo (watching : Watching) (known old new : Option (List ℕ)) (
 -- what ends a run early
 abbrev pub WatchedEnds : Watching → Option (List ℕ) → Option (List ℕ) → Option (List ℕ) → Progress → WatchFault → Type 0
 WatchedEnds watching known old new from (WatchFault.Script fault) = WatchedPart watching known old new from
-WatchedEnds watching known old new from (WatchFault.NoForm reason) = WatchedTo watching known old new from
+WatchedEnds watching known old new from (WatchFault.NoForm told) = WatchedTo watching known old new from told
 
 -- the result of a run
 abbrev pub RunsWatched : Watching → Option (List ℕ) → Option (List ℕ) → Option (List ℕ) → Progress → Progress → Result (Unit {0}) WatchFault → Type 0

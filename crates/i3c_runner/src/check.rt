@@ -53,7 +53,8 @@ impl Check {
     ghost use Rattle.std.specs.Prelude.{[]};
     ghost use Rattle.i3c_lines.specs.Forms.{HasNoForm};
     ghost use Rattle.i3c_runner.specs.Expecting.{IsMarked};
-    ghost use Rattle.i3c_runner.specs.Checks.{ChecksAll, Gives, IsStart, IsToldLine, LineChecked, NameTold, tells};
+    ghost use Rattle.i3c_lines.specs.Faults.{IsSo};
+    ghost use Rattle.i3c_runner.specs.Checks.{ChecksAll, Gives, IsFaultTold, IsStart, LineChecked, NameTold, name_reason, tells, told_line};
 
     /// The check before the first line.
     fn new(alloc: Global) -> Check
@@ -109,15 +110,22 @@ impl Check {
         self.text.clear();
         self.reason.clear();
         match line_fault(self.alloc, line)? {
-            Some(fault) => self.tell_fault(number, &fault),
+            Some(fault) => self.tell_fault(number, line, &fault),
             None => self.check_formed(number, line),
         }
     }
 
     /// Tells why a line has no form.
-    fn tell_fault(&mut self, number: u64, fault: &FormFault<'_>) -> Result<(), AllocError>
-        requires { self.old.text ≡ [] }
-        ensures { OnOk result (IsToldLine number self.new.text × (self.new.names ≡ self.old.names) × (min self.new.told u64.MAX ≡ min (self.old.told + 1) u64.MAX)) }
+    fn tell_fault(
+        &mut self,
+        number: u64,
+        line: &[u8],
+        fault: &FormFault<'_>,
+    ) -> Result<(), AllocError>
+        requires fresh { self.old.text ≡ [] }
+        requires silent { self.old.reason ≡ [] }
+        requires so { IsSo line.now fault.now }
+        ensures { OnOk result (IsFaultTold number line.now self.new.text × (self.new.names ≡ self.old.names) × (min self.new.told u64.MAX ≡ min (self.old.told + 1) u64.MAX)) }
     {
         fault.push(self.alloc, &mut self.reason)?;
         self.tell(number)
@@ -126,6 +134,7 @@ impl Check {
     /// Checks the names of a line that has a form. A mark means no device: a name may be that of one that is gone.
     fn check_formed(&mut self, number: u64, line: &[u8]) -> Result<(), AllocError>
         requires fresh { self.old.text ≡ [] }
+        requires silent { self.old.reason ≡ [] }
         requires formed { HasNoForm line.now → IsMarked line.now }
         ensures { OnOk result (LineChecked self.old.names number line.now self.new.text self.new.names × (min self.new.told u64.MAX ≡ min (self.old.told + tells self.new.text) u64.MAX)) }
     {
@@ -142,7 +151,8 @@ impl Check {
 
     /// Tells the first of these names that no line before gives, if there is one.
     fn check_meant(&mut self, number: u64, meant: &[Name]) -> Result<(), AllocError>
-        requires { self.old.text ≡ [] }
+        requires fresh { self.old.text ≡ [] }
+        requires silent { self.old.reason ≡ [] }
         ensures told { OnOk result (NameTold self.old.names number meant.now self.new.text × (min self.new.told u64.MAX ≡ min (self.old.told + tells self.new.text) u64.MAX)) }
         ensures names { self.new.names ≡ self.old.names }
     {
@@ -157,8 +167,9 @@ impl Check {
 
     /// Tells a name that no line before gives.
     fn tell_name(&mut self, number: u64, name: &Name) -> Result<(), AllocError>
-        requires { self.old.text ≡ [] }
-        ensures told { OnOk result (IsToldLine number self.new.text × (min self.new.told u64.MAX ≡ min (self.old.told + 1) u64.MAX)) }
+        requires fresh { self.old.text ≡ [] }
+        requires silent { self.old.reason ≡ [] }
+        ensures told { OnOk result ((self.new.text ≡ told_line number (name_reason name.now)) × (min self.new.told u64.MAX ≡ min (self.old.told + 1) u64.MAX)) }
         ensures names { self.new.names ≡ self.old.names }
     {
         push_quoted(name.as_bytes(), &mut self.reason)?;
@@ -182,7 +193,7 @@ impl Check {
     /// Prints the line that tells the reason in hand, and counts it.
     fn tell(&mut self, number: u64) -> Result<(), AllocError>
         requires { self.old.text ≡ [] }
-        ensures told { OnOk result (IsToldLine number self.new.text × (min self.new.told u64.MAX ≡ min (self.old.told + 1) u64.MAX)) }
+        ensures told { OnOk result ((self.new.text ≡ told_line number self.old.reason) × (min self.new.told u64.MAX ≡ min (self.old.told + 1) u64.MAX)) }
         ensures names { self.new.names ≡ self.old.names }
     {
         self.told = self.told.saturating_add(1);

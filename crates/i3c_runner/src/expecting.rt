@@ -1,4 +1,5 @@
 ghost use Rattle.std.specs.Prelude.{◌≡◌, ◌++◌, ◌∷◌, [], codes, IfOk, MatchOption, OnOk};
+ghost use Rattle.i3c_lines.specs.Faults.{IsSo};
 ghost use Rattle.i3c_lines.specs.Forms.{HasNoForm};
 ghost use Rattle.i3c_runner.specs.Expecting.{IsBad, IsMarked, unmet_line};
 
@@ -10,7 +11,7 @@ use std::alloc::{AllocError, Global};
 
 /// Why a script may not have a line, if it may not.
 pub(crate) fn line_fault(alloc: Global, line: &[u8]) -> Result<Option<FormFault<'_>>, AllocError>
-    ensures { IfOk result (λ fault. MatchOption fault (HasNoForm line.now → IsMarked line.now) (λ _. IsBad line.now)) }
+    ensures { IfOk result (λ fault. MatchOption fault (HasNoForm line.now → IsMarked line.now) (λ fault. IsBad line.now × IsSo line.now fault)) }
 {
     let Some(fault) = form_fault(line) else {
         return Ok(None);

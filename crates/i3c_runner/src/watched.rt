@@ -1,6 +1,7 @@
 ghost use Rattle.std.specs.Prelude.{◌≡◌, ◌+◌, ◌<◌, ◌≤◌, ◌++◌, ◌∷◌, [], ℕ, List, Ok, Err, codes, length, min, true, IfSome, OnOk, MatchOption, MatchResult};
 ghost use Rattle.std.specs.Fmt.{decimal};
 ghost use Rattle.std.specs.Io.KnownBytes.{Appends, IsAtEnd};
+ghost use Rattle.i3c_lines.specs.Faults.{IsFaultText};
 ghost use Rattle.i3c_runner.specs.Watched.{WatchedGoesOut, numbered};
 
 use crate::expecting::line_fault;
@@ -152,7 +153,7 @@ impl WatchedRun {
 
     /// Why a strict run ends at a line, if the line has no form: its number, and why.
     fn formless(&self, number: u64, line: &[u8]) -> Option<WatchFault>
-        ensures { MatchOption result (IsFormed self.now.watching line.now) (λ fault. EndsAt self.now.watching line.now fault) }
+        ensures { MatchOption result (IsFormed self.now.watching line.now) (λ fault. EndsAt self.now.watching number line.now fault) }
     {
         if !self.watching.strict {
             return None;
@@ -275,7 +276,9 @@ fn push_formless(
     number: u64,
     fault: &FormFault<'_>,
     text: &mut Text,
-) -> Result<(), AllocError> {
+) -> Result<(), AllocError>
+    ensures { OnOk result ((reason : List ℕ) × IsFaultText fault.now reason × (text.new ≡ text.old ++ (decimal number ++ (codes ": " ++ reason)))) }
+{
     text.push_decimal(number)?;
     text.push(b": ")?;
     fault.push(alloc, text)

@@ -10,4 +10,6 @@ pub use i3c_streams::{ScriptFault, ScriptLines, Tally, position_of_feed, write_o
 pub use i3c_stress::{
     Gate, MOST_DEVICES, MOST_POSTS, StressFault, StressReport, Watch, stress, stress_watched,
 };
-pub use i3c_traces::{run_explained, run_lint, run_trace};
+pub use i3c_traces::{
+    run_explained, run_explained_knowing, run_lint, run_trace, run_trace_knowing,
+};

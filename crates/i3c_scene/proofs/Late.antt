@@ -374,6 +374,11 @@ tried_of old live line way tried result held new same is ok told =
     let runs = subst (λ (s : Seen). RunsIn s line.command line.risk (tried_as old.state line.risk line.command way) t.0 new) same (subst (λ (w : Ways). RunsIn live line.command line.risk w t.0 new) is t.1) in
     (t.0, runs_tried old line.command line.risk t.0 new way runs, t.2)
 
+-- a line that ran in the ways that are tried for a way ran in that way
+pub runs_as : (old live : Seen) (line : Line) (way : ℕ) (tried : Ways) (before : Before) (new : Seen) → live ≡ old → tried ≡ tried_as old.state line.risk line.command way → RunsIn live line.command line.risk tried before new → Runs old line.command line.risk way before new
+runs_as old live line way tried before new same is runs =
+    runs_tried old line.command line.risk before new way (subst (λ (s : Seen). RunsIn s line.command line.risk (tried_as old.state line.risk line.command way) before new) same (subst (λ (w : Ways). RunsIn live line.command line.risk w before new) is runs))
+
 -- a line that was tried leads on if all that is expected holds
 pub leads_of : (old live : Seen) (line : Line) (way : ℕ) (tried : Ways) (result : Result Bool AllocError) (new : Seen) → live ≡ old → tried ≡ tried_as old.state line.risk line.command way
     → IfOk result (λ (h : Bool). (before : Before) × RunsIn live line.command line.risk tried before new × (h ≡ all_hold new before line.expectations.items))

@@ -5,6 +5,7 @@ use Rattle.i3c_base.specs.Frames.{list_bits}
 use Rattle.i3c_step.specs.declared.events.Command.{Command as Frame}
 use Rattle.i3c_lines.specs.declared.command.Command.{Command}
 use Rattle.i3c_lines.specs.declared.names.Name.{Name}
+use Rattle.i3c_scene.specs.declared.line.Line.{Line}
 use Rattle.i3c_scene.specs.declared.risk.Risk.{Risk}
 use Rattle.i3c_scene.specs.declared.ways.Ways.{Ways}
 use Rattle.i3c_scene.specs.Going.{sends}
@@ -53,6 +54,10 @@ abbrev pub latest : Seen → Risk → Option Command → ℕ
 latest old Risk.Nobody command = 0
 latest old (Risk.One name) command = last_of old command name
 latest old (Risk.Two one other) command = last_pair (max (last_of old command one) (last_of old command other))
+
+-- the same by a line's parts
+abbrev pub latest_of : Seen → Line → ℕ
+latest_of old line = latest old line.risk line.command
 
 -- the ways that are tried for a way of a line: a device that would be cut behind the frame's last bit isn't cut
 abbrev pub tried_as : State → Risk → Option Command → ℕ → Ways

@@ -3,6 +3,7 @@ pub mod Going
 pub mod Shown
 pub mod Pairs
 pub mod Trying
+pub mod Unmet
 pub mod Latest
 pub mod Near
 pub mod PlaceCodes

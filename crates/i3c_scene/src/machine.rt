@@ -13,6 +13,7 @@ use std::alloc::{AllocError, Global};
 
 impl Machine for Scene {
     ghost use Rattle.std.specs.Prelude.{◌≡◌, IfOk};
+    ghost use Rattle.i3c_scene.specs.Latest.{latest};
     ghost use Rattle.i3c_scene.specs.Near.{IsCloseTo};
     ghost use Rattle.i3c_scene.specs.Trying.{LineBreaks, LineSteps};
 
@@ -23,6 +24,8 @@ impl Machine for Scene {
     ghost shown = { λ runner. runner.live };
 
     ghost steps = { LineSteps };
+
+    ghost last = { λ scene line. latest scene line.risk line.command };
 
     ghost breaks = { LineBreaks };
 

@@ -1,6 +1,7 @@
 ghost use Rattle.std.specs.Prelude.{◌≡◌, ◌++◌, ℕ, List, IfOk, OnOk};
 ghost use Rattle.i3c_lines.specs.Naming.{legacy_names, slot_names};
 ghost use Rattle.i3c_scene.specs.Shown.{IsShown, StandFor, put_legacy, put_slot};
+ghost use Rattle.i3c_scene.specs.Unmet.{LineTells};
 
 use crate::line::{Expectation, Line};
 use crate::live::Live;
@@ -35,7 +36,7 @@ impl Scene {
     }
 
     /// Runs a line in a way, as it is tried. Where it breaks an expectation, what is there is appended to the text, and the
-    /// number of the expectation's line is answered.
+    /// number of the expectation's line is answered. Of several that it breaks, that is the first.
     ///
     /// # Errors
     ///
@@ -46,7 +47,9 @@ impl Scene {
         line: &Line,
         way: usize,
         text: &mut Text,
-    ) -> Result<Option<u64>, AllocError> {
+    ) -> Result<Option<u64>, AllocError>
+        ensures { IfOk result (λ told. (said : List ℕ) × LineTells self.now line.now way told said × (text.new ≡ text.old ++ said)) }
+    {
         let tried = self.ways_tried(line, way);
         let mut live = self.wake(alloc)?;
         live.unmet(line, tried, text)
@@ -54,12 +57,17 @@ impl Scene {
 }
 
 impl Live {
-    ghost use Rattle.std.specs.Prelude.{◌<◌, ◌^◌};
+    ghost use Rattle.std.specs.Prelude.{◌≡◌, ◌<◌, ◌++◌, ◌^◌, ℕ, List, IfOk, MatchOption, None, Some};
+    ghost use Rattle.i3c_facts.specs.declared.before.Before.{Before as BeforeValue};
+    ghost use Rattle.i3c_scene.specs.Trying.{RunsIn};
+    ghost use Rattle.i3c_scene.specs.Unmet.{IsTold, first_unmet};
 
     /// Runs a line in these ways of the devices at risk, and tells the first expectation that it breaks.
     fn unmet(&mut self, line: &Line, ways: Ways, text: &mut Text) -> Result<Option<u64>, AllocError>
         requires one { ways.one < 2 ^ 16 }
         requires other { ways.other < 2 ^ 16 }
+        ensures { IfOk result (λ told. (before : BeforeValue) × (said : List ℕ) × RunsIn self.old line.now.command line.now.risk ways before self.new
+            × IsTold self.new before line.now.expectations.items told said × (text.new ≡ text.old ++ said)) }
     {
         match self.run(line, ways) {
             Ok(before) => self.tell_unmet(&before, line.expectations.as_slice(), text),
@@ -73,16 +81,34 @@ impl Live {
         before: &Before,
         expectations: &[Expectation],
         text: &mut Text,
-    ) -> Result<Option<u64>, AllocError> {
-        for expectation in expectations {
-            if !expectation.facts.hold(self.bus(), self.known(), before) {
-                expectation
+    ) -> Result<Option<u64>, AllocError>
+        ensures { IfOk result (λ told. (said : List ℕ) × IsTold self.now before.now expectations.now told said × (text.new ≡ text.old ++ said)) }
+    {
+        match self.first_unmet(before, expectations) {
+            Some(first) => {
+                first
                     .facts
                     .push_unmet(self.bus(), self.known(), self.known(), before, text)?;
-                return Ok(Some(expectation.number));
+                Ok(Some(first.number))
             }
+            None => Ok(None),
         }
-        Ok(None)
+    }
+
+    /// The first expectation that doesn't hold.
+    fn first_unmet<'a>(
+        &self,
+        before: &Before,
+        expectations: &'a [Expectation],
+    ) -> Option<&'a Expectation>
+        ensures { MatchOption result (first_unmet self.now before.now expectations.now ≡ None) (λ one. first_unmet self.now before.now expectations.now ≡ Some one.now) }
+    {
+        let (first, rest) = expectations.split_first()?;
+        if first.facts.hold(self.bus(), self.known(), before) {
+            self.first_unmet(before, rest)
+        } else {
+            Some(first)
+        }
     }
 }
 

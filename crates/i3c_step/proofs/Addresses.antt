@@ -26,7 +26,7 @@ use Rattle.i3c_base.specs.declared.answers.Answer.{Answer}
 use Rattle.i3c_base.specs.Serve.{Frame, Serves, drives, each_driver, emptied, without_front, without_join, without_role}
 use Rattle.i3c_base.specs.Round.{IsAddressFor, Rounds, assigned, ended, hears, opened, unhearing, winner, wins}
 use Rattle.i3c_step.specs.Step.{Acts, Becomes, Step, checks, first_refusal, is_kept_for, is_pickable}
-use Rattle.i3c_step.specs.Sound.{Addresses, IsFor}
+use Rattle.i3c_step.specs.Sound.{Addresses, HasDeclared, IsFor}
 use Rattle.i3c_step.proofs.Handing.{declined, granted}
 use Rattle.i3c_step.proofs.Follows.{Follows-serves}
 use Rattle.i3c_step.proofs.Steps.{no_test, step_cases}
@@ -49,6 +49,18 @@ pub record IsRest (declared : List (Option Identity)) (e f : Entry) : Type 0 whe
   pub fixed : (x : ℕ) → f.fixed ≡ Some x → e.fixed ≡ Some x
   pub kept : (j : Identity) → f.kept ≡ Some j → (e.kept ≡ Some j) ⊎ ((x : ℕ) × (e.fixed ≡ Some x) × (declared_in declared x ≡ Some j))
 
+-- f has no other static address than e
+abbrev pub KeepsFixed : Entry → Entry → Type 0
+KeepsFixed e f = (x : ℕ) → f.fixed ≡ Some x → e.fixed ≡ Some x
+
+-- an entry with the same static address keeps it
+fixed_same : (e f : Entry) → e.fixed ≡ f.fixed → KeepsFixed e f
+fixed_same e f same x p = same ∙ p
+
+-- a static address that was declared still is
+declared_from : (declared more : List (Option Identity)) (e f : Entry) → more ≡ declared → KeepsFixed e f → HasDeclared declared e → HasDeclared more f
+declared_from declared more e f same keeps h x p = let d = h x (keeps x p) in (d.0, ap (λ ds. declared_in ds x) same ∙ d.1)
+
 pub IsRest-refl : (declared : List (Option Identity)) (e : Entry) → IsRest declared e e
 IsRest-refl declared e = record { bcr = refl; dcr = refl; fixed = λ x p. p; kept = λ j k. inl k }
 
@@ -67,7 +79,7 @@ IsPlacedFrom old s d =
 pub record NoneNew (old new : State) : Type 0 where
   pub devices : (s a : ℕ) (d : Device) → device_at new s ≡ Some d → d.address ≡ Some a → WasThere old s a d
   pub entries : (s a : ℕ) (d : Device) (e : Entry) → device_at new s ≡ Some d → d.address ≡ Some a → entry_at old a ≡ Some e → (f : Entry) × (entry_at new a ≡ Some f) × IsRest old.declared e f
-  pub given : (a : ℕ) (f : Entry) → entry_at new a ≡ Some f → (e : Entry) × (entry_at old a ≡ Some e)
+  pub given : (a : ℕ) (f : Entry) → entry_at new a ≡ Some f → (e : Entry) × (entry_at old a ≡ Some e) × KeepsFixed e f
   pub legacy : (a : ℕ) → legacy_target_at old a ≡ None → legacy_target_at new a ≡ None
   pub placed : (s : ℕ) (d : Device) → device_at new s ≡ Some d → IsPlacedFrom old s d
   pub declared : new.declared ≡ old.declared
@@ -98,6 +110,8 @@ Addresses-none_new old new n inv = record {
   undeclared = λ a f g. let e = n.given a f g in ap (λ ds. declared_in ds a) n.declared ∙ inv.undeclared a e.0 e.1;
   placed = λ s d p. placed_from old s d inv (n.placed s d p) ∙ ap (λ ds. fixed_of ds d.identity) (sym n.declared);
   lone = λ a i e. n.legacy a (inv.lone a i (ap (λ ds. declared_in ds a) (sym n.declared) ∙ e));
+  static = λ a i e. inv.static a i (ap (λ ds. declared_in ds a) (sym n.declared) ∙ e);
+  fixed = λ a f g. let e = n.given a f g in declared_from old.declared new.declared e.0 f n.declared e.2 (inv.fixed a e.0 e.1);
   long = n.long ∙ inv.long;
 }
 
@@ -137,7 +151,7 @@ pub NoneNew-from : (old new : State) → ((s a : ℕ) (d : Device) → device_at
 NoneNew-from old new devices placed given legacy declared = record {
   devices = devices;
   entries = λ s a d e p q g. (e, ap (λ places. get_or places a None) given ∙ g, IsRest-refl old.declared e);
-  given = λ a f g. (f, sym (ap (λ places. get_or places a None) given) ∙ g);
+  given = λ a f g. (f, sym (ap (λ places. get_or places a None) given) ∙ g, fixed_same f f refl);
   legacy = legacy;
   placed = placed;
   declared = declared;
@@ -416,7 +430,7 @@ record Gives (st after : State) (i : Identity) (a : ℕ) : Type 0 where
   from : (s b : ℕ) (d : Device) → device_at after s ≡ Some d → d.address ≡ Some b → ((b ≡ a) × (d.identity ≡ i)) ⊎ WasThere st s b d
   here : entry_at after a ≡ Some (kept_entry_of st.declared i)
   rest : (b : ℕ) (e : Entry) → (b ≡ a → ⊥) → entry_at st b ≡ Some e → (f : Entry) × (entry_at after b ≡ Some f) × IsRest st.declared e f
-  back : (b : ℕ) (f : Entry) → (b ≡ a → ⊥) → entry_at after b ≡ Some f → (e : Entry) × (entry_at st b ≡ Some e)
+  back : (b : ℕ) (f : Entry) → (b ≡ a → ⊥) → entry_at after b ≡ Some f → (e : Entry) × (entry_at st b ≡ Some e) × KeepsFixed e f
   placed : ArePlaced st after
   legacy : after.legacy ≡ st.legacy
   declared : after.declared ≡ st.declared
@@ -455,6 +469,13 @@ Addresses-gives st after i a suits gives inv = record {
   ];
   placed = λ s d p. placed_from st s d inv (gives.placed s d p) ∙ ap (λ ds. fixed_of ds d.identity) (sym gives.declared);
   lone = λ b j e. ap (λ places. get_or places b None) gives.legacy ∙ inv.lone b j (ap (λ ds. declared_in ds b) (sym gives.declared) ∙ e);
+  static = λ b j e. inv.static b j (ap (λ ds. declared_in ds b) (sym gives.declared) ∙ e);
+  fixed = λ b f g. elim (cases_eq b a) [
+    | inl e ↦
+        let same : kept_entry_of st.declared i ≡ f = same_Some _ f (sym gives.here ∙ (sym (ap (entry_at after) e) ∙ g)) in
+        λ x p. (i, ap (λ ds. declared_in ds x) gives.declared ∙ declared_at_fixed st.declared i x (ap (λ (k : Entry). k.fixed) same ∙ p))
+    | inr n ↦ let k = gives.back b f n g in declared_from st.declared after.declared k.0 f gives.declared k.2 (inv.fixed b k.0 k.1)
+  ];
   long = gives.long ∙ inv.long;
 }
   where
@@ -507,7 +528,7 @@ Addresses-assigned lost i a st for inv = let suits = Suits-address st i a inv fo
   from = assigned_from lost i a st;
   here = put_here st.given a (kept_entry_of st.declared i) suits.low;
   rest = λ b e n g. (e, put_other st.given a b (kept_entry_of st.declared i) suits.low n ∙ g, IsRest-refl st.declared e);
-  back = λ b f n g. (f, sym (put_other st.given a b (kept_entry_of st.declared i) suits.low n) ∙ g);
+  back = λ b f n g. (f, sym (put_other st.given a b (kept_entry_of st.declared i) suits.low n) ∙ g, fixed_same f f refl);
   placed = placed_each (λ s d. if wins lost i s d then winner a d else d) st (λ s d. IsSteady-winner (wins lost i s d) a d);
   legacy = refl;
   declared = refl;
@@ -523,11 +544,13 @@ released_rest declared (Some a) given b e g = elim (set_at given a b (option_map
   | inr h ↦ (e, h ∙ g, IsRest-refl declared e)
 ]
 
-released_back : (o : Option ℕ) (given : List (Option Entry)) (b : ℕ) (f : Entry) → entry_in (released_at o given) b ≡ Some f → (e : Entry) × (entry_in given b ≡ Some e)
-released_back None given b f g = (f, g)
+released_back : (o : Option ℕ) (given : List (Option Entry)) (b : ℕ) (f : Entry) → entry_in (released_at o given) b ≡ Some f → (e : Entry) × (entry_in given b ≡ Some e) × KeepsFixed e f
+released_back None given b f g = (f, g, fixed_same f f refl)
 released_back (Some a) given b f g = elim (set_at given a b (option_map released (entry_in given a)) None) [
-  | inl h ↦ let x = option_map_from released (entry_in given a) f (sym h.1 ∙ g) in (x.0, ap (entry_in given) h.0 ∙ x.1)
-  | inr h ↦ (f, sym h ∙ g)
+  | inl h ↦
+      let x = option_map_from released (entry_in given a) f (sym h.1 ∙ g) in
+      (x.0, ap (entry_in given) h.0 ∙ x.1, λ y p. absurd (none-some y (ap (λ (k : Entry). k.fixed) x.2 ∙ p)))
+  | inr h ↦ (f, sym h ∙ g, fixed_same f f refl)
 ]
 
 length-released : (o : Option ℕ) (given : List (Option Entry)) → length (released_at o given) ≡ length given
@@ -631,6 +654,11 @@ Addresses-with_new old a st other pick inv = record {
   undeclared = λ b e g. elim (cases_eq b a) [ inl same ↦ ap (declared_at st) same ∙ pick.3 | inr n ↦ let k = back b e n g in inv.undeclared b k.0 k.1 ];
   placed = λ s d p. placed_from st s d inv (placed_each (λ t x. if reaches st (Some old) t x then readdressed a x else x) st (λ t x. IsSteady-readdressed (reaches st (Some old) t x) a x) s d p);
   lone = inv.lone;
+  static = inv.static;
+  fixed = λ b e g. elim (cases_eq b a) [
+    | inl same ↦ inv.fixed old e (sym here ∙ (sym (ap (entry_in (moved old a st.given)) same) ∙ g))
+    | inr n ↦ let k = back b e n g in declared_from st.declared st.declared k.0 e refl k.2 (inv.fixed b k.0 k.1)
+  ];
   long = length-set (set st.given old None) a (entry_at st old) ∙ (length-set st.given old None ∙ inv.long);
 }
   where
@@ -643,10 +671,10 @@ Addresses-with_new old a st other pick inv = record {
     unused : (s : ℕ) (d : Device) → device_at st s ≡ Some d → d.address ≡ Some a → ⊥
     unused s d p q = let u = inv.used s a d p q in none-some u.0 (sym pick.1 ∙ u.1)
 
-    back : (b : ℕ) (e : Entry) → (b ≡ a → ⊥) → entry_in (moved old a st.given) b ≡ Some e → (k : Entry) × (entry_at st b ≡ Some k)
+    back : (b : ℕ) (e : Entry) → (b ≡ a → ⊥) → entry_in (moved old a st.given) b ≡ Some e → (k : Entry) × (entry_at st b ≡ Some k) × KeepsFixed k e
     back b e n g =
         let g' : entry_in (set st.given old None) b ≡ Some e = sym (moved_at st.given old a b low ∙ cond-false (b == a) _ _ (ne_eqb b a n)) ∙ g in
-        elim (set_at st.given old b None None) [ inl h ↦ absurd (none-some e (sym h.1 ∙ g')) | inr h ↦ (e, sym h ∙ g') ]
+        elim (set_at st.given old b None None) [ inl h ↦ absurd (none-some e (sym h.1 ∙ g')) | inr h ↦ (e, sym h ∙ g', fixed_same e e refl) ]
 
 pub Addresses-emptied : (lost : Lost) (st : State) → Addresses st → Addresses (emptied lost st)
 Addresses-emptied lost st inv = Addresses-none_new st (emptied lost st) (NoneNew-emptied lost st) inv
@@ -704,9 +732,9 @@ NoneNew-reset st = record {
     held s a d x there q false e k =
         let same : unaddressed_device x ≡ d = sym (cond-false (s == st.active) _ _ e) ∙ k in absurd (none-some a (ap (λ (y : Device). y.address) same ∙ q))
 
-    from : (b : Bool) (o : Option Entry) (e : Entry) → (if b then option_map unkept o else None) ≡ Some e → (k : Entry) × (o ≡ Some k)
+    from : (b : Bool) (o : Option Entry) (e : Entry) → (if b then option_map unkept o else None) ≡ Some e → (k : Entry) × (o ≡ Some k) × KeepsFixed k e
     from true None e g = absurd (none-some e g)
-    from true (Some k) e g = (k, refl)
+    from true (Some k) e g = (k, refl, fixed_same k e (ap (λ (y : Entry). y.fixed) (same_Some (unkept k) e g)))
     from false o e g = absurd (none-some e g)
 
 -- a list changes nothing of it
@@ -718,7 +746,7 @@ pub NoneNew-handed : (s own : ℕ) (st : State) → NoneNew st (handed s own st)
 NoneNew-handed s own st = record {
   devices = (NoneNew-change s without_role st (λ d. record { identity = refl; fixed = refl; address = λ a p. p })).devices;
   entries = λ t a d e p q g. (again a e, taken_over_at st.declared own st.given a ∙ ap (option_map (again a)) g, rest a e);
-  given = λ a f g. let x = option_map_from (again a) (entry_at st a) f (sym (taken_over_at st.declared own st.given a) ∙ g) in (x.0, x.1);
+  given = λ a f g. let x = option_map_from (again a) (entry_at st a) f (sym (taken_over_at st.declared own st.given a) ∙ g) in (x.0, x.1, fixed_same x.0 f (ap (λ (y : Entry). y.fixed) x.2));
   legacy = λ a l. l;
   placed = (NoneNew-change s without_role st (λ d. record { identity = refl; fixed = refl; address = λ a p. p })).placed;
   declared = refl;
@@ -820,6 +848,10 @@ Addresses-start main board start h = subst Addresses (sym h.2) (record {
   placed = λ s d p. let e = (start_device main board h.0 s d p).1 in
       ap (λ (x : Device). x.fixed) e ∙ ap (λ (x : Device). fixed_of board.declared x.identity) (sym e);
   lone = λ a i e. no_target_there board.legacy a (h.3.apart a i e);
+  static = h.3.static;
+  fixed = λ a e g x p.
+      let same : first ≡ e = same_Some first e (cond_kept_from (a == h.0) _ e (sym (entry a) ∙ g)).1 in
+      (main.identity, declared_at_fixed board.declared main.identity x (ap (λ (k : Entry). k.fixed) same ∙ p));
   long = length-set no_entries h.0 (Some first) ∙ length-no_entries;
 })
   where

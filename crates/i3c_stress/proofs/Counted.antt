@@ -28,5 +28,13 @@ next_count {X} p xs i n r x b at so_far few is worth =
     let same : r ≡ bool_byte (p x) = worth ∙ ap (λ b. bool_byte b) is in
     (omega (arith, so_far, same, count_more p xs i x at), omega (arith, few, same, one_at_most (p x)))
 
+-- the same where the count is one more or the same
+pub next_raise : {X : Type 0} (p : X → Bool) (xs : List X) (i n r : ℕ) (x : X) → slice_get xs i ≡ Some x
+    → n ≡ count_by p (take i xs) → n ≤ i → r ≡ n + cond (p x) 1 0
+    → (r ≡ count_by p (take (i + 1) xs)) × (r ≤ i + 1)
+next_raise {X} p xs i n r x at so_far few is =
+    let next = next_count p xs i n (cond (p x) 1 0) x (p x) at so_far few refl (one (p x)) in
+    (is ∙ next.0, omega (arith, is, next.1))
+
 pub whole_count : {X : Type 0} (p : X → Bool) (xs : List X) (i n : ℕ) → length xs ≤ i → n ≡ count_by p (take i xs) → n ≡ count_by p xs
 whole_count {X} p xs i n past so_far = so_far ∙ ap (λ (ys : List X). count_by p ys) (take_all i xs past)

@@ -1,7 +1,11 @@
-ghost use Rattle.std.specs.Prelude.{◌≡◌, ◌+◌, ◌^◌, ◌≤◌, ◌↔◌, length, sum, IfOk, IsOk, MatchOption};
+ghost use Rattle.std.specs.Prelude.{◌≡◌, ◌+◌, ◌^◌, ◌<◌, ◌≤◌, ◌↔◌, ℕ, length, slice_index, sum, IfOk, IsOk, MatchOption};
+ghost use Rattle.i3c_base.specs.declared.range.TheConstants.{SLOTS};
 ghost use Rattle.i3c_stress.specs.Agreeing.{Agree};
 ghost use Rattle.i3c_stress.specs.Counting.{accepted_in, is_accepted, is_raise, is_raised, is_refused, refused_in};
+ghost use Rattle.i3c_stress.specs.Devices.{raises_at};
 
+use crate::devices::{count_raise, no_raises, raising};
+use i3c_base::SLOTS;
 use i3c_shared::{Closed, Entry};
 use i3c_step::{Event, Reply};
 use thiserror::Error;
@@ -40,6 +44,7 @@ pub(crate) struct Counted {
     refused: u64,
     recorded: u64,
     waiting: u64,
+    pub by_slot: [u64; SLOTS],
 }
 
 /// The report, where the counts agree.
@@ -59,6 +64,7 @@ pub(crate) fn report(tried: u64, posted: u64, counted: Counted) -> Result<Stress
         refused,
         recorded,
         waiting,
+        by_slot: _,
     } = counted;
     let taken = accepted.checked_add(refused);
     let kept = recorded.checked_add(waiting);
@@ -80,15 +86,18 @@ pub(crate) fn count(closed: &Closed) -> Result<Counted, StressFault>
     ensures refused { IfOk result (λ c. c.refused ≡ refused_in closed.now.run.entries) }
     ensures recorded { IfOk result (λ c. c.recorded ≡ length closed.now.records) }
     ensures waiting { IfOk result (λ c. c.waiting ≡ sum closed.now.waiting) }
+    ensures by_slot { IfOk result (λ c. (slot : ℕ) → slot < SLOTS → slice_index c.by_slot slot ≡ raises_at slot closed.now.run.entries) }
 {
     let mut accepted = 0u64;
     let mut refused = 0u64;
+    let mut by_slot = no_raises();
     for place in 0..closed.run.len() {
         let Ok(Some(entry)) = closed.run.get(place) else {
             return Err(StressFault::Memory);
         };
         accepted += u64::from(is_accepted(&entry));
         refused += u64::from(is_refused(&entry));
+        count_raise(&mut by_slot, raising(&entry.event));
     }
     let Some(waiting) = total(&closed.waiting) else {
         return Err(StressFault::NotBalanced);
@@ -98,6 +107,7 @@ pub(crate) fn count(closed: &Closed) -> Result<Counted, StressFault>
         refused,
         recorded: closed.records.as_slice().len() as u64,
         waiting,
+        by_slot,
     })
 }
 

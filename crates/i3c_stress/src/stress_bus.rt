@@ -3,6 +3,7 @@ ghost use Rattle.i3c_base.specs.declared.range.TheConstants.{SLOTS};
 ghost use Rattle.i3c_stress.specs.Reporting.{IsOneSession, WasOfBus};
 ghost use Rattle.i3c_stress.specs.declared.stressing.TheConstants.{MOST_DEVICES};
 
+use crate::devices::{DEVICE_BCR, DEVICE_DCR, FIRST_PID};
 use crate::report::StressFault;
 use i3c_base::{Bcr, Cuts, Dcr, Identity, Pid, RoundReply, SLOTS, Setup, Slot};
 use i3c_frame::Silent;
@@ -113,7 +114,7 @@ fn attach<L: Ledger, M: Ledger, N: Ledger, R: Threads + Wait + Sync>(
     let Ok(slot) = Slot::new(index) else {
         return Err(StressFault::NotBalanced);
     };
-    let Some(setup) = setup_of(0x0204_0000_0100 + u64::from(index), 0x06, 0x44) else {
+    let Some(setup) = setup_of(FIRST_PID + u64::from(index), DEVICE_BCR, DEVICE_DCR) else {
         return Err(StressFault::NotBalanced);
     };
     match bus.attach(rt, slot, setup) {

@@ -2,6 +2,7 @@ ghost use Rattle.std.specs.Prelude.{◌≡◌, ◌+◌, ◌*◌, ◌≤◌, IfOk
 ghost use Rattle.i3c_stress.specs.Reporting.{CountsBus};
 ghost use Rattle.i3c_stress.specs.declared.stressing.TheConstants.{MOST_DEVICES, MOST_POSTS};
 
+use crate::devices::{have_entered, have_posted};
 use crate::report::{StressFault, StressReport, count, report};
 use crate::stress_bus::{StressBus, begin, end};
 use i3c_base::{Cuts, Slot};
@@ -71,7 +72,7 @@ pub fn stress<R: Threads + Wait + Sync, P: Policy, G: Gate + Sync>(
     ensures tried { IfOk result (λ r. r.tried ≡ devices * posts) }
     ensures posted { IfOk result (λ r. r.posted ≤ r.tried) }
     ensures balanced { IfOk result (λ r. r.posted ≡ r.turned_away + r.recorded + r.waiting) }
-    ensures counted { IfOk result CountsBus }
+    ensures counted { IfOk result (CountsBus devices posts) }
 {
     stress_watched(rt, alloc, devices, posts, policy, &Unwatched { gate })
 }
@@ -90,7 +91,7 @@ pub fn stress_watched<R: Threads + Wait + Sync, P: Policy, W: Watch + Sync>(
     ensures tried { IfOk result (λ r. r.tried ≡ devices * posts) }
     ensures posted { IfOk result (λ r. r.posted ≤ r.tried) }
     ensures balanced { IfOk result (λ r. r.posted ≡ r.turned_away + r.recorded + r.waiting) }
-    ensures counted { IfOk result CountsBus }
+    ensures counted { IfOk result (CountsBus devices posts) }
 {
     let (active, session, frames) = (Blank::new(1), Blank::new(1), Blank::new(1));
     stress_with::<Brand, Brand, Brand, R, P, W>(
@@ -125,7 +126,7 @@ fn stress_with<
     ensures tried { IfOk result (λ r. r.tried ≡ devices * posts) }
     ensures posted { IfOk result (λ r. r.posted ≤ r.tried) }
     ensures balanced { IfOk result (λ r. r.posted ≡ r.turned_away + r.recorded + r.waiting) }
-    ensures counted { IfOk result CountsBus }
+    ensures counted { IfOk result (CountsBus devices posts) }
 {
     let tried = u64::from(devices) * posts;
     let StressBus {
@@ -146,7 +147,11 @@ fn stress_with<
     watch.closed(&closed);
     let counted = count(&closed)?;
     let posted = posted?;
-    if !is_served(before, after, tried) {
+    let entered = have_entered(&closed.run, devices)?;
+    if !is_served(before, after, tried)
+        || !entered
+        || !have_posted(&counted.by_slot, devices, posts)
+    {
         return Err(StressFault::NotBalanced);
     }
     report(tried, posted, counted)

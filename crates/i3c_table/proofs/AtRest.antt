@@ -10,8 +10,7 @@ use Rattle.i3c_base.specs.declared.range.TheConstants.{ADDRESSES}
 use Rattle.i3c_base.specs.State.{Board, Entry, entry_in}
 use Rattle.i3c_base.specs.Sets.{is_in}
 use Rattle.i3c_table.specs.declared.registers.Registers.{Registers}
-use Rattle.i3c_table.specs.Rows.{HasStatic}
-use Rattle.i3c_table.specs.Stored.{identity_of, kept_at, no_registers, stored, stored_at, AreStatic, IsInOrder, IsReaching, IsStoredAlike, IsWhole}
+use Rattle.i3c_table.specs.Stored.{identity_of, kept_at, no_registers, stored, stored_at, IsInOrder, IsReaching, IsStoredAlike, IsWhole}
 use Rattle.i3c_table.proofs.Alike.{stored_alike}
 use Rattle.i3c_table.proofs.Ordering.{count_more}
 use Rattle.i3c_table.proofs.StoredLaws.{IsSmall, entry_stored, out_of, some_or_none}
@@ -59,12 +58,6 @@ module _ (held kept : ℕ) (registers registers' : List Registers) (numbers numb
 pub alike_taken : (held n m : ℕ) (registers : List Registers) (numbers : List ℕ) → ((a : ℕ) → is_in held a ≡ true → (a < n) × (a < m)) → (a : ℕ) → is_in held a ≡ true → IsStoredAlike (take n registers) (take m numbers) registers numbers a
 alike_taken held n m registers numbers reached a has = (get_or-take n registers a no_registers (reached a has).0, get_or-take m numbers a 0 (reached a has).1)
 
-pub static_taken : (n : ℕ) (registers : List Registers) → AreStatic registers → AreStatic (take n registers)
-static_taken n registers each a = elim (cases_lt a n) [
-  | inl l ↦ subst (λ (r : Registers). HasStatic r.fixed) (sym (get_or-take n registers a no_registers l)) (each a)
-  | inr past ↦ subst (λ (r : Registers). HasStatic r.fixed) (sym (get_or_past (take n registers) a no_registers (omega (arith, length-take n registers, past)))) tt
-]
-
 pub taken_reaching : (held n m : ℕ) (registers : List Registers) (numbers : List ℕ) → n ≤ 128 → m ≤ 128 → length registers ≡ 128 → length numbers ≡ 128 → ((a : ℕ) → is_in held a ≡ true → (a < n) × (a < m))
     → IsReaching held (length (take n registers)) (length (take m numbers))
 taken_reaching held n m registers numbers few few_numbers long numbered reached =
@@ -84,13 +77,6 @@ alike_begun held firsts registers begun numbers reached a has = (
   get_or_append_left firsts (drop (length firsts) registers) no_registers a (reached a has).0,
   get_or_append_left begun (drop (length begun) numbers) 0 a (reached a has).1,
 )
-
-pub static_begun : (firsts registers : List Registers) → AreStatic firsts → AreStatic registers → AreStatic (firsts ++ drop (length firsts) registers)
-static_begun firsts registers each others a = elim (cases_lt a (length firsts)) [
-  | inl l ↦ subst (λ (r : Registers). HasStatic r.fixed) (sym (get_or_append_left firsts (drop (length firsts) registers) no_registers a l)) (each a)
-  | inr past ↦ subst (λ (r : Registers). HasStatic r.fixed)
-      (sym (get_or-append_right firsts (drop (length firsts) registers) (length firsts) a no_registers refl past ∙ get_or-drop (length firsts) registers (a - length firsts) no_registers)) (others (length firsts + (a - length firsts)))
-]
 
 -- ---- how many addresses were given
 

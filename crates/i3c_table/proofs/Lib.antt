@@ -2,7 +2,6 @@ pub mod AtRest
 pub mod Ranking
 pub mod Ordering
 pub mod StoredLaws
-pub mod StaticLaws
 pub mod Known
 pub mod Open
 pub mod Placed

@@ -7,9 +7,9 @@ use Rattle.std.proofs.lemmas.List.Sums.{sum_by-cons}
 use Rattle.i3c_base.specs.State.{Board, Entry, IsFree, IsUsable, entry_in}
 use Rattle.i3c_table.specs.declared.row.Row.{Row}
 use Rattle.i3c_table.specs.declared.registers.Registers.{Registers}
-use Rattle.i3c_table.specs.Rows.{entry_of_row, HasStatic}
+use Rattle.i3c_table.specs.Rows.{entry_of_row}
 use Rattle.i3c_base.specs.Sets.{is_in}
-use Rattle.i3c_table.specs.Stored.{AreStatic, IsWhole, stored}
+use Rattle.i3c_table.specs.Stored.{IsWhole, stored}
 use Rattle.i3c_base.proofs.SetLaws.{is_usable, is_usable-true}
 use Rattle.i3c_table.proofs.StoredLaws.{IsSmall, entry_stored, length-stored, out_of, small_whole, some_or_none}
 
@@ -65,13 +65,6 @@ each_apart held kept registers numbers board h = usable_if held kept registers n
 
 pub each_undeclared : (held kept : ℕ) (registers : List Registers) (numbers : List ℕ) (board : Board) → IsWhole held kept board → (a : ℕ) → IfSome (entry_in (stored held kept registers numbers) a) (λ _. IsFree board.declared a)
 each_undeclared held kept registers numbers board h = usable_if held kept registers numbers board h (IsFree board.declared) h.undeclared
-
--- the static addresses of the entries may be ones
-pub each_static : (held kept : ℕ) (registers : List Registers) (numbers : List ℕ) (board : Board) → IsWhole held kept board → AreStatic registers → (a : ℕ) → IfSome (entry_in (stored held kept registers numbers) a) (λ entry. HasStatic entry.fixed)
-each_static held kept registers numbers board h each a = elim (some_or_none (is_in held a)) [
-  | inl has ↦ rw (entry_stored held kept registers numbers a (small_whole held kept board h) ∙ cond-true (is_in held a) _ None has) (each a)
-  | inr out ↦ rw (entry_stored held kept registers numbers a (small_whole held kept board h) ∙ out_of held kept registers numbers a out) tt
-]
 
 -- there are no more of them than usable addresses
 few_from : (n : ℕ) (given : List (Option Entry)) → ((k : ℕ) → IfSome (get_or given k None) (λ _. IsUsable (n + k))) → count_by is_some given ≤ count_by is_usable (range_with_len n (length given))

@@ -8,7 +8,6 @@ use Rattle.i3c_base.specs.State.{Board, Entry, IsFree, IsUsable, declared_in, is
 use Rattle.i3c_table.specs.declared.registers.Registers.{Registers}
 use Rattle.i3c_table.specs.Ranks.{rank}
 use Rattle.i3c_base.specs.Sets.{is_in}
-use Rattle.i3c_table.specs.Rows.{HasStatic}
 
 -- the identity of a number
 abbrev pub identity_of : ℕ → Identity
@@ -44,10 +43,6 @@ home_stored among registers f = find (λ a. is_in among a && is_the f (slice_ind
 unfoldable pub again_stored : List (Option Identity) → ℕ → List Registers → ℕ → Option Identity
 again_stored declared among registers a =
     option_and_then (λ f. if is_the a (home_stored among registers f) then declared_in declared f else None) (slice_index_or registers a no_registers).fixed
-
--- the static addresses that are stored may be ones
-abbrev pub AreStatic : List Registers → Type 0
-AreStatic registers = (a : ℕ) → HasStatic (slice_index_or registers a no_registers).fixed
 
 -- addresses that were given are usable and nobody's static ones, and those that are kept were given
 pub record IsWhole (held kept : ℕ) (board : Board) : Type 0 where

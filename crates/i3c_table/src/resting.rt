@@ -37,11 +37,11 @@ impl Model for RestingTable {
 
     ghost Value = { TableValue };
 
-    ghost use Rattle.i3c_table.specs.Stored.{stored, AreStatic, IsInOrder, IsReaching, IsWhole};
+    ghost use Rattle.i3c_table.specs.Stored.{stored, IsInOrder, IsReaching, IsWhole};
 
     ghost view = { λ t. record { given = stored t.held.0 t.kept.0 t.registers.items t.numbers.items; legacy = t.legacies.legacy; declared = t.legacies.declared; listed = t.listed } };
 
-    ghost invariant = { λ t. IsWhole t.held.0 t.kept.0 t.legacies × IsInOrder t.kept.0 t.numbers.items t.order × AreStatic t.registers.items × IsReaching t.held.0 (length t.registers.items) (length t.numbers.items) };
+    ghost invariant = { λ t. IsWhole t.held.0 t.kept.0 t.legacies × IsInOrder t.kept.0 t.numbers.items t.order × IsReaching t.held.0 (length t.registers.items) (length t.numbers.items) };
 }
 
 impl RestingTable {

@@ -1,6 +1,5 @@
 ghost use Rattle.std.specs.Prelude.{◌≡◌, ◌≢◌, ◌≤◌, ◌++◌, ℕ, ◌||◌, false, drop, length};
 ghost use Rattle.i3c_base.specs.Sets.{is_in};
-ghost use Rattle.i3c_table.specs.Rows.{static_in};
 
 use crate::keeping::{keep_for, keep_homes};
 use crate::registers::Registers;
@@ -10,7 +9,7 @@ use crate::rows::Rows;
 use crate::sorted_addresses::SortedAddresses;
 use crate::static_address::StaticAddress;
 use i3c_base::{ADDRESSES, Addr7, Addresses, Bcr, Dcr, Identity};
-use i3c_legacy::{Legacies, is_static};
+use i3c_legacy::Legacies;
 use std::marker::Model;
 
 /// How many dynamic addresses there are: `08` to `77` without `3E`, `5E`, `6E` and `76` (I3C Basic 5.1.2.2.5).
@@ -40,11 +39,11 @@ impl Model for Table {
 
     ghost Value = { TableValue };
 
-    ghost use Rattle.i3c_table.specs.Stored.{stored, AreStatic, IsInOrder, IsWhole};
+    ghost use Rattle.i3c_table.specs.Stored.{stored, IsInOrder, IsWhole};
 
     ghost view = { λ t. record { given = stored t.held.0 t.kept.0 t.registers t.numbers; legacy = t.legacies.legacy; declared = t.legacies.declared; listed = t.listed } };
 
-    ghost invariant = { λ t. IsWhole t.held.0 t.kept.0 t.legacies × IsInOrder t.kept.0 t.numbers t.order × AreStatic t.registers };
+    ghost invariant = { λ t. IsWhole t.held.0 t.kept.0 t.legacies × IsInOrder t.kept.0 t.numbers t.order };
 }
 
 impl Table {
@@ -53,7 +52,7 @@ impl Table {
     ghost use Rattle.i3c_table.specs.declared.table.TheConstants.{ROWS};
     ghost use Rattle.i3c_base.specs.State.{entry_in, kept_of, known_in, no_entries, taken_over, IsFree, IsKeptIn, IsPickableIn, IsUnknownIn, IsUsable};
     ghost use Rattle.i3c_base.specs.Frames.{moved, released_at};
-    ghost use Rattle.i3c_table.specs.Rows.{entry_of_row, HasStatic};
+    ghost use Rattle.i3c_table.specs.Rows.{entry_of_row};
     ghost use Rattle.i3c_base.specs.Sets.{is_in};
     ghost use Rattle.i3c_table.specs.Putting.{cleared, with_row, MayPut};
 
@@ -117,7 +116,6 @@ impl Table {
     pub fn row_of(&self, address: Addr7) -> Option<Row>
         ensures found { MatchOption result (IsFree self.now.given address)
             (λ row. (row.address ≡ address) × (entry_in self.now.given address ≡ Some (entry_of_row row))) }
-        ensures static_alone { IfSome result (λ row. HasStatic row.fixed) }
         ensures all_places { length self.now.given ≡ ADDRESSES }
     {
         if !self.held.has(address) {
@@ -152,7 +150,6 @@ impl Table {
         // no legacy target and no declared identity has one
         ensures apart { (a : ℕ) → IfSome (entry_in self.now.given a) (λ _. IsFree self.now.legacy a) }
         ensures undeclared { (a : ℕ) → IfSome (entry_in self.now.given a) (λ _. IsFree self.now.declared a) }
-        ensures static_alone { (a : ℕ) → IfSome (entry_in self.now.given a) (λ entry. HasStatic entry.fixed) }
         ensures all_places { length self.now.given ≡ ADDRESSES }
     {
         self.held
@@ -194,7 +191,7 @@ impl Table {
         self.registers[address.get() as usize] = Registers {
             bcr,
             dcr,
-            fixed: static_only(fixed),
+            fixed: StaticAddress::of(fixed),
         };
         self.listed = false; // nobody was told of the row
     }
@@ -281,7 +278,6 @@ impl Table {
         // no legacy target and no declared identity has the address of a row
         ensures apart { (a : ℕ) → IfSome (entry_in self.now.given a) (λ _. IsFree self.now.legacy a) }
         ensures undeclared { (a : ℕ) → IfSome (entry_in self.now.given a) (λ _. IsFree self.now.declared a) }
-        ensures static_alone { (a : ℕ) → IfSome (entry_in self.now.given a) (λ entry. HasStatic entry.fixed) }
     {
         let mut rows = [None; ADDRESSES];
         let mut left = self.held;
@@ -324,16 +320,6 @@ fn begin_numbers(numbers: &mut [u64], firsts: &[u64])
     ensures { numbers.new ≡ firsts.now ++ drop (length firsts.now) numbers.old }
 {
     numbers[..firsts.len()].copy_from_slice(firsts);
-}
-
-// A static address, where it may be one.
-fn static_only(fixed: Option<Addr7>) -> StaticAddress
-    ensures { result ≡ static_in fixed }
-{
-    match fixed {
-        Some(address) if is_static(address) => StaticAddress::of(Some(address)),
-        _ => StaticAddress::of(None),
-    }
 }
 
 // The set with a new address in place of an old one, if it has that.

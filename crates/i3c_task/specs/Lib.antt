@@ -1,1 +1,3 @@
+pub mod Options
+pub mod Tasks
 pub mod Words

@@ -18,3 +18,4 @@ IsOfWords WordsFault.Memory = Unit {0}
 IsOfWords (WordsFault.Usage words) = Unit {0}
 IsOfWords WordsFault.Legacy = ⊥
 IsOfWords WordsFault.Part = ⊥
+IsOfWords (WordsFault.Number name) = ⊥

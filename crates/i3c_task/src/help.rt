@@ -34,7 +34,8 @@ A script says what happens on the bus, one line for each event, and each line pr
 
 'check' runs nothing, and tells each line of a script that has no form, and why.
 'draw' runs a script, and prints a picture of its wire, an SVG.
-'trace' reads such symbols, and tells the requests, commands, rounds and transfers of each frame.
+'trace' reads such symbols, and tells the requests, commands, rounds and transfers of each frame. With --all it knows more
+commands.
 'trace --vcd' reads the symbols of a capture first, a value change dump with the signals 'scl' and 'sda'.
 'explore' tries every order of tracks that may interleave, and tells one in which something doesn't hold.
 'wave' runs a script, and prints SCL and SDA with their times, a value change dump. 'wave --trace' does so with such symbols.

@@ -1,11 +1,12 @@
 //! What the words of `i3cbus`'s command line ask for.
 //!
-//! `task` says what the words ask for. `verb` has what the program can be told, and its parser; `argument` are the arguments
+//! `task` says what the words ask for, and `options` what one option does. `verb` has what the program can be told, and its parser; `argument` are the arguments
 //! of a verb, and `help` longer texts of the help. `words_fault` is why words ask for nothing.
 #![tactic(auto)]
 
 mod argument;
 mod help;
+mod options;
 mod task;
 mod verb;
 mod words_fault;

@@ -1,16 +1,20 @@
-ghost use Rattle.std.specs.Prelude.{◌≡◌, ◌<◌, length, IsOkAnd};
+ghost use Rattle.std.specs.Prelude.{◌≡◌, IfOk, IsOkAnd, length};
+ghost use Rattle.clap.specs.Words.{found_of};
+ghost use Rattle.i3c_task.specs.Tasks.{HasCodes, IsCapturing, IsDrive, IsExplore, IsNamed, IsRun, IsStress, IsTaskOf, IsTelling, IsTrace, IsWave, file_of};
 ghost use Rattle.i3c_task.specs.Words.{RunsInput};
 
+use crate::options::{flag_given, legacies_given, number_given, part_given, text_given};
 use crate::verb::{
-    DEVICES, ECHO, EXPLAIN, FILE, FROM_TRACE, JOBS, JSON, LEGACY, LINT, MOST, NUMBERS, PART, POSTS,
-    SCL, SDA, STRICT, TOTALS, VCD, Verb, parser, usages,
+    ALL, DEVICES, ECHO, EXPLAIN, FILE, FROM_TRACE, JOBS, JSON, LEGACY, LINT, MOST, MOST_DEVICES,
+    MOST_JOBS, MOST_POSTS, NUMBERS, PART, POSTS, SCL, SDA, STRICT, TOTALS, VCD, Verb, parser,
+    usages,
 };
 use crate::words_fault::WordsFault;
 use clap::ArgMatches;
-use i3c_base::{Addr7, Addresses};
+use i3c_base::Addresses;
+use i3c_ccc::CodeSet;
 use i3c_explore::{Limits, Part};
 use i3c_streams::{Form, Watching};
-use i3c_text::read_byte;
 use std::alloc::Global;
 
 /// The file that stands for standard input.
@@ -18,11 +22,6 @@ pub const STANDARD_INPUT: &str = "-";
 
 /// The word that asks which program this is.
 const VERSION: &str = "--version";
-
-/// The least and the most address of a legacy target.
-const LEAST_LEGACY: u8 = 0x08;
-
-const MOST_LEGACY: u8 = 0x77;
 
 /// How many lines may be run without `--most`, as the help has it.
 const MOST_STEPS: u64 = 10_000_000;
@@ -69,12 +68,13 @@ pub enum Work {
 /// How a trace is told.
 #[derive(Clone, Copy)]
 pub enum Telling {
-    /// What it means.
-    Plain,
+    /// What it means, where these codes are known by name.
+    Plain(CodeSet),
     /// With its faults. Legacy targets have these addresses.
     Lint(Addresses),
-    /// With its faults if there are addresses of legacy targets, and standard error is told why lines are refused.
-    Explain(Option<Addresses>),
+    /// The same, or with its faults if there are addresses of legacy targets; and standard error is told why lines are
+    /// refused.
+    Explain(CodeSet, Option<Addresses>),
 }
 
 /// How a capture is to be read.
@@ -101,6 +101,8 @@ pub struct Stress {
 /// What the command line's words ask for, which come without the program's. No words at all mean `run -`.
 pub fn task_named<'a>(alloc: Global, words: &'a [String]) -> Result<Task<'a>, WordsFault>
     ensures none { length words.now ≡ 0 → IsOkAnd result RunsInput }
+    // the options of the command have their places in the task, as the parser found them
+    ensures named { IfOk result IsNamed }
 {
     if words.is_empty() {
         return Ok(Task::File(Work::Run, STANDARD_INPUT));
@@ -135,7 +137,9 @@ fn verb_given<'m, 'a>(matches: &'m ArgMatches<'a>) -> Option<(Verb, &'m ArgMatch
 }
 
 /// The task that was given. The parser requires a verb, and its arguments.
-fn task_given<'a>(matches: &ArgMatches<'a>) -> Result<Task<'a>, WordsFault> {
+fn task_given<'a>(matches: &ArgMatches<'a>) -> Result<Task<'a>, WordsFault>
+    ensures { IfOk result IsNamed }
+{
     match verb_given(matches) {
         Some((verb, given)) => task_of(verb, given),
         None => Ok(Task::File(Work::Run, STANDARD_INPUT)),
@@ -143,7 +147,9 @@ fn task_given<'a>(matches: &ArgMatches<'a>) -> Result<Task<'a>, WordsFault> {
 }
 
 /// The task of a verb with these arguments.
-fn task_of<'a>(verb: Verb, given: &ArgMatches<'a>) -> Result<Task<'a>, WordsFault> {
+fn task_of<'a>(verb: Verb, given: &ArgMatches<'a>) -> Result<Task<'a>, WordsFault>
+    ensures { IfOk result (IsTaskOf verb (found_of given.now)) }
+{
     match verb {
         Verb::Run => Ok(Task::File(run_given(given), file_given(given))),
         Verb::Drive => Ok(Task::File(drive_given(given), STANDARD_INPUT)),
@@ -152,22 +158,26 @@ fn task_of<'a>(verb: Verb, given: &ArgMatches<'a>) -> Result<Task<'a>, WordsFaul
         Verb::Explore => explore_given(given),
         Verb::Trace => trace_given(given),
         Verb::Wave => wave_given(given),
-        Verb::Stress => Ok(Task::Stress(stress_given(given))),
+        Verb::Stress => Ok(Task::Stress(stress_given(given)?)),
     }
 }
 
 /// The file that was given.
-fn file_given<'a>(given: &ArgMatches<'a>) -> &'a str {
-    given.get_str(FILE).unwrap_or(STANDARD_INPUT)
+fn file_given<'a>(given: &ArgMatches<'a>) -> &'a str
+    ensures { result.now ≡ file_of (found_of given.now) }
+{
+    text_given(given, FILE, STANDARD_INPUT)
 }
 
 /// How a script is to be run.
-fn run_given(given: &ArgMatches<'_>) -> Work {
+fn run_given(given: &ArgMatches<'_>) -> Work
+    ensures { IsRun (found_of given.now) result }
+{
     let watching = Watching {
-        numbers: given.get_flag(NUMBERS),
-        echo: given.get_flag(ECHO),
-        explain: given.get_flag(EXPLAIN),
-        strict: given.get_flag(STRICT),
+        numbers: flag_given(given, NUMBERS),
+        echo: flag_given(given, ECHO),
+        explain: flag_given(given, EXPLAIN),
+        strict: flag_given(given, STRICT),
     };
     if watching.is_plain() {
         Work::Run
@@ -177,8 +187,10 @@ fn run_given(given: &ArgMatches<'_>) -> Work {
 }
 
 /// The form in which lines are to be answered.
-fn drive_given(given: &ArgMatches<'_>) -> Work {
-    if given.get_flag(JSON) {
+fn drive_given(given: &ArgMatches<'_>) -> Work
+    ensures { IsDrive (found_of given.now) result }
+{
+    if flag_given(given, JSON) {
         Work::Drive(Form::Json)
     } else {
         Work::Drive(Form::Lines)
@@ -186,10 +198,12 @@ fn drive_given(given: &ArgMatches<'_>) -> Work {
 }
 
 /// The trace or the capture that was given, and whether its faults are asked for.
-fn trace_given<'a>(given: &ArgMatches<'a>) -> Result<Task<'a>, WordsFault> {
+fn trace_given<'a>(given: &ArgMatches<'a>) -> Result<Task<'a>, WordsFault>
+    ensures { IfOk result (IsTrace (found_of given.now)) }
+{
     let legacies = legacies_given(given)?;
     let telling = telling_given(given, legacies);
-    if given.get_flag(VCD) {
+    if flag_given(given, VCD) {
         let capturing = capturing_given(given, legacies);
         Ok(Task::Capture(capturing, telling, file_given(given)))
     } else {
@@ -198,33 +212,47 @@ fn trace_given<'a>(given: &ArgMatches<'a>) -> Result<Task<'a>, WordsFault> {
 }
 
 /// How a capture is to be read. Legacy targets have these addresses.
-fn capturing_given<'a>(given: &ArgMatches<'a>, legacies: Addresses) -> Capturing<'a> {
+fn capturing_given<'a>(given: &ArgMatches<'a>, legacies: Addresses) -> Capturing<'a>
+    ensures { IsCapturing (found_of given.now) legacies.0 result }
+{
     Capturing {
-        scl: given.get_str(SCL).unwrap_or(SCL),
-        sda: given.get_str(SDA).unwrap_or(SDA),
+        scl: text_given(given, SCL, SCL),
+        sda: text_given(given, SDA, SDA),
         legacies,
-        numbers: given.get_flag(NUMBERS),
+        numbers: flag_given(given, NUMBERS),
     }
 }
 
 /// How a trace is to be told. Legacy targets have these addresses.
-fn telling_given(given: &ArgMatches<'_>, legacies: Addresses) -> Telling {
-    let linted = if given.get_flag(LINT) {
-        Some(legacies)
+fn telling_given(given: &ArgMatches<'_>, legacies: Addresses) -> Telling
+    ensures { IsTelling (found_of given.now) legacies.0 result }
+{
+    let codes = codes_given(given);
+    match (flag_given(given, EXPLAIN), flag_given(given, LINT)) {
+        (false, false) => Telling::Plain(codes),
+        (false, true) => Telling::Lint(legacies),
+        (true, false) => Telling::Explain(codes, None),
+        (true, true) => Telling::Explain(codes, Some(legacies)),
+    }
+}
+
+/// The codes that a trace is to know by name.
+fn codes_given(given: &ArgMatches<'_>) -> CodeSet
+    ensures { HasCodes (found_of given.now) result }
+{
+    if flag_given(given, ALL) {
+        CodeSet::Extended
     } else {
-        None
-    };
-    match linted {
-        linted if given.get_flag(EXPLAIN) => Telling::Explain(linted),
-        Some(legacies) => Telling::Lint(legacies),
-        None => Telling::Plain,
+        CodeSet::Table
     }
 }
 
 /// The script, or the trace, that was given to be printed as a waveform.
-fn wave_given<'a>(given: &ArgMatches<'a>) -> Result<Task<'a>, WordsFault> {
+fn wave_given<'a>(given: &ArgMatches<'a>) -> Result<Task<'a>, WordsFault>
+    ensures { IfOk result (IsWave (found_of given.now)) }
+{
     let legacies = legacies_given(given)?;
-    let work = if given.get_flag(FROM_TRACE) {
+    let work = if flag_given(given, FROM_TRACE) {
         Work::Wave(legacies)
     } else {
         Work::WaveScript(legacies)
@@ -233,60 +261,25 @@ fn wave_given<'a>(given: &ArgMatches<'a>) -> Result<Task<'a>, WordsFault> {
 }
 
 /// The file that was given to be explored, its limits, the part of its orders, and the number of jobs.
-fn explore_given<'a>(given: &ArgMatches<'a>) -> Result<Task<'a>, WordsFault> {
+fn explore_given<'a>(given: &ArgMatches<'a>) -> Result<Task<'a>, WordsFault>
+    ensures { IfOk result (IsExplore (found_of given.now)) }
+{
     let limits = Limits {
-        steps: given.get_one::<u64>(MOST).unwrap_or(MOST_STEPS),
+        steps: number_given(given, MOST, 0, u64::MAX, MOST_STEPS)?,
         states: MOST_STATES,
     };
     let part = part_given(given.get_str(PART))?;
-    let jobs = given.get_one::<u32>(JOBS).unwrap_or(1) as usize;
+    let jobs = number_given(given, JOBS, 1, MOST_JOBS, 1)? as usize;
     Ok(Task::Explore(limits, part, jobs, file_given(given)))
 }
 
-/// The part that a text `K/N` names, or all orders without one.
-fn part_given(text: Option<&str>) -> Result<Part, WordsFault> {
-    match text {
-        Some(text) => part_of(text),
-        None => Ok(Part::whole()),
-    }
-}
-
-/// The part that a text `K/N` names.
-fn part_of(text: &str) -> Result<Part, WordsFault> {
-    let Some((number, of)) = text.split_once('/') else {
-        return Err(WordsFault::Part);
-    };
-    match (number.parse::<usize>(), of.parse::<usize>()) {
-        (Ok(number), Ok(of)) => Part::new(number, of).ok_or(WordsFault::Part),
-        _ => Err(WordsFault::Part),
-    }
-}
-
-/// The addresses of legacy targets that were given.
-fn legacies_given(given: &ArgMatches<'_>) -> Result<Addresses, WordsFault> {
-    let mut legacies = Addresses::new();
-    for text in given.get_strs(LEGACY).unwrap_or(&[]) {
-        legacies = legacies.with(legacy_address(text.as_bytes())?);
-    }
-    Ok(legacies)
-}
-
-/// The address of two hex digits, if a legacy target may have it.
-fn legacy_address(digits: &[u8]) -> Result<Addr7, WordsFault> {
-    let [high, low] = digits else {
-        return Err(WordsFault::Legacy);
-    };
-    match read_byte(*high, *low) {
-        Some(number @ LEAST_LEGACY..=MOST_LEGACY) => Addr7::new(number).or(Err(WordsFault::Legacy)),
-        _ => Err(WordsFault::Legacy),
-    }
-}
-
-/// The stress that was given. The parser requires both numbers, within their limits.
-fn stress_given(given: &ArgMatches<'_>) -> Stress {
-    Stress {
-        devices: given.get_one::<u8>(DEVICES).unwrap_or(1),
-        posts: u64::from(given.get_one::<u32>(POSTS).unwrap_or(1)),
-        totals: given.get_flag(TOTALS),
-    }
+/// The stress that was given. The parser requires both numbers.
+fn stress_given(given: &ArgMatches<'_>) -> Result<Stress, WordsFault>
+    ensures { IfOk result (IsStress (found_of given.now)) }
+{
+    Ok(Stress {
+        devices: number_given(given, DEVICES, 1, u64::from(MOST_DEVICES), 1)? as u8,
+        posts: number_given(given, POSTS, 1, u64::from(MOST_POSTS), 1)?,
+        totals: flag_given(given, TOTALS),
+    })
 }

@@ -31,7 +31,9 @@ pub(crate) const PART: &str = "part";
 
 pub(crate) const JOBS: &str = "jobs";
 
-/// The flags of `trace` that ask for faults too, and for a file that is a capture of the lines.
+/// The flags of `trace` that ask for all codes by name, for faults too, and for a file that is a capture of the lines.
+pub(crate) const ALL: &str = "all";
+
 pub(crate) const LINT: &str = "lint";
 
 pub(crate) const VCD: &str = "vcd";
@@ -62,6 +64,9 @@ pub(crate) const TOTALS: &str = "totals";
 pub const MOST_DEVICES: u8 = 63;
 
 pub const MOST_POSTS: u32 = 100_000;
+
+/// The most threads that may explore.
+pub(crate) const MOST_JOBS: u64 = u32::MAX as u64;
 
 /// What the program can be told to do.
 #[derive(Clone, Copy)]
@@ -169,7 +174,7 @@ const OF_EXPLORE: &[Argument] = &[
     },
     Argument {
         name: JOBS,
-        takes: Takes::Number("N", ValueParser::Signed(1, u32::MAX as i64)),
+        takes: Takes::Number("N", ValueParser::Unsigned(1, MOST_JOBS)),
         bond: Bond::Free,
         help: "Uses N threads, 1 without this, and prints the same",
     },
@@ -183,6 +188,12 @@ const OF_EXPLORE: &[Argument] = &[
 
 /// The arguments of `trace`.
 const OF_TRACE: &[Argument] = &[
+    Argument {
+        name: ALL,
+        takes: Takes::Nothing,
+        bond: Bond::Free,
+        help: "Tells SETMWL, SETMRL, GETPID and its like by name too, as --lint does",
+    },
     Argument {
         name: LINT,
         takes: Takes::Nothing,

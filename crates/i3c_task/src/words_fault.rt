@@ -13,6 +13,8 @@ pub enum WordsFault {
     Legacy,
     #[error("i3cbus: --part takes K/N, two decimal numbers, K from 1 to N\n")]
     Part,
+    #[error("i3cbus: --{0} takes a number of decimal digits alone\n")]
+    Number(&'static str),
 }
 
 impl From<AllocError> for WordsFault {

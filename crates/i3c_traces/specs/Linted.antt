@@ -2,6 +2,7 @@
 use Rattle.std.specs.Prelude.{◌≡◌, ◌⊎◌, ℕ, ◌+◌, nat_lt, ◌||◌, List, [], ◌∷◌, ◌++◌, codes, length, map, min, take, option_copied, Option, Some, None, IfSome, Result, MatchResult, if◌then◌else◌}
 use Rattle.std.specs.Io.KnownBytes.{Appends, Keeps}
 use Rattle.i3c_base.specs.declared.addresses.Addresses.{Addresses}
+use Rattle.i3c_ccc.specs.declared.codes.CodeSet.{CodeSet}
 use Rattle.i3c_frame.specs.declared.frames.Break.{Break}
 use Rattle.i3c_frame.specs.declared.frames.Due.{Due}
 use Rattle.i3c_frame.specs.declared.frames.Frames.{Frames}
@@ -98,7 +99,7 @@ GoesOutLinted legacies known old new result =
     (λ tally. (lines : List ℕ) × CameToLinted legacies known lines tally.refused × Appends old new lines)
     (λ _. Keeps old new ⊎ ((lines : List ℕ) × (faults : ℕ) × CameToLinted legacies known lines faults × AppendsSome old new lines))
 
--- the output with faults, given the addresses of legacy targets, or without
-abbrev pub GoesOutAs : Option Addresses → Option (List ℕ) → Option (List ℕ) → Option (List ℕ) → Result Tally ScriptFault → Type 0
-GoesOutAs None known old new result = GoesOut known old new result
-GoesOutAs (Some legacies) known old new result = GoesOutLinted legacies.0 known old new result
+-- the output with faults, given the addresses of legacy targets, or without, where these codes are known by name
+abbrev pub GoesOutAs : CodeSet → Option Addresses → Option (List ℕ) → Option (List ℕ) → Option (List ℕ) → Result Tally ScriptFault → Type 0
+GoesOutAs codes None known old new result = GoesOut codes known old new result
+GoesOutAs codes (Some legacies) known old new result = GoesOutLinted legacies.0 known old new result

@@ -1,6 +1,7 @@
--- The lines that a trace comes to.
+-- The lines that a trace comes to, where `codes` are the codes that are known by name.
 use Rattle.std.specs.Prelude.{◌≡◌, ◌⊎◌, ℕ, ◌+◌, nat_lt, All, List, [], ◌∷◌, ◌++◌, codes, decimal, flat_map, map, min, Option, IfSome, Result, MatchResult, if◌then◌else◌}
 use Rattle.std.specs.Io.KnownBytes.{Appends, Keeps}
+use Rattle.i3c_ccc.specs.declared.codes.CodeSet.{CodeSet}
 use Rattle.i3c_frame.specs.declared.symbols.Symbol.{Symbol}
 use Rattle.i3c_frame.specs.declared.traces.TraceFault.{TraceFault}
 use Rattle.i3c_frame.specs.Parts.{parts}
@@ -22,8 +23,8 @@ abbrev pub lines_text : List Symbol → List Decoded → List ℕ
 lines_text trace decoded = flat_map (line_text trace) decoded
 
 -- the lines of a trace
-abbrev pub trace_text : List Symbol → List ℕ
-trace_text trace = lines_text trace (trace_told trace)
+abbrev pub trace_text : CodeSet → List Symbol → List ℕ
+trace_text codes trace = lines_text trace (trace_told codes trace)
 
 -- how many refusals one line is
 abbrev pub refusals_in : Decoded → ℕ
@@ -43,13 +44,13 @@ fault_line TraceFault.NoStop = codes "refused NoStop" ++ 10 ∷ []
 fault_line TraceFault.OutOfMemory = []
 
 -- the text is a trace, with these lines and this number of refusals
-pub record IsTraceTold (text lines : List ℕ) (refused : ℕ) : Type 0 where
+pub record IsTraceTold (codes : CodeSet) (text lines : List ℕ) (refused : ℕ) : Type 0 where
   pub trace : List Symbol
   pub is_trace : IsTrace trace
   pub in_range : All IsInRange trace
   pub same : map text_of trace ≡ parts text
-  pub told : lines ≡ trace_text trace
-  pub counted : refused ≡ min (refused_in (trace_told trace)) 18446744073709551615
+  pub told : lines ≡ trace_text codes trace
+  pub counted : refused ≡ min (refused_in (trace_told codes trace)) 18446744073709551615
 
 -- the text is none, with the line of its first fault
 pub record IsFaultTold (text lines : List ℕ) (refused : ℕ) : Type 0 where
@@ -59,14 +60,14 @@ pub record IsFaultTold (text lines : List ℕ) (refused : ℕ) : Type 0 where
   pub counted : refused ≡ 1
 
 -- the known bytes give these lines, and this number of refusals
-pub record CameTo (known : Option (List ℕ)) (lines : List ℕ) (refused : ℕ) : Type 0 where
+pub record CameTo (codes : CodeSet) (known : Option (List ℕ)) (lines : List ℕ) (refused : ℕ) : Type 0 where
   pub text : List ℕ
   pub read : IfSome known (λ bytes. text ≡ map ascii bytes)
-  pub told : IsTraceTold text lines refused ⊎ IsFaultTold text lines refused
+  pub told : IsTraceTold codes text lines refused ⊎ IsFaultTold text lines refused
 
 -- what goes out of known bytes: their lines, all of them with `Ok`, and otherwise none or the beginning
-abbrev pub GoesOut : Option (List ℕ) → Option (List ℕ) → Option (List ℕ) → Result Tally ScriptFault → Type 0
-GoesOut known old new result =
+abbrev pub GoesOut : CodeSet → Option (List ℕ) → Option (List ℕ) → Option (List ℕ) → Result Tally ScriptFault → Type 0
+GoesOut codes known old new result =
     MatchResult result
-    (λ tally. (lines : List ℕ) × CameTo known lines tally.refused × Appends old new lines)
-    (λ _. Keeps old new ⊎ ((lines : List ℕ) × (refused : ℕ) × CameTo known lines refused × AppendsSome old new lines))
+    (λ tally. (lines : List ℕ) × CameTo codes known lines tally.refused × Appends old new lines)
+    (λ _. Keeps old new ⊎ ((lines : List ℕ) × (refused : ℕ) × CameTo codes known lines refused × AppendsSome old new lines))

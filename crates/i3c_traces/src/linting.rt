@@ -137,7 +137,7 @@ fn push_break(broken: &Break<'_>, text: &mut Text) -> Result<(), AllocError>
 }
 
 /// Appends a label and a number.
-fn push_number(label: &[u8], number: usize, text: &mut Text) -> Result<(), AllocError>
+pub(crate) fn push_number(label: &[u8], number: usize, text: &mut Text) -> Result<(), AllocError>
     ensures { OnOk result (text.new ≡ text.old ++ number_text label.now number) }
 {
     text.push(label)?;

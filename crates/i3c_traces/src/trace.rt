@@ -1,11 +1,13 @@
 ghost use Rattle.std.specs.Prelude.{◌≡◌, ◌<◌, ◌≤◌, [], ◌++◌, length, map, min, option_to_list, IfErr, IfOk, IfSome, IsErr, MatchResult, OnOk};
 ghost use Rattle.std.specs.Io.KnownBytes.{Appends, Consumes, IsAtEnd, Keeps};
+ghost use Rattle.i3c_ccc.specs.declared.codes.CodeSet.{CodeSet};
 ghost use Rattle.i3c_monitor.specs.Lines.{line_text};
 ghost use Rattle.i3c_monitor.specs.Trace.{to_come, trace_told};
 ghost use Rattle.i3c_streams.specs.Outcomes.{AppendsSome};
 ghost use Rattle.i3c_streams.specs.Faults.{IsLineFault};
 ghost use Rattle.i3c_traces.specs.Traces.{ascii, fault_line, refusals_in, refused_in, trace_text, GoesOut};
 
+use i3c_ccc::CodeSet;
 use i3c_frame::{Symbol, TraceFault, read_trace_bytes};
 use i3c_monitor::{Decoded, Monitor};
 use i3c_streams::{
@@ -19,7 +21,8 @@ use std::io::{Read, Write};
 const UNKNOWN: u8 = b'?';
 
 /// Tells what a trace says: a line for each frame, and below it a line for each thing that was decoded in it; or one line
-/// with the trace's first fault. A trace is read whole, and has at most 1,048,576 bytes.
+/// with the trace's first fault. A trace is read whole, and has at most 1,048,576 bytes. It knows the codes of the table; each
+/// other code is told as `Other`, without the rest of its frame.
 pub fn run_trace<R: Read, W: Write>(
     alloc: Global,
     reader: &mut R,
@@ -29,12 +32,29 @@ pub fn run_trace<R: Read, W: Write>(
     ensures whole { OnOk result (IsAtEnd (R.remaining reader.new)) }
     ensures fits { OnOk result (IfSome (R.remaining reader.old) (λ bytes. length bytes ≤ MOST_BYTES)) }
     ensures large { result ≡ Err ScriptFault.TooLarge → IfSome (R.remaining reader.old) (λ bytes. MOST_BYTES < length bytes) }
-    ensures lines { GoesOut (R.remaining reader.old) (W.contents writer.old) (W.contents writer.new) result }
+    ensures lines { GoesOut CodeSet.Table (R.remaining reader.old) (W.contents writer.old) (W.contents writer.new) result }
+    ensures unmet { IfOk result (λ tally. tally.unmet ≡ 0) }
+{
+    run_trace_knowing(alloc, CodeSet::Table, reader, writer)
+}
+
+/// Tells the same of a trace that knows these codes.
+pub fn run_trace_knowing<R: Read, W: Write>(
+    alloc: Global,
+    codes: CodeSet,
+    reader: &mut R,
+    writer: &mut W,
+) -> Result<Tally, ScriptFault>
+    // an `Ok` comes after the whole of a trace that isn't too large
+    ensures whole { OnOk result (IsAtEnd (R.remaining reader.new)) }
+    ensures fits { OnOk result (IfSome (R.remaining reader.old) (λ bytes. length bytes ≤ MOST_BYTES)) }
+    ensures large { result ≡ Err ScriptFault.TooLarge → IfSome (R.remaining reader.old) (λ bytes. MOST_BYTES < length bytes) }
+    ensures lines { GoesOut codes (R.remaining reader.old) (W.contents writer.old) (W.contents writer.new) result }
     ensures unmet { IfOk result (λ tally. tally.unmet ≡ 0) }
 {
     let text = read_text(alloc, reader)?;
     match read_trace_bytes(alloc, &text) {
-        Ok(symbols) => tell_trace(alloc, &symbols, writer),
+        Ok(symbols) => tell_trace(alloc, codes, &symbols, writer),
         Err(fault) => tell_fault(alloc, &fault, writer),
     }
 }
@@ -103,13 +123,18 @@ fn ascii_byte(byte: u8) -> u8
 }
 
 /// Writes the lines of a trace, one after another.
-fn tell_trace<W: Write>(alloc: Global, trace: &[Symbol], out: &mut W) -> Result<Tally, ScriptFault>
+fn tell_trace<W: Write>(
+    alloc: Global,
+    codes: CodeSet,
+    trace: &[Symbol],
+    out: &mut W,
+) -> Result<Tally, ScriptFault>
     ensures unmet { IfOk result (λ tally. tally.unmet ≡ 0) }
     ensures told { MatchResult result
-        (λ tally. (tally.refused ≡ min (refused_in (trace_told trace.now)) u64.MAX) × Appends (W.contents out.old) (W.contents out.new) (trace_text trace.now))
-        (λ fault. IsLineFault fault × AppendsSome (W.contents out.old) (W.contents out.new) (trace_text trace.now)) }
+        (λ tally. (tally.refused ≡ min (refused_in (trace_told codes trace.now)) u64.MAX) × Appends (W.contents out.old) (W.contents out.new) (trace_text codes trace.now))
+        (λ fault. IsLineFault fault × AppendsSome (W.contents out.old) (W.contents out.new) (trace_text codes trace.now)) }
 {
-    let mut monitor = Monitor::new(alloc, trace);
+    let mut monitor = Monitor::knowing(alloc, codes, trace);
     let mut text = Text::new(alloc);
     let mut refused: u64 = 0;
     while let Some(decoded) = next_decoded(&mut monitor)? {

@@ -1,5 +1,5 @@
 -- Turns of a block, and the lines that they run.
-use Rattle.std.proofs.Common.{◌≡◌, ◌∙◌, ◌<◌, ◌≤◌, ◌+◌, ◌++◌, ℕ, Bool, false, List, [], ◌∷◌, Option, None, Some, ap, arith, drop, get_or, length, min, refl, reverse, subst, suc, sym, take}
+use Rattle.std.proofs.Common.{◌≡◌, ◌∙◌, ◌<◌, ◌≤◌, ◌+◌, ◌++◌, ℕ, Bool, false, List, [], ◌∷◌, Option, None, Some, add-one, ap, arith, drop, drop-cons, get_or, length, min, refl, reverse, subst, suc, sym, take}
 use Rattle.std.specs.Global.{Vec}
 use Rattle.std.specs.Prelude.{MatchOption, slice_get}
 use Rattle.std.proofs.lemmas.Bool.Decides.{nat_tests}
@@ -10,7 +10,9 @@ use Rattle.i3c_explore.specs.Orders.{track, turns_of}
 use Rattle.i3c_scene.specs.declared.line.Line.{Line}
 use Rattle.i3c_tracks.specs.declared.course.Run.{Run}
 use Rattle.i3c_explore.specs.Blocks.{block, tracks_in}
-use Rattle.i3c_tracks.specs.Courses.{AreRuns, IsRun, RunIn, RunsOne, count_lines}
+use Rattle.i3c_scene.specs.Scenes.{Seen}
+use Rattle.i3c_scene.specs.Trying.{LineSteps}
+use Rattle.i3c_tracks.specs.Courses.{AreRuns, IsRun, RunIn, RunsLead, RunsOne, count_lines}
 
 -- all lines of a block are counted
 pub counted_all : (tracks : List (Vec Line)) (count i most : ℕ) → length tracks ≤ i → count ≤ most → min (count + count_lines (drop i tracks)) most ≡ min (count_lines tracks) most → count ≡ min (count_lines tracks) most
@@ -58,3 +60,13 @@ blocks_more blocks opened order b earlier own runs rest taken left tracks is_ope
 -- the tracks of a block that is there
 pub block_at : (blocks : List (Vec (Vec Line))) (b : ℕ) (tracks : Vec (Vec Line)) → b < length blocks → tracks ≡ get_or blocks b tracks → tracks.items ≡ block blocks b
 block_at blocks b tracks l is = sym (ap (λ (t : Option (Vec (Vec Line))). tracks_in t) (slice_get_read blocks (length blocks) b tracks refl l is))
+
+-- one line more leads on to where the rest leads
+pub leads_more : (runs : List Run) (i : ℕ) (run : Run) (scene next end : Seen) → i < length runs → run ≡ get_or runs i run → LineSteps scene run.line.now run.way next → RunsLead next (drop (i + 1) runs) end → RunsLead scene (drop i runs) end
+leads_more runs i run scene next end lt is steps led =
+    let here : drop i runs ≡ get_or runs i run ∷ drop (i + 1) runs = rw add-one (drop-cons runs i run lt) in
+    subst (λ (rs : List Run). RunsLead scene rs end) (sym here) (subst (λ (r : Run). RunsLead scene (r ∷ drop (i + 1) runs) end) is (next, steps, led))
+
+-- behind the last line nothing is left to run
+pub none_left : (runs : List Run) (i : ℕ) (scene : Seen) → length runs ≤ i → RunsLead scene (drop i runs) scene
+none_left runs i scene behind = subst (λ (rs : List Run). RunsLead scene rs scene) (sym (drop_all i runs behind)) refl

@@ -1,5 +1,5 @@
 -- The lines that an order runs, and what all orders lead to.
-use Rattle.std.specs.Prelude.{◌≡◌, ◌<◌, ℕ, ◌+◌, Bool, false, List, [], ◌∷◌, ◌++◌, Contains, Option, MatchOption, drop, length, min, reverse, slice_get, slice_index_or, suc, take, zero}
+use Rattle.std.specs.Prelude.{◌≡◌, ◌<◌, ℕ, ◌+◌, Bool, false, List, [], ◌∷◌, ◌++◌, Contains, Option, Some, MatchOption, drop, length, min, reverse, slice_get, slice_index_or, suc, take, zero}
 use Rattle.std.specs.Global.{Vec}
 use Rattle.i3c_explore.specs.declared.node.Node.{Node}
 use Rattle.i3c_explore.specs.declared.turn.Turn.{Turn}
@@ -9,6 +9,7 @@ use Rattle.i3c_explore.specs.Parts.{IsOfPart, Part}
 use Rattle.i3c_scene.specs.declared.line.Line.{Line}
 use Rattle.i3c_scene.specs.Scenes.{Seen}
 use Rattle.i3c_scene.specs.Trying.{LineSteps}
+use Rattle.i3c_scene.specs.Unmet.{LineTells}
 use Rattle.i3c_tracks.specs.declared.course.Run.{Run}
 
 -- the line of this run, its way, and whether its block was opened
@@ -46,6 +47,20 @@ RunIn blocks opened order (suc b) runs left =
 -- the lines that an order of these blocks runs, the oldest turn first
 abbrev pub AreRunsOf : List (Vec (Vec Line)) → List Bool → List Turn → List Run → Type 0
 AreRunsOf blocks opened order runs = (left : List Turn) × RunIn blocks opened order (length blocks) runs left
+
+-- lines that run one after another, each in its way, lead from one scene to another
+abbrev pub RunsLead : Seen → List Run → Seen → Type 0
+RunsLead start [] end = end ≡ start
+RunsLead start (run ∷ rest) end = (next : Seen) × LineSteps start run.line.now run.way next × RunsLead next rest end
+
+-- the lines before the last lead on, and the last one breaks an expectation: this is the number of the first that it breaks, and what is there in place of it
+pub record LastBreaks (start : Seen) (runs : List Run) (number : ℕ) (there : List ℕ) : Type 0 where
+  pub earlier : List Run
+  pub last : Run
+  pub are : runs ≡ earlier ++ last ∷ []
+  pub scene : Seen
+  pub led : RunsLead start earlier scene
+  pub told : LineTells scene last.line.now last.way (Some number) there
 
 -- what all orders of a part lead to: each to one of these ends, each end is reached by the order that it has, and the interleavings are counted, all together and at the ends
 pub record LeadsTo (start : Seen) (blocks : List (Vec (Vec Line))) (part : Part) (ends : List (Node Seen)) (orders : Option ℕ) : Type 0 where

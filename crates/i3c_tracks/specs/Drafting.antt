@@ -1,11 +1,7 @@
 -- The blocks of the lines that were read, with those that are left.
-use Rattle.std.specs.Prelude.{◌≡◌, ℕ, Bool, true, false, List, [], ◌∷◌, ◌++◌, Option, Some, None, if◌then◌else◌, is_some, option_map}
-use Rattle.std.specs.Global.{Vec}
-use Rattle.i3c_facts.specs.declared.marks.Mark.{Mark}
+use Rattle.std.specs.Prelude.{◌≡◌, ◌||◌, ℕ, Bool, true, false, List, [], ◌∷◌, ◌++◌, Option, Some, None, Ok, Err, Result, is_some, option_map}
 use Rattle.i3c_lines.specs.declared.command.Command.{Command}
-use Rattle.i3c_lines.specs.declared.names.Name.{Name}
 use Rattle.i3c_scene.specs.declared.line.Expectation.{Expectation}
-use Rattle.i3c_scene.specs.declared.line.Line.{Line}
 use Rattle.i3c_scene.specs.declared.risk.Risk.{Risk}
 use Rattle.i3c_scene.specs.Scenes.{Seen}
 use Rattle.i3c_tracks.specs.declared.body.Body.{Body}
@@ -13,8 +9,11 @@ use Rattle.i3c_tracks.specs.declared.draft.Draft.{Draft}
 use Rattle.i3c_tracks.specs.declared.front.Front.{Front}
 use Rattle.i3c_tracks.specs.declared.open_block.OpenBlock.{OpenBlock}
 use Rattle.i3c_tracks.specs.declared.file_line.FileLine.{FileLine}
-use Rattle.i3c_tracks.specs.Planning.{IsStartOf, Outline, Spot, Step, alone, always_in, before_more, blocks_in, blocks_of, expected, outline, place, risk_in, stand, step_of, steps_in, steps_of, tracks_in, tracks_of}
-use Rattle.i3c_tracks.specs.Refusing.{risk_of}
+use Rattle.i3c_tracks.specs.declared.plan.PlanFault.{PlanFault}
+use Rattle.i3c_tracks.specs.declared.refusal.Reason.{Reason}
+use Rattle.i3c_tracks.specs.declared.refusal.Refusal.{Refusal}
+use Rattle.i3c_tracks.specs.Planning.{IsStartOf, Outline, Step, alone, always_in, any_at_risk, before_more, blocks_in, blocks_of, expected, made, opened_in, outline, place, risk_in, step_of, steps_in, steps_of, tracks_in, tracks_of, unopened}
+use Rattle.i3c_tracks.specs.Refusing.{Here, Inside, at_end, behind, first_refusal, one_line, outside, refuses_before, refuses_here, risk_of}
 
 -- a block that isn't closed yet: the devices at risk, what has to hold always, the tracks before the last, and the last if one has begun
 pub record Open : Type 0 where
@@ -46,12 +45,6 @@ risk_with Risk.Nobody more = more
 risk_with (Risk.One name) more = before_more name more
 risk_with (Risk.Two one other) more = Risk.Two one other
 
--- these devices at risk, and one more if there is room
-abbrev pub with_more : Risk → Name → Risk
-with_more Risk.Nobody name = Risk.One name
-with_more (Risk.One first) name = Risk.Two first name
-with_more (Risk.Two first second) name = Risk.Two first second
-
 -- the open block's tracks, where a last one has begun or not
 abbrev pub tracks_left : Open → Option (List Step) → Option Step → List (ℕ × FileLine) → List (List Step)
 tracks_left block None held rest = block.tracks ++ tracks_in (risk_with block.risk (risk_in rest)) (block.always ++ always_in rest) rest
@@ -71,74 +64,89 @@ left (Some block) held rest = held_before block.last held rest ++ tracks_left bl
 abbrev pub comes_to : Body → List (ℕ × FileLine) → List (List (List Step))
 comes_to body rest = blocks_of body.blocks.items ++ left (option_map open_of body.block) (option_map step_of body.held) rest
 
--- the spot of the next line: by the open block, by whether a track has begun in it, and by whether a line is held
-abbrev pub spot_in : Option (List Step) → Option Step → Spot
-spot_in None held = Spot.Head
-spot_in (Some track) None = Spot.Beginning
-spot_in (Some track) (Some step) = Spot.Within
+-- whether a line opened each of these blocks
+abbrev pub opened_left : Option Open → Option Step → List (ℕ × FileLine) → List Bool
+opened_left None held rest = unopened (held_alone held rest) ++ opened_in false rest
+opened_left (Some block) held rest = unopened (held_before block.last held rest) ++ true ∷ opened_in true rest
 
-abbrev pub spot_of : Option Open → Option Step → Spot
-spot_of None held = Spot.Outside
-spot_of (Some block) held = spot_in block.last held
+-- the same of all blocks behind the bus
+abbrev pub opens : Body → List (ℕ × FileLine) → List Bool
+opens body rest = body.opened.items ++ opened_left (option_map open_of body.block) (option_map step_of body.held) rest
 
-abbrev pub stands : Body → List (ℕ × FileLine) → Bool
-stands body rest = stand (spot_of (option_map open_of body.block) (option_map step_of body.held)) rest
+-- whether a device may lose power in one of them
+abbrev pub risks : Body → List (ℕ × FileLine) → Bool
+risks body rest = body.risky || any_at_risk rest
+
+-- an open block by what counts for later lines
+abbrev pub inside_of : OpenBlock → Inside
+inside_of block = record { risk = block.risk; begun = is_some block.last; tracks = block.tracks_left; lines = block.lines_left }
+
+abbrev pub has_command_of : Step → Bool
+has_command_of step = is_some step.command
+
+-- where the next line stands
+abbrev pub here_of : Body → Here
+here_of body = record { block = option_map inside_of body.block; before = option_map has_command_of (option_map step_of body.held) }
+
+-- why the lines that are left are refused
+abbrev pub refusal_left : Body → List (ℕ × FileLine) → Option Refusal
+refusal_left body rest = first_refusal (here_of body) rest
 
 -- no line behind the bus was read
 pub record IsUnread (body : Body) : Type 0 where
   pub blocks : (rest : List (ℕ × FileLine)) → comes_to body rest ≡ place (expected rest) ++ blocks_in false rest
-  pub spot : (rest : List (ℕ × FileLine)) → stands body rest ≡ stand Spot.Outside rest
+  pub opened : (rest : List (ℕ × FileLine)) → opens body rest ≡ unopened (place (expected rest)) ++ opened_in false rest
+  pub risky : (rest : List (ℕ × FileLine)) → risks body rest ≡ any_at_risk rest
+  pub here : here_of body ≡ outside
 
 -- the outline that a bus was begun by, if one was
 abbrev pub IsBegunBy : Option Body → Option Outline → Type 0
 IsBegunBy None first = Unit {0}
 IsBegunBy (Some body) first = (outline : Outline) × (first ≡ Some outline) × IsStartOf outline body.start
 
--- the outline of a file, with the lines that are left: before the bus, or behind the one that was begun
-abbrev pub comes_on : Option Body → Front → Option Outline → List (ℕ × FileLine) → Option Outline
-comes_on None front first rest = outline front.legacies front.names.items rest
-comes_on (Some body) front first rest = if stands body rest then option_map (λ (o : Outline). record o { blocks = comes_to body rest }) first else None
+-- an outline's bus, with these lines before it and these blocks behind it, unless a line is refused
+abbrev pub asked : Option Refusal → Option Outline → List ℕ → List (List (List Step)) → List Bool → Bool → Result Outline Refusal
+asked (Some refusal) first before blocks opened risky = Err refusal
+asked None None before blocks opened risky = Err (at_end Reason.NoBus)
+asked None (Some out) before blocks opened risky = Ok (record out { before = before; blocks = blocks; opened = opened; risky = risky })
 
-abbrev pub comes : Draft → Option Outline → List (ℕ × FileLine) → Option Outline
-comes draft first rest = comes_on draft.body draft.front first rest
+-- the outline of a file, with the lines that are left: before the bus, or behind the one that was begun
+abbrev pub comes_on : Option Body → Front → List ℕ → Option Outline → List (ℕ × FileLine) → Result Outline Refusal
+comes_on None front before first rest = outline front.legacies front.names.items before rest
+comes_on (Some body) front before first rest = asked (refusal_left body rest) first before (comes_to body rest) (opens body rest) (risks body rest)
+
+abbrev pub comes : Draft → Option Outline → List (ℕ × FileLine) → Result Outline Refusal
+comes draft first rest = comes_on draft.body draft.front draft.before.items first rest
 
 -- a line was read: with those that are left, the file has the outline that it had before
 abbrev pub Reads : Draft → ℕ × FileLine → Draft → Type 0
 Reads old line new = (first : Option Outline) → IsBegunBy old.body first → (later : Option Outline) × IsBegunBy new.body later × ((rest : List (ℕ × FileLine)) → comes new later rest ≡ comes old first (line ∷ rest))
 
--- a plan has the outline that its file has
-abbrev pub IsOutlined : Outline → Seen → List (Vec (Vec Line)) → Type 0
-IsOutlined out start blocks = IsStartOf out start × (blocks_of blocks ≡ out.blocks)
-
 -- a line before the bus was read, which makes no bus
 abbrev pub Declares : Front → Command → Front → Type 0
-Declares old command new = (number : ℕ) (rest : List (ℕ × FileLine)) → outline old.legacies old.names.items ((number, FileLine.Does command) ∷ rest) ≡ outline new.legacies new.names.items rest
+Declares old command new = (number : ℕ) (before : List ℕ) (rest : List (ℕ × FileLine)) → outline old.legacies old.names.items before ((number, FileLine.Does command) ∷ rest) ≡ outline new.legacies new.names.items (before ++ number ∷ []) rest
 
 -- a line before the bus was read, which makes this bus
 abbrev pub Begins : Front → Command → Seen → Type 0
 Begins old command start = (first : Outline) × IsStartOf first start
-    × ((number : ℕ) (rest : List (ℕ × FileLine)) → outline old.legacies old.names.items ((number, FileLine.Does command) ∷ rest) ≡ (if stand Spot.Outside rest then Some (record first { blocks = place (expected rest) ++ blocks_in false rest }) else None))
+    × ((number : ℕ) (before : List ℕ) (rest : List (ℕ × FileLine)) → outline old.legacies old.names.items before ((number, FileLine.Does command) ∷ rest) ≡ made first.main first.board first.names (before ++ number ∷ []) rest)
 
 -- the same of a line behind the bus
 pub record ReadsOn (old : Body) (line : ℕ × FileLine) (new : Body) : Type 0 where
   pub start : new.start ≡ old.start
   pub blocks : (rest : List (ℕ × FileLine)) → comes_to new rest ≡ comes_to old (line ∷ rest)
-  pub spot : (rest : List (ℕ × FileLine)) → stands new rest ≡ stands old (line ∷ rest)
+  pub opened : (rest : List (ℕ × FileLine)) → opens new rest ≡ opens old (line ∷ rest)
+  pub risky : (rest : List (ℕ × FileLine)) → risks new rest ≡ risks old (line ∷ rest)
+  pub here : here_of new ≡ behind (here_of old) line.1
 
--- whether a track has begun in the open block, if one is open
-abbrev pub begun_in : Option OpenBlock → Option Bool
-begun_in block = option_map (λ (b : OpenBlock). is_some b.last) block
-
--- the line that was held has its place, before lines that expect nothing of it: a command, a `track` or a `close` is allowed
--- there as before
+-- the line that was held has its place, before lines that expect nothing of it
 pub record Settles (old new : Body) : Type 0 where
   pub start : new.start ≡ old.start
   pub none : new.held ≡ None
-  pub begun : begun_in new.block ≡ begun_in old.block
+  pub inside : option_map inside_of new.block ≡ option_map inside_of old.block
   pub same : (rest : List (ℕ × FileLine)) → expected rest ≡ [] → comes_to new rest ≡ comes_to old rest
-  pub does : (number : ℕ) (command : Command) (rest : List (ℕ × FileLine)) → stands new ((number, FileLine.Does command) ∷ rest) ≡ stands old ((number, FileLine.Does command) ∷ rest)
-  pub track : (number : ℕ) (rest : List (ℕ × FileLine)) → stands new ((number, FileLine.Marks Mark.Track) ∷ rest) ≡ stands old ((number, FileLine.Marks Mark.Track) ∷ rest)
-  pub close : (number : ℕ) (rest : List (ℕ × FileLine)) → stands new ((number, FileLine.Marks Mark.Close) ∷ rest) ≡ stands old ((number, FileLine.Marks Mark.Close) ∷ rest)
+  pub opened : (rest : List (ℕ × FileLine)) → expected rest ≡ [] → opens new rest ≡ opens old rest
+  pub risky : new.risky ≡ old.risky
 
 -- the tracks of an open block, with the last
 abbrev pub all_tracks : List (List Step) → Option (List Step) → List (List Step)
@@ -154,16 +162,20 @@ with_expected expectation (Some step) = awaited step (expectation ∷ [])
 abbrev pub with_line : Step → Open → Open
 with_line step block = record block { last = option_map (λ (track : List Step). track ++ awaited step block.always ∷ []) block.last }
 
--- the body with one more block, of these tracks
-pub record Adds (old : Body) (tracks : List (List Step)) (new : Body) : Type 0 where
+-- the body with one more block, of these tracks, which a line opened or not
+pub record Adds (old : Body) (tracks : List (List Step)) (by_line : Bool) (new : Body) : Type 0 where
   pub start : new.start ≡ old.start
   pub blocks : blocks_of new.blocks.items ≡ blocks_of old.blocks.items ++ tracks ∷ []
+  pub opened : new.opened.items ≡ old.opened.items ++ by_line ∷ []
+  pub risky : new.risky ≡ old.risky
   pub block : new.block ≡ old.block
   pub held : new.held ≡ old.held
 
 -- the body holds a line until its place is known
 pub record Holds (old : Body) (step : Step) (new : Body) : Type 0 where
   pub start : new.start ≡ old.start
+  pub opened : new.opened ≡ old.opened
+  pub risky : new.risky ≡ old.risky
   pub blocks : new.blocks ≡ old.blocks
   pub block : new.block ≡ old.block
   pub held : option_map step_of new.held ≡ Some step
@@ -171,9 +183,11 @@ pub record Holds (old : Body) (step : Step) (new : Body) : Type 0 where
 -- a line is put into the last track
 pub record Puts (old : Body) (step : Step) (new : Body) : Type 0 where
   pub start : new.start ≡ old.start
+  pub opened : new.opened ≡ old.opened
+  pub risky : new.risky ≡ old.risky
   pub blocks : new.blocks ≡ old.blocks
   pub block : option_map open_of new.block ≡ option_map (with_line step) (option_map open_of old.block)
-  pub begun : begun_in new.block ≡ begun_in old.block
+  pub inside : option_map inside_of new.block ≡ option_map inside_of old.block
   pub held : new.held ≡ old.held
 
 -- the devices at risk in a command's frame
@@ -184,8 +198,23 @@ risk_here (Some block) command = risk_of block.risk command
 -- a command has its place in the open block, if there is one
 pub record TakesPlace (old : Body) (command : Command) (risked : Risk) (new : Body) : Type 0 where
   pub start : new.start ≡ old.start
+  pub opened : new.opened ≡ old.opened
+  pub risky : new.risky ≡ old.risky
   pub blocks : new.blocks ≡ old.blocks
   pub block : option_map open_of new.block ≡ option_map open_of old.block
-  pub begun : begun_in new.block ≡ begun_in old.block
+  pub inside : option_map inside_of new.block ≡ option_map one_line (option_map inside_of old.block)
   pub held : new.held ≡ old.held
   pub risk : risked ≡ risk_here old.block command
+
+-- why a line is refused behind those that were read, if it is
+abbrev pub refuses_on : Option Body → FileLine → Option Reason
+refuses_on None said = refuses_before said
+refuses_on (Some body) said = refuses_here (here_of body) said
+
+abbrev pub refuses : Draft → FileLine → Option Reason
+refuses draft said = refuses_on draft.body said
+
+-- why a file is refused behind its last line
+abbrev pub IsEndFault : Draft → PlanFault → Type 0
+IsEndFault draft PlanFault.Memory = Unit {0}
+IsEndFault draft (PlanFault.Refused refusal) = (refusal.line ≡ None) × ((first : Option Outline) → comes draft first [] ≡ Err refusal)

@@ -1,13 +1,18 @@
 -- What is printed where all holds.
-use Rattle.std.specs.Prelude.{◌≡◌, ℕ, Bool, List, [], ◌∷◌, ◌++◌, Option, Some, codes, length, slice_get, suc, zero}
+use Rattle.std.specs.Prelude.{◌≡◌, ◌≤◌, ◌+◌, ℕ, Bool, List, [], ◌∷◌, ◌++◌, Option, Some, codes, length, not, slice_get, suc, zero}
 use Rattle.std.specs.Fmt.{decimal}
 use Rattle.std.specs.Global.{Vec}
+use Rattle.i3c_explore.specs.declared.limits.Limits.{Limits}
 use Rattle.i3c_explore.specs.declared.node.Node.{Node}
 use Rattle.i3c_explore.specs.Parts.{Part}
+use Rattle.i3c_explore.specs.Runs.{IsByLayers}
 use Rattle.i3c_scene.specs.declared.line.Line.{Line}
+use Rattle.i3c_scene.specs.Latest.{latest_of}
 use Rattle.i3c_scene.specs.Scenes.{Seen}
 use Rattle.i3c_scene.specs.Shown.{IsShown}
+use Rattle.i3c_scene.specs.Trying.{LineSteps}
 use Rattle.i3c_tracks.specs.declared.course.Run.{Run}
+use Rattle.i3c_tracks.specs.declared.plan.Plan.{Plan}
 use Rattle.i3c_tracks.specs.Courses.{AreRunsOf, LeadsTo}
 use Rattle.i3c_tracks.specs.Planning.{IsPlan}
 use Rattle.i3c_tracks.specs.Telling.{head_text, like_text, orders_text}
@@ -33,12 +38,19 @@ count_text tokens count = tokens ++ (decimal count ++ 10 ∷ [])
 abbrev pub numbers_text : Option ℕ → ℕ → ℕ → List ℕ
 numbers_text orders steps ends = codes "orders " ++ (orders_text orders ++ (10 ∷ (count_text (codes "steps ") steps ++ count_text (codes "ends ") ends)))
 
--- what all orders of these blocks lead to
-abbrev pub IsReport : List (Vec ℕ) → List (Vec (Vec Line)) → List (Node Seen) → Option ℕ → List ℕ → Type 0
-IsReport lines blocks ends orders text =
-    (opened : List Bool) × (counted : Bool) × (steps : ℕ) × (told : List ℕ) × AreEndTexts lines blocks opened counted ends (length ends) told × (text ≡ numbers_text orders steps (length ends) ++ told)
+-- the ends of a plan's orders, after so many steps
+abbrev pub IsReport : List (Vec ℕ) → Plan → List (Node Seen) → Option ℕ → ℕ → List ℕ → Type 0
+IsReport lines plan ends orders steps text =
+    (told : List ℕ) × AreEndTexts lines plan.blocks.items plan.opened.items (not plan.risky) ends (length ends) told × (text ≡ numbers_text orders steps (length ends) ++ told)
 
--- what is printed of a file in whose part of orders all holds: what these lead to
-abbrev pub TellsEnds : List (Vec ℕ) → Part → List ℕ → Type 0
-TellsEnds lines part text =
-    (start : Seen) × (blocks : List (Vec (Vec Line))) × (ends : List (Node Seen)) × (orders : Option ℕ) × IsPlan lines start blocks × LeadsTo start blocks part ends orders × IsReport lines blocks ends orders text
+-- what is printed of a file in whose part of orders all holds: what these lead to. The steps are the lines before the bus and those that are run from there, layer by layer, and are within the limits
+pub record TellsEnds (lines : List (Vec ℕ)) (limits : Limits) (part : Part) (text : List ℕ) : Type 0 where
+  pub plan : Plan
+  pub is : IsPlan lines plan
+  pub ends : List (Node Seen)
+  pub orders : Option ℕ
+  pub ran : ℕ
+  pub leads : LeadsTo plan.start plan.blocks.items part ends orders
+  pub layers : IsByLayers LineSteps latest_of part plan.blocks.items plan.start limits.states ends ran
+  pub within : ran + length plan.before.items ≤ limits.steps
+  pub report : IsReport lines plan ends orders (ran + length plan.before.items) text

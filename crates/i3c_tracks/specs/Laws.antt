@@ -1,10 +1,17 @@
 -- What holds of every file.
 use Rattle.std.specs.Prelude.{◌≡◌, ℕ, List}
 use Rattle.std.specs.Global.{Vec}
-use Rattle.i3c_scene.specs.declared.line.Line.{Line}
-use Rattle.i3c_scene.specs.Scenes.{Seen}
+use Rattle.i3c_tracks.specs.declared.plan.Plan.{Plan}
 use Rattle.i3c_tracks.specs.Planning.{IsPlan, blocks_of}
 
--- a file has one plan at most: two have the same start and the same blocks
+-- two plans are the same: they have the same start, lines before it and blocks
+pub record AreAlike (one other : Plan) : Type 0 where
+  pub start : one.start ≡ other.start
+  pub before : one.before.items ≡ other.before.items
+  pub blocks : blocks_of one.blocks.items ≡ blocks_of other.blocks.items
+  pub opened : one.opened.items ≡ other.opened.items
+  pub risky : one.risky ≡ other.risky
+
+-- a file has one plan at most
 abbrev pub FilesHaveOnePlan : Type 0
-FilesHaveOnePlan = (lines : List (Vec ℕ)) (one other : Seen) (blocks more : List (Vec (Vec Line))) → IsPlan lines one blocks → IsPlan lines other more → (one ≡ other) × (blocks_of blocks ≡ blocks_of more)
+FilesHaveOnePlan = (lines : List (Vec ℕ)) (one other : Plan) → IsPlan lines one → IsPlan lines other → AreAlike one other

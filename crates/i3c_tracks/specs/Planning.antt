@@ -1,5 +1,5 @@
 -- Which plan is that of a file.
-use Rattle.std.specs.Prelude.{◌≡◌, ◌≢◌, ℕ, ◌+◌, Bool, true, false, List, [], ◌∷◌, ◌++◌, All, Option, Some, None, IfSome, is_some, if◌then◌else◌, map, slice_set}
+use Rattle.std.specs.Prelude.{◌≡◌, ℕ, ◌+◌, Bool, true, false, List, [], ◌∷◌, ◌++◌, All, Option, Some, None, IfSome, Ok, Err, Result, is_some, if◌then◌else◌, map, slice_set, take}
 use Rattle.std.specs.Global.{Vec}
 use Rattle.i3c_base.specs.declared.device.Setup.{Setup}
 use Rattle.i3c_base.specs.Cutting.{no_cuts}
@@ -19,7 +19,11 @@ use Rattle.i3c_scene.specs.declared.risk.Risk.{Risk}
 use Rattle.i3c_scene.specs.declared.named.Named.{Named}
 use Rattle.i3c_scene.specs.Scenes.{Seen, place_in}
 use Rattle.i3c_tracks.specs.declared.file_line.FileLine.{FileLine}
-use Rattle.i3c_tracks.specs.Refusing.{is_outer, risk_of}
+use Rattle.i3c_tracks.specs.declared.plan.Plan.{Plan}
+use Rattle.i3c_tracks.specs.declared.plan.PlanFault.{PlanFault}
+use Rattle.i3c_tracks.specs.declared.refusal.Reason.{Reason}
+use Rattle.i3c_tracks.specs.declared.refusal.Refusal.{Refusal}
+use Rattle.i3c_tracks.specs.Refusing.{at_end, at_line, first_refusal, outside, risk_of}
 use Rattle.i3c_tracks.specs.Saying.{IsFileLine}
 
 -- the bytes of lines, each with its line feed
@@ -31,12 +35,12 @@ lines_bytes (line ∷ rest) = line.items ++ 10 ∷ lines_bytes rest
 abbrev pub AreLines : Option (List ℕ) → List (Vec ℕ) → Type 0
 AreLines file lines = All (λ (line : Vec ℕ). HasNoFeed line.items) lines × IfSome file (λ bytes. lines_bytes lines ≡ bytes ++ 10 ∷ [])
 
--- what the lines from this number on say, each with its number; each of them has a form
+-- what the lines from this number on say, each with its number
 abbrev pub AreSaid : ℕ → List (Vec ℕ) → List (ℕ × FileLine) → Type 0
 AreSaid number [] [] = Unit {0}
 AreSaid number [] (said ∷ rest) = ⊥
 AreSaid number (line ∷ lines) [] = ⊥
-AreSaid number (line ∷ lines) ((at, said) ∷ rest) = (at ≡ number) × IsFileLine line.items said × (said ≢ FileLine.Formless) × AreSaid (number + 1) lines rest
+AreSaid number (line ∷ lines) ((at, said) ∷ rest) = (at ≡ number) × IsFileLine line.items said × AreSaid (number + 1) lines rest
 
 -- a line that runs: its number, its command, the devices at risk in its frame, and what is expected behind it. A line without a command is a place where something is expected
 pub record Step : Type 0 where
@@ -111,59 +115,67 @@ blocks_in false ((number, FileLine.Marks Mark.Any) ∷ rest) = tracks_in (risk_i
 blocks_in true ((number, FileLine.Marks Mark.Close) ∷ rest) = place (expected rest) ++ blocks_in false rest
 blocks_in inside (line ∷ rest) = blocks_in inside rest
 
--- the spot of a line: outside of blocks, at the head of one, where a track begins, or behind a line of a track
-pub data Spot : Type 0 where
-  Outside : Spot
-  Head : Spot
-  Beginning : Spot
-  Within : Spot
+-- blocks that no line opened
+abbrev pub unopened : List (List (List Step)) → List Bool
+unopened blocks = map (λ (block : List (List Step)). false) blocks
 
--- whether each of these lines is allowed at its spot, from a spot on, and each block is closed
-abbrev pub stand : Spot → List (ℕ × FileLine) → Bool
-stand Spot.Outside [] = true
-stand Spot.Outside ((number, FileLine.Marks Mark.Any) ∷ rest) = stand Spot.Head rest
-stand Spot.Outside ((number, FileLine.Marks (Mark.Expect facts)) ∷ rest) = stand Spot.Outside rest
-stand Spot.Outside ((number, FileLine.Marks mark) ∷ rest) = false
-stand Spot.Outside (line ∷ rest) = stand Spot.Outside rest
-stand Spot.Head ((number, FileLine.Nothing) ∷ rest) = stand Spot.Head rest
-stand Spot.Head ((number, FileLine.Marks (Mark.Anywhere name)) ∷ rest) = stand Spot.Head rest
-stand Spot.Head ((number, FileLine.Marks (Mark.Always facts)) ∷ rest) = stand Spot.Head rest
-stand Spot.Beginning ((number, FileLine.Nothing) ∷ rest) = stand Spot.Beginning rest
-stand Spot.Beginning ((number, FileLine.Does command) ∷ rest) = if is_outer command then false else stand Spot.Within rest
-stand Spot.Within ((number, FileLine.Nothing) ∷ rest) = stand Spot.Within rest
-stand Spot.Within ((number, FileLine.Does command) ∷ rest) = if is_outer command then false else stand Spot.Within rest
-stand Spot.Within ((number, FileLine.Marks (Mark.Expect facts)) ∷ rest) = stand Spot.Within rest
-stand inside ((number, FileLine.Marks Mark.Track) ∷ rest) = stand Spot.Beginning rest
-stand inside ((number, FileLine.Marks Mark.Close) ∷ rest) = stand Spot.Outside rest
-stand inside lines = false
+-- whether a line opened each of these blocks: `any` opens one, and a line or a place outside is one by itself
+abbrev pub opened_in : Bool → List (ℕ × FileLine) → List Bool
+opened_in inside [] = []
+opened_in false ((number, FileLine.Does command) ∷ rest) = false ∷ opened_in false rest
+opened_in false ((number, FileLine.Marks Mark.Any) ∷ rest) = true ∷ opened_in true rest
+opened_in true ((number, FileLine.Marks Mark.Close) ∷ rest) = unopened (place (expected rest)) ++ opened_in false rest
+opened_in inside (line ∷ rest) = opened_in inside rest
 
--- what a file asks for: the bus's main controller, what has a static address, the names that are given at its start, and the blocks
+-- whether a device may lose power in one of the blocks: a line is `anywhere`
+abbrev pub any_at_risk : List (ℕ × FileLine) → Bool
+any_at_risk [] = false
+any_at_risk ((number, FileLine.Marks (Mark.Anywhere name)) ∷ rest) = true
+any_at_risk (line ∷ rest) = any_at_risk rest
+
+-- what a file asks for: the bus's main controller, what has a static address, the names that are given at its start, the numbers
+-- of the commands up to `main`, the blocks, which of them a line opened, and whether a device may lose power in one
 pub record Outline : Type 0 where
   pub main : Setup
   pub board : Board
   pub names : List Named
+  pub before : List ℕ
   pub blocks : List (List (List Step))
+  pub opened : List Bool
+  pub risky : Bool
 
 abbrev pub named : Name → Place → Named
 named name place = record { name = name; place = place }
 
--- a line before the bus that isn't refused declares something, or makes the bus, and then the blocks follow. If a line isn't
--- allowed at its spot, nothing is required
-abbrev pub outline : Board → List Named → List (ℕ × FileLine) → Option Outline
-outline board names [] = None
-outline board names ((number, FileLine.Does (Command.Legacy name address lvr)) ∷ rest) =
-    if is_some (place_in names name) then outline board names rest else
-    (if is_some (first_fault board address) then outline board names rest else
-    outline (record board { legacy = slice_set board.legacy address (Some lvr) }) (names ++ named name (Place.Legacy address) ∷ []) rest)
-outline board names ((number, FileLine.Does (Command.Declare address identity)) ∷ rest) =
-    if is_some (first_declare_fault board address identity) then outline board names rest else
-    outline (record board { declared = slice_set board.declared address (Some identity) }) names rest
-outline board names ((number, FileLine.Does (Command.Main name setup)) ∷ rest) =
-    if is_some (place_in names name) then outline board names rest else
-    (if is_capable setup.identity.bcr then (if stand Spot.Outside rest then Some (record { main = setup; board = board; names = names ++ named name (Place.Slot 0) ∷ []; blocks = place (expected rest) ++ blocks_in false rest }) else None) else
-    outline board names rest)
-outline board names ((number, FileLine.Marks mark) ∷ rest) = None
-outline board names (line ∷ rest) = outline board names rest
+-- an outline, unless a line is refused
+abbrev pub unless : Option Refusal → Outline → Result Outline Refusal
+unless None out = Ok out
+unless (Some refusal) out = Err refusal
+
+-- a bus was made, and these lines follow
+abbrev pub made : Setup → Board → List Named → List ℕ → List (ℕ × FileLine) → Result Outline Refusal
+made main board names before rest =
+    unless (first_refusal outside rest) (record { main = main; board = board; names = names; before = before; blocks = place (expected rest) ++ blocks_in false rest; opened = unopened (place (expected rest)) ++ opened_in false rest; risky = any_at_risk rest })
+
+-- a command before the bus declares something, or makes the bus, and then the blocks follow; what a script would refuse does nothing. `before` has the numbers of the commands so far.
+-- Or the first line that is refused, by its number, or why the file is refused at its end
+abbrev pub outline : Board → List Named → List ℕ → List (ℕ × FileLine) → Result Outline Refusal
+outline board names before [] = Err (at_end Reason.NoBus)
+outline board names before ((number, FileLine.Does (Command.Legacy name address lvr)) ∷ rest) =
+    if is_some (place_in names name) then outline board names (before ++ number ∷ []) rest else
+    (if is_some (first_fault board address) then outline board names (before ++ number ∷ []) rest else
+    outline (record board { legacy = slice_set board.legacy address (Some lvr) }) (names ++ named name (Place.Legacy address) ∷ []) (before ++ number ∷ []) rest)
+outline board names before ((number, FileLine.Does (Command.Declare address identity)) ∷ rest) =
+    if is_some (first_declare_fault board address identity) then outline board names (before ++ number ∷ []) rest else
+    outline (record board { declared = slice_set board.declared address (Some identity) }) names (before ++ number ∷ []) rest
+outline board names before ((number, FileLine.Does (Command.Main name setup)) ∷ rest) =
+    if is_some (place_in names name) then outline board names (before ++ number ∷ []) rest else
+    (if is_capable setup.identity.bcr then made setup board (names ++ named name (Place.Slot 0) ∷ []) (before ++ number ∷ []) rest else
+    outline board names (before ++ number ∷ []) rest)
+outline board names before ((number, FileLine.Does command) ∷ rest) = outline board names (before ++ number ∷ []) rest
+outline board names before ((number, FileLine.Nothing) ∷ rest) = outline board names before rest
+outline board names before ((number, FileLine.Formless) ∷ rest) = Err (at_line number Reason.BadLine)
+outline board names before ((number, FileLine.Marks mark) ∷ rest) = Err (at_line number Reason.NoBus)
 
 -- the start of an outline's bus: its frames accept each request, and no cut waits
 pub record IsStartOf (outline : Outline) (start : Seen) : Type 0 where
@@ -186,11 +198,34 @@ tracks_of tracks = map steps_of tracks
 abbrev pub blocks_of : List (Vec (Vec Line)) → List (List (List Step))
 blocks_of blocks = map (λ (block : Vec (Vec Line)). tracks_of block.items) blocks
 
--- the plan of a file's lines: a bus at its start, and the blocks of lines that run from there
-pub record IsPlan (lines : List (Vec ℕ)) (start : Seen) (blocks : List (Vec (Vec Line))) : Type 0 where
+-- a plan is what an outline asks for
+pub record IsPlanOf (outline : Outline) (plan : Plan) : Type 0 where
+  pub start : IsStartOf outline plan.start
+  pub before : plan.before.items ≡ outline.before
+  pub blocks : blocks_of plan.blocks.items ≡ outline.blocks
+  pub opened : plan.opened.items ≡ outline.opened
+  pub risky : plan.risky ≡ outline.risky
+
+-- the plan of a file's lines: a bus at its start, the numbers of the lines before it, and the blocks of lines that run from there
+pub record IsPlan (lines : List (Vec ℕ)) (plan : Plan) : Type 0 where
   pub said : List (ℕ × FileLine)
   pub are : AreSaid 1 lines said
   pub outlined : Outline
-  pub is : outline no_board [] said ≡ Some outlined
-  pub starts : IsStartOf outlined start
-  pub same : blocks_of blocks ≡ outlined.blocks
+  pub is : outline no_board [] [] said ≡ Ok outlined
+  pub of : IsPlanOf outlined plan
+
+-- the lines of a file up to the one with this number, or all of them
+abbrev pub lines_to : Option ℕ → List (Vec ℕ) → List (Vec ℕ)
+lines_to None lines = lines
+lines_to (Some number) lines = take number lines
+
+-- a file is refused for what its lines say up to the one that is refused: that is the first
+pub record IsRefusedFor (lines : List (Vec ℕ)) (refusal : Refusal) : Type 0 where
+  pub said : List (ℕ × FileLine)
+  pub are : AreSaid 1 (lines_to refusal.line lines) said
+  pub is : outline no_board [] [] said ≡ Err refusal
+
+-- why there is no plan of a file: there was no memory, or the file is refused
+abbrev pub HasNoPlan : List (Vec ℕ) → PlanFault → Type 0
+HasNoPlan lines PlanFault.Memory = Unit {0}
+HasNoPlan lines (PlanFault.Refused refusal) = IsRefusedFor lines refusal

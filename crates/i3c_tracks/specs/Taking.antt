@@ -3,8 +3,7 @@ use Rattle.std.specs.Prelude.{◌≡◌, ℕ, List, Some, None, Result, MatchRes
 use Rattle.i3c_tracks.specs.declared.draft.Draft.{Draft}
 use Rattle.i3c_tracks.specs.declared.plan.PlanFault.{PlanFault}
 use Rattle.i3c_tracks.specs.declared.file_line.FileLine.{FileLine}
-use Rattle.i3c_tracks.specs.Drafting.{Reads}
-use Rattle.i3c_tracks.specs.Refusing.{refuses}
+use Rattle.i3c_tracks.specs.Drafting.{Reads, refuses}
 use Rattle.i3c_tracks.specs.Saying.{IsFileLine}
 
 -- the line isn't refused, and is read

@@ -19,6 +19,7 @@ reason_token Reason.NoBlock = codes "NoBlock"
 reason_token Reason.BlockOpen = codes "BlockOpen"
 reason_token Reason.NoTrack = codes "NoTrack"
 reason_token Reason.NoLine = codes "NoLine"
+reason_token Reason.ManyFrames = codes "ManyFrames"
 reason_token Reason.Most = codes "Most"
 reason_token Reason.NoClose = codes "NoClose"
 

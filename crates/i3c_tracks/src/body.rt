@@ -112,13 +112,14 @@ fn refused_outside(mark: &Mark) -> Option<Reason>
 }
 
 impl Body {
-    ghost use Rattle.std.specs.Prelude.{◌≡◌, ◌++◌, [], ℕ, List, None, Some, IfOk, IfSome, OnOk, option_map, false};
+    ghost use Rattle.std.specs.Prelude.{◌≡◌, ◌++◌, [], ℕ, List, None, Some, IfOk, MatchOption, OnOk, option_map, false};
     ghost use Rattle.i3c_lines.specs.declared.command.Command.{Command as CommandValue};
     ghost use Rattle.i3c_facts.specs.declared.marks.Mark.{Mark as MarkValue};
     ghost use Rattle.i3c_tracks.specs.declared.file_line.FileLine.{FileLine as FileLineValue};
     ghost use Rattle.i3c_tracks.specs.Planning.{blocks_of, step_of, tracks_of};
-    ghost use Rattle.i3c_tracks.specs.Drafting.{Adds, Holds, IsUnread, Puts, ReadsOn, Settles, TakesPlace, comes_to, with_expected};
-    ghost use Rattle.i3c_tracks.specs.Refusing.{begins_track, has_command, is_in_track, misses_line, refuses_body, refuses_mark_there, refuses_there};
+    ghost use Rattle.i3c_tracks.specs.Drafting.{Adds, Holds, IsUnread, Puts, ReadsOn, Settles, TakesPlace, comes_to, here_of, opens, refusal_left, risks, with_expected};
+    ghost use Rattle.i3c_tracks.specs.Refusing.{at_end, begins_track, has_command, is_in_track, misses_line, refuses_here, refuses_mark_there, refuses_there};
+    ghost use Rattle.i3c_tracks.specs.declared.refusal.Reason.{Reason as ReasonValue};
 
     /// Nothing behind this bus was read.
     pub(crate) fn new(alloc: Global, start: Scene) -> Body
@@ -138,7 +139,7 @@ impl Body {
 
     /// Why a command is refused here, if it is.
     pub(crate) fn refuses(&self, command: &Command) -> Option<Reason>
-        ensures { result ≡ refuses_there self.now.block command.now }
+        ensures { result ≡ refuses_there (here_of self.now).block command.now }
     {
         match &self.block {
             Some(open) => open.refuses(command),
@@ -148,7 +149,7 @@ impl Body {
 
     /// Why a mark is refused here, if it is.
     pub(crate) fn refuses_mark(&self, mark: &Mark) -> Option<Reason>
-        ensures { result ≡ refuses_body self.now mark.now }
+        ensures { result ≡ refuses_here (here_of self.now) (FileLineValue.Marks mark.now) }
     {
         let refused = match &self.block {
             Some(open) => open.refuses_mark(mark),
@@ -163,7 +164,7 @@ impl Body {
 
     /// Whether a mark has no line before it that it needs.
     fn misses_line(&self, mark: &Mark) -> bool
-        ensures { result ≡ misses_line self.now.block self.now.held mark.now }
+        ensures { result ≡ misses_line (here_of self.now).block (here_of self.now).before mark.now }
     {
         match mark {
             Mark::Expect(facts) => {
@@ -176,14 +177,14 @@ impl Body {
 
     /// Whether the next line begins a track.
     fn begins_track(&self) -> bool
-        ensures { result ≡ begins_track self.now.block self.now.held }
+        ensures { result ≡ begins_track (here_of self.now).block (here_of self.now).before }
     {
         self.is_in_track() && self.held.is_none()
     }
 
     /// Whether the line before is known, and has a command.
     fn has_command(&self) -> bool
-        ensures { result ≡ has_command self.now.held }
+        ensures { result ≡ has_command (here_of self.now).before }
     {
         match &self.held {
             Some(line) => line.command.is_some(),
@@ -193,7 +194,7 @@ impl Body {
 
     /// Whether a track has begun in the open block.
     fn is_in_track(&self) -> bool
-        ensures { result ≡ is_in_track self.now.block }
+        ensures { result ≡ is_in_track (here_of self.now).block }
     {
         match &self.block {
             Some(open) => open.has_track(),
@@ -203,7 +204,7 @@ impl Body {
 
     /// Adds a command that isn't refused.
     pub(crate) fn add_command(&mut self, number: u64, command: Command) -> Result<(), AllocError>
-        requires { refuses_there self.old.block command ≡ None }
+        requires { refuses_there (here_of self.old).block command ≡ None }
         ensures { OnOk result (ReadsOn self.old (number, FileLineValue.Does command) self.new) }
     {
         self.settle()?;
@@ -229,8 +230,8 @@ impl Body {
 
     /// Adds a mark that isn't refused.
     pub(crate) fn add_mark(&mut self, number: u64, mark: Mark) -> Result<(), AllocError>
-        requires placed { refuses_mark_there self.old.block mark ≡ None }
-        requires known { misses_line self.old.block self.old.held mark ≡ false }
+        requires placed { refuses_mark_there (here_of self.old).block mark ≡ None }
+        requires known { misses_line (here_of self.old).block (here_of self.old).before mark ≡ false }
         ensures { OnOk result (ReadsOn self.old (number, FileLineValue.Marks mark) self.new) }
     {
         match mark {
@@ -251,7 +252,7 @@ impl Body {
 
     /// `anywhere`: this device may lose power in any frame of the block.
     fn add_risk(&mut self, name: Name)
-        requires { refuses_mark_there self.old.block (MarkValue.Anywhere name) ≡ None }
+        requires { refuses_mark_there (here_of self.old).block (MarkValue.Anywhere name) ≡ None }
         ensures { (number : ℕ) → ReadsOn self.old (number, FileLineValue.Marks (MarkValue.Anywhere name)) self.new }
     {
         self.risky = true;
@@ -265,7 +266,7 @@ impl Body {
 
     /// `always`: these facts have to hold at the block's start and after each of its lines.
     fn add_always(&mut self, number: u64, facts: Facts) -> Result<(), AllocError>
-        requires { refuses_mark_there self.old.block (MarkValue.Always facts) ≡ None }
+        requires { refuses_mark_there (here_of self.old).block (MarkValue.Always facts) ≡ None }
         ensures { OnOk result (ReadsOn self.old (number, FileLineValue.Marks (MarkValue.Always facts)) self.new) }
     {
         let again = facts.copied()?;
@@ -290,7 +291,7 @@ impl Body {
 
     /// `track`: the next track begins.
     fn begin_track(&mut self) -> Result<(), AllocError>
-        requires { refuses_mark_there self.old.block MarkValue.Track ≡ None }
+        requires { refuses_mark_there (here_of self.old).block MarkValue.Track ≡ None }
         ensures { OnOk result ((number : ℕ) → ReadsOn self.old (number, FileLineValue.Marks MarkValue.Track) self.new) }
     {
         self.settle()?;
@@ -302,7 +303,7 @@ impl Body {
 
     /// `close`: the block is added.
     fn close(&mut self) -> Result<(), AllocError>
-        requires { refuses_mark_there self.old.block MarkValue.Close ≡ None }
+        requires { refuses_mark_there (here_of self.old).block MarkValue.Close ≡ None }
         ensures { OnOk result ((number : ℕ) → ReadsOn self.old (number, FileLineValue.Marks MarkValue.Close) self.new) }
     {
         self.settle()?;
@@ -317,7 +318,7 @@ impl Body {
 
     /// Adds a block, which a line opened or which is one line by itself.
     fn add_block(&mut self, tracks: Vec<Vec<Line>>, opened: bool) -> Result<(), AllocError>
-        ensures { OnOk result (Adds self.old (tracks_of tracks.items) self.new) }
+        ensures { OnOk result (Adds self.old (tracks_of tracks.items) opened self.new) }
     {
         self.blocks.push(tracks)?;
         self.opened.push(opened)?;
@@ -358,7 +359,8 @@ impl Body {
 
     /// The blocks, after the last line, if none is open.
     pub(crate) fn finish(self) -> Result<Option<Blocks>, AllocError>
-        ensures { IfOk result (λ found. IfSome found (λ blocks. (blocks.start ≡ self.start) × (self.block ≡ None) × (blocks_of blocks.blocks.items ≡ comes_to self []))) }
+        ensures { IfOk result (λ found. MatchOption found (refusal_left self [] ≡ Some (at_end ReasonValue.NoClose))
+            (λ blocks. (blocks.start ≡ self.start) × (refusal_left self [] ≡ None) × (blocks_of blocks.blocks.items ≡ comes_to self []) × (blocks.opened.items ≡ opens self []) × (blocks.risky ≡ risks self []))) }
     {
         let mut body = self;
         if body.block.is_some() {

@@ -1,4 +1,6 @@
-ghost use Rattle.std.specs.Prelude.{◌≡◌, ℕ, List, ◌++◌, ◌∷◌, [], OnOk, codes};
+ghost use Rattle.std.specs.Prelude.{◌≡◌, ℕ, List, ◌++◌, ◌∷◌, [], IfOk, OnOk, codes};
+ghost use Rattle.i3c_scene.specs.Trying.{LineSteps};
+ghost use Rattle.i3c_tracks.specs.Courses.{AreRunsOf, LastBreaks, RunsLead};
 ghost use Rattle.i3c_tracks.specs.Telling.{breaks_text, comment_text, expectation_text, heading_text, line_at, lines_text, run_text, runs_text, script_text, short_line, told_text};
 ghost use Rattle.i3c_tracks.specs.declared.course.Run.{Run as RunValue};
 
@@ -24,7 +26,8 @@ pub(crate) fn push_broken(
     order: &[Turn],
     text: &mut Text,
 ) -> Result<(), AllocError>
-    ensures { OnOk result ((runs : List RunValue) × (number : ℕ) × (found : List ℕ) × (text.new ≡ text.old ++ script_text lines.now plan.now.before.items runs number found)) }
+    ensures { OnOk result ((runs : List RunValue) × (number : ℕ) × (there : List ℕ) × AreRunsOf plan.now.blocks.items plan.now.opened.items order.now runs
+        × LastBreaks plan.now.start runs number there × (text.new ≡ text.old ++ script_text lines.now plan.now.before.items runs number there)) }
 {
     let runs = runs_of(alloc, plan, order)?;
     let mut found = Text::new(alloc);
@@ -60,13 +63,15 @@ fn push_script(
     push_expectation(broken, text)
 }
 
-/// The number of the expectation that the last of these lines breaks. What is there is appended to the text.
+/// The number of the first expectation that the last of these lines breaks. What is there is appended to the text.
 fn unmet_number(
     alloc: Global,
     plan: &Plan,
     runs: &[Run<'_>],
     found: &mut Text,
-) -> Result<u64, AllocError> {
+) -> Result<u64, AllocError>
+    ensures { IfOk result (λ number. (there : List ℕ) × LastBreaks plan.now.start runs.now number there × (found.new ≡ found.old ++ there)) }
+{
     let Some((last, earlier)) = runs.split_last() else {
         return Err(AllocError);
     };
@@ -78,14 +83,24 @@ fn unmet_number(
 }
 
 /// The scene after these lines.
-fn scene_after(alloc: Global, plan: &Plan, runs: &[Run<'_>]) -> Result<Scene, AllocError> {
+fn scene_after(alloc: Global, plan: &Plan, earlier: &[Run<'_>]) -> Result<Scene, AllocError>
+    ensures { IfOk result (RunsLead plan.now.start earlier.now) }
+{
     let mut scene = plan.start.copied(alloc)?;
-    for run in runs {
-        if let Some(next) = scene.after(alloc, run.line, run.way)? {
-            scene = next;
-        }
+    for index in 0..earlier.len() {
+        scene = next_scene(alloc, &scene, &earlier[index])?;
     }
     Ok(scene)
+}
+
+/// The scene after a line that leads on, as each line before the last one of an order does.
+fn next_scene(alloc: Global, scene: &Scene, run: &Run<'_>) -> Result<Scene, AllocError>
+    ensures { IfOk result (λ next. LineSteps scene.now run.now.line.now run.now.way next) }
+{
+    match scene.after(alloc, run.line, run.way)? {
+        Some(next) => Ok(next),
+        None => Err(AllocError),
+    }
 }
 
 /// Appends the comments before the script.

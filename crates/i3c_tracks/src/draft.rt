@@ -21,11 +21,10 @@ pub(crate) struct Draft {
 }
 
 impl Draft {
-    ghost use Rattle.std.specs.Prelude.{◌≡◌, ℕ, List, Option, [], None, Some, IfOk, OnOk};
+    ghost use Rattle.std.specs.Prelude.{◌≡◌, ℕ, List, Option, [], None, Some, Ok, MatchResult, OnOk};
     ghost use Rattle.i3c_base.specs.State.{no_board};
-    ghost use Rattle.i3c_tracks.specs.Drafting.{IsBegunBy, IsOutlined, IsUnread, Reads, comes};
-    ghost use Rattle.i3c_tracks.specs.Planning.{Outline, outline};
-    ghost use Rattle.i3c_tracks.specs.Refusing.{refuses};
+    ghost use Rattle.i3c_tracks.specs.Drafting.{IsBegunBy, IsEndFault, IsUnread, Reads, comes, refuses};
+    ghost use Rattle.i3c_tracks.specs.Planning.{IsPlanOf, Outline, outline};
     ghost use Rattle.i3c_tracks.specs.Taking.{Takes};
     ghost use Rattle.i3c_tracks.specs.declared.body.Body.{Body as BodyValue};
     ghost use Rattle.i3c_tracks.specs.declared.file_line.FileLine.{FileLine as FileLineValue};
@@ -33,7 +32,7 @@ impl Draft {
     /// A plan before the first line.
     pub(crate) fn new(alloc: Global) -> Draft
         ensures begun { (first : Option Outline) → IsBegunBy result.body first }
-        ensures outline { (first : Option Outline) (rest : List (ℕ × FileLineValue)) → comes result first rest ≡ outline no_board [] rest }
+        ensures outline { (first : Option Outline) (rest : List (ℕ × FileLineValue)) → comes result first rest ≡ outline no_board [] [] rest }
     {
         Draft {
             alloc,
@@ -138,7 +137,7 @@ impl Draft {
 
     /// The plan, after the last line.
     pub(crate) fn finish(self) -> Result<Plan, PlanFault>
-        ensures { IfOk result (λ plan. (first : Option Outline) → IsBegunBy self.body first → (out : Outline) × (comes self first [] ≡ Some out) × IsOutlined out plan.start plan.blocks.items) }
+        ensures { MatchResult result (λ plan. (first : Option Outline) → IsBegunBy self.body first → (out : Outline) × (comes self first [] ≡ Ok out) × IsPlanOf out plan) (IsEndFault self) }
     {
         let Draft {
             alloc: _,

@@ -1,11 +1,12 @@
-ghost use Rattle.std.specs.Prelude.{◌≡◌, ◌<◌, ◌≤◌, ℕ, List, [], ◌∷◌, ◌++◌, Err, IfOk, IfSome, OnOk, length};
+ghost use Rattle.std.specs.Prelude.{◌≡◌, ◌<◌, ◌≤◌, ◌+◌, ℕ, List, [], ◌∷◌, ◌++◌, Err, IfOk, IfSome, OnOk, length};
 ghost use Rattle.std.specs.Global.{Vec as VecValue};
 ghost use Rattle.std.specs.Io.KnownBytes.{Appends, IsAtEnd};
 ghost use Rattle.i3c_tracks.specs.Answering.{IsAnswer, IsExplored, IsPrinted};
 ghost use Rattle.i3c_tracks.specs.Planning.{AreLines, IsPlan};
 ghost use Rattle.i3c_tracks.specs.Telling.{refusal_line};
 ghost use Rattle.i3c_tracks.specs.declared.answer.Answer.{Answer as AnswerValue};
-ghost use Rattle.i3c_tracks.specs.declared.refusal.Refusal.{Refusal as RefusalValue};
+ghost use Rattle.i3c_tracks.specs.Refusing.{at_end};
+ghost use Rattle.i3c_tracks.specs.declared.refusal.Reason.{Reason as ReasonValue};
 
 use crate::answer::Answer;
 use crate::broken::push_broken;
@@ -41,10 +42,10 @@ pub fn run_explore<T: Threads + Sync, R: Read, W: Write, V: Watch>(
     // Every order of the part, by the plan that the file's lines have, leads on and breaks no expectation; or one breaks
     // one, and no shorter one of the part does.
     ensures answer { IfOk result (λ answer. (lines : List (VecValue ℕ)) × AreLines (R.remaining reader.old) lines × IsExplored lines part answer) }
-    // What went out is one of three. It is a refusal. Or it is an order that breaks an expectation, as a script of the
-    // file's lines. Or it has the ends to which all orders of the part lead, each with an order that leads there, and how
-    // many orders do.
-    ensures printed { IfOk result (λ answer. (lines : List (VecValue ℕ)) × (said : List ℕ) × AreLines (R.remaining reader.old) lines × IsPrinted lines part answer [] said × Appends (W.contents writer.old) (W.contents writer.new) said) }
+    // What went out is one of three. It is the first refusal of the file's lines, or that a limit was reached. Or it is the shortest order that breaks an expectation, as a script of
+    // the file's lines, with which expectation the last of them breaks. Or it has the ends to which all orders of the part
+    // lead, each with an order that leads there, how many orders do, and how many lines were run.
+    ensures printed { IfOk result (λ answer. (lines : List (VecValue ℕ)) × (said : List ℕ) × AreLines (R.remaining reader.old) lines × IsPrinted lines limits part answer [] said × Appends (W.contents writer.old) (W.contents writer.new) said) }
 {
     let lines = match read_lines(alloc, reader) {
         Ok(lines) => lines,
@@ -109,7 +110,7 @@ fn answer_file<T: Threads + Sync, V: Watch>(
     text: &mut Text,
 ) -> Result<Answer, AllocError>
     ensures answer { IfOk result (IsExplored lines.now part) }
-    ensures printed { IfOk result (λ answer. IsPrinted lines.now part answer text.old text.new) }
+    ensures printed { IfOk result (λ answer. IsPrinted lines.now limits part answer text.old text.new) }
 {
     match read_plan(alloc, lines) {
         Ok(plan) => explore_plan(rt, alloc, lines, &plan, limits, part, jobs, watch, text),
@@ -122,7 +123,10 @@ fn answer_file<T: Threads + Sync, V: Watch>(
 }
 
 /// What is left of the limits after the lines before the bus.
-fn limits_left(limits: Limits, before: usize) -> Option<Limits> {
+fn limits_left(limits: Limits, before: usize) -> Option<Limits>
+    ensures steps { IfSome result (λ left. left.steps + before ≡ limits.steps) }
+    ensures states { IfSome result (λ left. left.states ≡ limits.states) }
+{
     let steps = limits.steps.checked_sub(before as u64)?;
     Some(Limits {
         steps,
@@ -143,13 +147,13 @@ fn explore_plan<T: Threads + Sync, V: Watch>(
     text: &mut Text,
 ) -> Result<Answer, AllocError>
     ensures answer { IfOk result (IsAnswer plan.now.start plan.now.blocks.items part) }
-    ensures printed { IsPlan lines.now plan.now.start plan.now.blocks.items → IfOk result (λ answer. IsPrinted lines.now part answer text.old text.new) }
+    ensures printed { IsPlan lines.now plan.now → IfOk result (λ answer. IsPrinted lines.now limits part answer text.old text.new) }
 {
-    let Some(limits) = limits_left(limits, plan.before.len()) else {
+    let Some(left) = limits_left(limits, plan.before.len()) else {
         return refuse_most(text);
     };
     let start = plan.start.copied(alloc)?;
-    match explore_on(rt, alloc, start, &plan.blocks, limits, part, jobs, watch) {
+    match explore_on(rt, alloc, start, &plan.blocks, left, part, jobs, watch) {
         Ok(found) => {
             push_report(alloc, lines, plan, &found, text)?;
             Ok(Answer::Holds)
@@ -166,7 +170,7 @@ fn explore_plan<T: Threads + Sync, V: Watch>(
 /// Appends that a limit was reached.
 fn refuse_most(text: &mut Text) -> Result<Answer, AllocError>
     ensures answer { IfOk result (λ answer. answer ≡ AnswerValue.Refused) }
-    ensures printed { OnOk result ((refusal : RefusalValue) × (text.new ≡ text.old ++ refusal_line refusal)) }
+    ensures printed { OnOk result (text.new ≡ text.old ++ refusal_line (at_end ReasonValue.Most)) }
 {
     let refusal = Refusal {
         reason: Reason::Most,

@@ -1,6 +1,6 @@
 ghost use Rattle.std.specs.Prelude.{◌≡◌, ◌∷◌, [], OnOk};
-ghost use Rattle.i3c_tracks.specs.Refusing.{is_full, is_outer, sends_frame};
-ghost use Rattle.i3c_tracks.specs.Drafting.{awaited, with_more};
+ghost use Rattle.i3c_tracks.specs.Refusing.{is_full, is_outer, is_risky, sends_frame, sends_many, with_more};
+ghost use Rattle.i3c_tracks.specs.Drafting.{awaited};
 ghost use Rattle.i3c_tracks.specs.Planning.{step_of};
 
 use crate::refusal::Reason;
@@ -41,6 +41,23 @@ fn sends_frame(command: &Command) -> bool
         command,
         Command::Frame(_) | Command::HandOver { .. } | Command::Open | Command::Round | Command::Daa
     )
+}
+
+/// Whether a command sends several frames, between which no line of another track runs.
+fn sends_many(command: &Command) -> bool
+    ensures { result ≡ sends_many command.now }
+{
+    matches!(command, Command::Daa)
+}
+
+/// Whether a device is at risk.
+fn is_risky(risk: &Risk) -> bool
+    ensures { result ≡ is_risky risk.now }
+{
+    match risk {
+        Risk::Nobody => false,
+        Risk::One(_) | Risk::Two(..) => true,
+    }
 }
 
 /// Whether two devices are at risk already.
@@ -102,14 +119,15 @@ fn expect_again(expectation: &Expectation, line: &mut Line) -> Result<(), AllocE
 
 impl OpenBlock {
     ghost use Rattle.std.specs.Prelude.{◌≡◌, ◌++◌, ◌∷◌, ◌==◌, [], None, Some, IfOk, OnOk, false, is_some, option_map, if◌then◌else◌};
-    ghost use Rattle.i3c_tracks.specs.Refusing.{is_full, refuses_command, refuses_mark, risk_of};
-    ghost use Rattle.i3c_tracks.specs.Drafting.{all_tracks, awaited, open_of, with_line, with_more};
+    ghost use Rattle.i3c_tracks.specs.Refusing.{is_full, is_risky, one_line, one_risk, one_track, opened_block, refuses_command, refuses_mark, risk_of, with_more};
+    ghost use Rattle.i3c_tracks.specs.Drafting.{all_tracks, awaited, inside_of, open_of, with_line};
     ghost use Rattle.i3c_scene.specs.declared.risk.Risk.{Risk as RiskValue};
     ghost use Rattle.i3c_tracks.specs.Planning.{step_of, tracks_of};
 
     /// A block before its first line.
     pub(crate) fn new(alloc: Global) -> OpenBlock
-        ensures { open_of result ≡ record { risk = RiskValue.Nobody; always = []; tracks = []; last = None } }
+        ensures empty { open_of result ≡ record { risk = RiskValue.Nobody; always = []; tracks = []; last = None } }
+        ensures inside { inside_of result ≡ opened_block }
     {
         OpenBlock {
             risk: Risk::Nobody,
@@ -130,13 +148,16 @@ impl OpenBlock {
 
     /// Why a command is refused here, if it is.
     pub(crate) fn refuses(&self, command: &Command) -> Option<Reason>
-        ensures { result ≡ refuses_command (is_some self.now.last) self.now.lines_left command.now }
+        ensures { result ≡ refuses_command (is_some self.now.last) (is_risky self.now.risk) self.now.lines_left command.now }
     {
         if is_outer(command) {
             return Some(Reason::BlockOpen);
         }
         if !self.has_track() {
             return Some(Reason::NoTrack);
+        }
+        if is_risky(&self.risk) && sends_many(command) {
+            return Some(Reason::ManyFrames);
         }
         if self.lines_left == 0 {
             return Some(Reason::Most);
@@ -162,7 +183,7 @@ impl OpenBlock {
     pub(crate) fn add_risk(&mut self, name: Name)
         requires { is_full self.old.risk ≡ false }
         ensures added { open_of self.new ≡ record (open_of self.old) { risk = with_more self.old.risk name } }
-        ensures begun { self.new.last ≡ self.old.last }
+        ensures inside { inside_of self.new ≡ one_risk name (inside_of self.old) }
     {
         self.risk = with_more(self.risk, name);
     }
@@ -171,7 +192,7 @@ impl OpenBlock {
     pub(crate) fn take_place(&mut self, command: &Command) -> Risk
         ensures risk { result ≡ risk_of self.old.risk command.now }
         ensures same { open_of self.new ≡ open_of self.old }
-        ensures begun { is_some self.new.last ≡ is_some self.old.last }
+        ensures inside { inside_of self.new ≡ one_line (inside_of self.old) }
     {
         self.lines_left = self.lines_left.saturating_sub(1);
         if sends_frame(command) {
@@ -184,7 +205,7 @@ impl OpenBlock {
     /// From now on this has to hold after each line.
     pub(crate) fn add_always(&mut self, expectation: Expectation) -> Result<(), AllocError>
         ensures added { OnOk result (open_of self.new ≡ record (open_of self.old) { always = self.old.always.items ++ expectation ∷ [] }) }
-        ensures begun { self.new.last ≡ self.old.last }
+        ensures inside { inside_of self.new ≡ inside_of self.old }
     {
         self.always.push(expectation)?;
         Ok(())
@@ -193,7 +214,7 @@ impl OpenBlock {
     /// Puts a line behind the last one of the last track, with what has to hold after each line.
     pub(crate) fn push(&mut self, line: Line) -> Result<(), AllocError>
         ensures pushed { OnOk result (open_of self.new ≡ with_line (step_of line) (open_of self.old)) }
-        ensures begun { is_some self.new.last ≡ is_some self.old.last }
+        ensures inside { inside_of self.new ≡ inside_of self.old }
     {
         let mut line = line;
         expect_always(&self.always, &mut line)?;
@@ -208,7 +229,8 @@ impl OpenBlock {
 
     /// Begins the next track.
     pub(crate) fn begin_track(&mut self, alloc: Global) -> Result<(), AllocError>
-        ensures { OnOk result (open_of self.new ≡ record (open_of self.old) { tracks = all_tracks (open_of self.old).tracks (open_of self.old).last; last = Some [] }) }
+        ensures begun { OnOk result (open_of self.new ≡ record (open_of self.old) { tracks = all_tracks (open_of self.old).tracks (open_of self.old).last; last = Some [] }) }
+        ensures inside { OnOk result (inside_of self.new ≡ one_track (inside_of self.old)) }
     {
         self.end_track()?;
         self.tracks_left = self.tracks_left.saturating_sub(1);
@@ -218,7 +240,9 @@ impl OpenBlock {
 
     /// Ends the last track, if one has begun.
     fn end_track(&mut self) -> Result<(), AllocError>
-        ensures { OnOk result (open_of self.new ≡ record (open_of self.old) { tracks = all_tracks (open_of self.old).tracks (open_of self.old).last; last = None }) }
+        ensures ended { OnOk result (open_of self.new ≡ record (open_of self.old) { tracks = all_tracks (open_of self.old).tracks (open_of self.old).last; last = None }) }
+        ensures tracks { self.new.tracks_left ≡ self.old.tracks_left }
+        ensures lines { self.new.lines_left ≡ self.old.lines_left }
     {
         match mem::replace(&mut self.last, None) {
             Some(track) => {

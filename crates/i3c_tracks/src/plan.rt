@@ -1,5 +1,5 @@
-ghost use Rattle.std.specs.Prelude.{IfOk};
-ghost use Rattle.i3c_tracks.specs.Planning.{IsPlan};
+ghost use Rattle.std.specs.Prelude.{MatchResult};
+ghost use Rattle.i3c_tracks.specs.Planning.{HasNoPlan, IsPlan};
 
 use crate::draft::Draft;
 use crate::refusal::{Reason, Refusal};
@@ -31,8 +31,14 @@ pub enum PlanFault {
 }
 
 impl PlanFault {
+    ghost use Rattle.std.specs.Prelude.{◌≡◌};
+    ghost use Rattle.i3c_tracks.specs.Refusing.{at_end};
+    ghost use Rattle.i3c_tracks.specs.declared.plan.PlanFault.{PlanFault as PlanFaultValue};
+
     /// The whole file is refused.
-    pub(crate) fn of_file(reason: Reason) -> PlanFault {
+    pub(crate) fn of_file(reason: Reason) -> PlanFault
+        ensures { result ≡ PlanFaultValue.Refused (at_end reason) }
+    {
         PlanFault::Refused(Refusal { reason, line: None })
     }
 }
@@ -54,7 +60,7 @@ impl From<AllocError> for PlanFault {
 ///
 /// `Refused` has the first line that is refused, and its reason; or why the file is refused at its end.
 pub fn read_plan(alloc: Global, lines: &[Vec<u8>]) -> Result<Plan, PlanFault>
-    ensures { IfOk result (λ plan. IsPlan lines.now plan.start plan.blocks.items) }
+    ensures { MatchResult result (IsPlan lines.now) (HasNoPlan lines.now) }
 {
     let mut draft = Draft::new(alloc);
     for index in 0..lines.len() {

@@ -16,6 +16,8 @@ pub enum Reason {
     NoTrack,
     /// An expectation has no line before it.
     NoLine,
+    /// The line sends several frames, in a block whose devices may lose power in each frame.
+    ManyFrames,
     /// There are more tracks, lines or names than a block may have, or more lines were run than were allowed.
     Most,
     /// A block isn't closed.
@@ -37,6 +39,7 @@ impl Reason {
             Reason::BlockOpen => "BlockOpen",
             Reason::NoTrack => "NoTrack",
             Reason::NoLine => "NoLine",
+            Reason::ManyFrames => "ManyFrames",
             Reason::Most => "Most",
             Reason::NoClose => "NoClose",
         }

@@ -1,4 +1,4 @@
-ghost use Rattle.std.specs.Prelude.{◌≡◌, ◌++◌, [], ℕ, List, IfOk, OnOk, false, length, not, true, if◌then◌else◌};
+ghost use Rattle.std.specs.Prelude.{◌≡◌, ◌<◌, ◌+◌, ◌^◌, ◌++◌, [], ℕ, List, IfOk, OnOk, false, length, not, true, if◌then◌else◌};
 ghost use Rattle.i3c_tracks.specs.Ends.{AreEndTexts, IsEndText, IsReport, numbers_text};
 ghost use Rattle.i3c_tracks.specs.Telling.{cut_before, head_text, like_text, line_at, orders_text, parted_text, parting, run_cuts, short_run_text};
 
@@ -21,9 +21,10 @@ pub(crate) fn push_report(
     found: &Explored<Scene>,
     text: &mut Text,
 ) -> Result<(), AllocError>
-    ensures { OnOk result ((said : List ℕ) × IsReport lines.now plan.now.blocks.items found.now.ends.items found.now.orders said × (text.new ≡ text.old ++ said)) }
+    requires { found.now.steps + length plan.now.before.items < 2 ^ 64 }
+    ensures { OnOk result ((said : List ℕ) × IsReport lines.now plan.now found.now.ends.items found.now.orders (found.now.steps + length plan.now.before.items) said × (text.new ≡ text.old ++ said)) }
 {
-    let steps = found.steps.saturating_add(plan.before.len() as u64);
+    let steps = found.steps + plan.before.len() as u64;
     push_numbers(found.orders, steps, found.ends.len() as u64, text)?;
     push_ends(alloc, lines, plan, &found.ends, text)
 }

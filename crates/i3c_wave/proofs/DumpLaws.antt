@@ -1,10 +1,8 @@
 -- The text of levels, one after another.
 use Rattle.std.proofs.Common.{◌≡◌, ◌∙◌, ◌<◌, ◌+◌, ℕ, zero, suc, List, [], ◌∷◌, ◌++◌, ap, append_assoc, arith, drop, get_or, length, sym}
 use Rattle.i3c_frame.specs.declared.symbols.Symbol.{Symbol}
-use Rattle.i3c_wave.specs.declared.levels.Level.{Level}
-use Rattle.i3c_wave.specs.declared.timing.Timing.{Timing}
 use Rattle.i3c_wave.specs.declared.wave.Wave.{Wave}
-use Rattle.i3c_wave.specs.Dump.{after_symbol, level_text, levels_text, moved, symbol_dump, symbols_dump}
+use Rattle.i3c_wave.specs.Dump.{after_symbol, symbol_dump, symbols_dump}
 
 -- an item by its number begins what is left from there
 pub drop_item : {A : Type 0} (xs : List A) (i : ℕ) (x : A) → i < length xs → x ≡ get_or xs i x → drop i xs ≡ x ∷ drop (i + 1) xs

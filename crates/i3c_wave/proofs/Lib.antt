@@ -11,3 +11,4 @@ pub mod CaptureLaws
 pub mod PartLaws
 pub mod NumberLaws
 pub mod WordLaws
+pub mod TextFaults

@@ -18,7 +18,7 @@ Says outcome dump result = MatchResult result (λ item. outcome ≡ Ok (record {
 
 -- a dump before the first word: without a timescale a unit is 1 ns
 abbrev pub new_dump : Dump
-new_dump = record { place = Place.Between; scl = None; sda = None; setup = 3 }
+new_dump = record { place = Place.Between; scl = None; sda = None; setup = 3; is_defined = false }
 
 -- the dump at another place
 abbrev pub at_place : Dump → Place → Dump
@@ -34,13 +34,18 @@ missing None sda = Err CaptureFault.NoScl
 missing (Some scl) None = Err CaptureFault.NoSda
 missing (Some scl) (Some sda) = Ok tt
 
+-- the declarations of a text have ended
+abbrev pub defined : Bool → Result ⊤ CaptureFault → ℕ → Result ⊤ CaptureFault
+defined is_defined (Ok _) at = if is_defined then Ok tt else Err (CaptureFault.BadWord at)
+defined is_defined (Err fault) at = Err fault
+
 -- a text ends between commands
 abbrev pub ended_at : Place → Result ⊤ CaptureFault → ℕ → Result ⊤ CaptureFault
 ended_at Place.Between outcome at = outcome
 ended_at place outcome at = Err (CaptureFault.BadWord at)
 
 abbrev pub is_ended : Dump → ℕ → Result ⊤ CaptureFault
-is_ended dump at = ended_at dump.place (missing dump.scl dump.sda) at
+is_ended dump at = ended_at dump.place (defined dump.is_defined (missing dump.scl dump.sda) at) at
 
 -- the line that has a code
 abbrev pub line_of : Dump → Code → Option Line
@@ -63,7 +68,7 @@ behind_vector dump code = value_said (at_place dump Place.Between) None (code_of
 
 -- the declarations end, if both lines were declared
 abbrev pub definitions_ended : Dump → Result ⊤ CaptureFault → Result DumpStep CaptureFault
-definitions_ended dump (Ok _) = Ok (nothing (at_place dump Place.Passed))
+definitions_ended dump (Ok _) = Ok (nothing (record dump { place = Place.Passed; is_defined = true }))
 definitions_ended dump (Err fault) = Err fault
 
 -- the step at the first word of a command
@@ -80,13 +85,18 @@ abbrev pub time_said : Dump → ℕ → Option ℕ → Result DumpStep CaptureFa
 time_said dump at None = Err (CaptureFault.BadTime at)
 time_said dump at (Some time) = Ok (record { dump = dump; item = Item.Time time })
 
+-- the value of a signal, which has a code
+abbrev pub coded : Dump → Option Bool → ℕ → List ℕ → Result DumpStep CaptureFault
+coded dump level at [] = Err (CaptureFault.BadWord at)
+coded dump level at (first ∷ rest) = Ok (value_said dump level (code_of (first ∷ rest)))
+
 -- a word between commands, by what it begins with
 abbrev pub led_word : Dump → ℕ → Lead → List ℕ → List ℕ → Result DumpStep CaptureFault
 led_word dump at Lead.Command word rest = command_said dump (command_of word)
 led_word dump at Lead.Time word rest = time_said dump at (number_of rest)
-led_word dump at Lead.Low word rest = Ok (value_said dump (Some false) (code_of rest))
-led_word dump at Lead.High word rest = Ok (value_said dump (Some true) (code_of rest))
-led_word dump at Lead.NoLevel word rest = Ok (value_said dump None (code_of rest))
+led_word dump at Lead.Low word rest = coded dump (Some false) at rest
+led_word dump at Lead.High word rest = coded dump (Some true) at rest
+led_word dump at Lead.NoLevel word rest = coded dump None at rest
 led_word dump at Lead.Vector word rest = Ok (nothing (at_place dump Place.Vector))
 led_word dump at Lead.Other word rest = Err (CaptureFault.BadWord at)
 
@@ -98,6 +108,7 @@ begun_word dump at (first ∷ rest) = led_word dump at (lead_of first) (first �
 -- the end of a command: a timescale and a signal are whole before it
 abbrev pub ended_from : Place → Dump → ℕ → Result DumpStep CaptureFault
 ended_from Place.Passed dump at = Ok (nothing (at_place dump Place.Between))
+ended_from Place.Scaled dump at = Ok (nothing (at_place dump Place.Between))
 ended_from (Place.Scale magnitude) dump at = Err (CaptureFault.BadTimescale at)
 ended_from place dump at = Err (CaptureFault.BadWord at)
 
@@ -122,7 +133,7 @@ named dump (Some Line.Sda) code = record dump { place = Place.Passed; sda = firs
 -- the unit of a timescale
 abbrev pub scaled_unit : Dump → Magnitude → ℕ → Option ℕ → Result DumpStep CaptureFault
 scaled_unit dump magnitude at None = Err (CaptureFault.BadTimescale at)
-scaled_unit dump magnitude at (Some setup) = Ok (nothing (record dump { place = Place.Passed; setup = scaled setup magnitude }))
+scaled_unit dump magnitude at (Some setup) = Ok (nothing (record dump { place = Place.Scaled; setup = scaled setup magnitude }))
 
 -- the unit behind a number, or in a word of its own
 abbrev pub scaled_by : Dump → Option Magnitude → ℕ → List ℕ → Result DumpStep CaptureFault
@@ -134,9 +145,10 @@ abbrev pub scale_word : Dump → Option Magnitude → ℕ → List ℕ → Resul
 scale_word dump None at word = scaled_by dump (magnitude_of (take (digits_in word) word)) at (drop (digits_in word) word)
 scale_word dump (Some magnitude) at word = if digits_in word == 0 then scaled_unit dump magnitude at (unit_setup word) else Err (CaptureFault.BadTimescale at)
 
--- a word inside a command
+-- a word inside a command: none is behind the unit of a timescale
 abbrev pub inside_from : List ℕ → List ℕ → Place → Dump → ℕ → List ℕ → Result DumpStep CaptureFault
 inside_from scl sda (Place.Scale magnitude) dump at word = scale_word dump magnitude at word
+inside_from scl sda Place.Scaled dump at word = Err (CaptureFault.BadTimescale at)
 inside_from scl sda Place.Kind dump at word = Ok (nothing (at_place dump Place.Width))
 inside_from scl sda Place.Width dump at word = Ok (nothing (at_place dump (Place.Code (bytes_eq word (codes "1")))))
 inside_from scl sda (Place.Code true) dump at word = Ok (nothing (at_place dump (Place.Name (code_of word))))

@@ -12,5 +12,6 @@ pub mod Output
 pub mod Reading
 pub mod Runs
 pub mod Scripts
+pub mod Sources
 pub mod Timed
 pub mod Timing

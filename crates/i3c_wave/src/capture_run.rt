@@ -1,34 +1,36 @@
 ghost use Rattle.std.specs.Prelude.{◌≡◌, ◌⊎◌, ◌<◌, Err, Ok, IfSome, length, MatchResult};
 ghost use Rattle.i3c_wave.specs.CaptureTexts.{Closed, Ended, HasSymbols, IsOfReading, Reads, bytes_read, closed, input, text_ended, text_read};
+ghost use Rattle.i3c_wave.specs.Sources.{CaptureTellsRead};
 
 use crate::capture_fault::CaptureFault;
 use crate::capture_text::{CaptureWords, letters_in};
+use crate::reading::CHUNK;
+use crate::source::Source;
 use crate::stamped::{Stamped, keep_symbol};
 use i3c_base::Addresses;
 use i3c_text::Text;
 use std::alloc::Global;
 use std::io::Read;
 
-/// How many bytes are read at once.
-const CHUNK: usize = 8192;
-
 /// The symbols of a capture: a value change dump (IEEE 1364) in which the signals of these names are SCL and SDA. Legacy
-/// targets have these addresses. Fails with the text's first fault. Beside the symbols it keeps one word of the text.
+/// targets have these addresses. Fails with the text's first fault. Beside the symbols it keeps one word of the text. `Read` is
+/// told exactly where a read failed.
 pub fn read_capture<R: Read>(
     alloc: Global,
     legacies: Addresses,
     scl: &[u8],
     sda: &[u8],
-    reader: &mut R,
+    source: &mut Source<R>,
 ) -> Result<Vec<Stamped>, CaptureFault>
-    ensures { MatchResult result
-        (λ symbols. IfSome (R.remaining reader.old) (λ text. HasSymbols legacies scl.now sda.now text symbols.items))
-        (λ fault. IsOfReading fault ⊎ IfSome (R.remaining reader.old) (λ text. text_read legacies scl.now sda.now text ≡ Err fault)) }
+    ensures symbols { MatchResult result
+        (λ symbols. IfSome (R.remaining source.old.reader) (λ text. HasSymbols legacies scl.now sda.now text symbols.items))
+        (λ fault. IsOfReading fault ⊎ IfSome (R.remaining source.old.reader) (λ text. text_read legacies scl.now sda.now text ≡ Err fault)) }
+    ensures read { CaptureTellsRead source.old.has_failed source.new.has_failed result }
 {
     let Ok(mut chunk) = vec![in alloc; 0u8; CHUNK] else {
         return Err(CaptureFault::Memory);
     };
-    read_chunks(alloc, legacies, scl, sda, reader, &mut chunk)
+    read_chunks(alloc, legacies, scl, sda, source, &mut chunk)
 }
 
 /// The symbols of a capture, which is read by chunks.
@@ -37,19 +39,20 @@ fn read_chunks<R: Read>(
     legacies: Addresses,
     scl: &[u8],
     sda: &[u8],
-    reader: &mut R,
+    source: &mut Source<R>,
     chunk: &mut [u8],
 ) -> Result<Vec<Stamped>, CaptureFault>
     requires { 0 < length chunk.old }
-    ensures { MatchResult result
-        (λ symbols. IfSome (R.remaining reader.old) (λ text. HasSymbols legacies scl.now sda.now text symbols.items))
-        (λ fault. IsOfReading fault ⊎ IfSome (R.remaining reader.old) (λ text. text_read legacies scl.now sda.now text ≡ Err fault)) }
+    ensures symbols { MatchResult result
+        (λ symbols. IfSome (R.remaining source.old.reader) (λ text. HasSymbols legacies scl.now sda.now text symbols.items))
+        (λ fault. IsOfReading fault ⊎ IfSome (R.remaining source.old.reader) (λ text. text_read legacies scl.now sda.now text ≡ Err fault)) }
+    ensures read { CaptureTellsRead source.old.has_failed source.new.has_failed result }
 {
     let mut word = Text::new(alloc);
     let mut symbols = Vec::new(alloc);
     let mut reached = CaptureWords::new(legacies);
     for _ in 0..u64::MAX {
-        let Ok(count) = reader.read(chunk) else {
+        let Ok(count) = source.read(chunk) else {
             return Err(CaptureFault::Read);
         };
         if count == 0 {
@@ -64,7 +67,8 @@ fn read_chunks<R: Read>(
             Err(fault) => return Err(fault),
         }
     }
-    Err(CaptureFault::Read)
+    // a capture has fewer chunks
+    Err(CaptureFault::Memory)
 }
 
 /// Takes the next bytes of a text: words with the spaces behind them, and the letters of a word that is open at their end.

@@ -20,6 +20,8 @@ pub(crate) enum Place {
     Passed,
     /// In a timescale, behind its number or before it.
     Scale(Option<Magnitude>),
+    /// In a timescale, behind its unit.
+    Scaled,
     /// Before the kind of a signal.
     Kind,
     /// Before its width.
@@ -32,13 +34,15 @@ pub(crate) enum Place {
     Vector,
 }
 
-/// What a dump has said so far: its place, the codes of the two lines, and the setup time in its units.
+/// What a dump has said so far: its place, the codes of the two lines, the setup time in its units, and whether its
+/// declarations have ended.
 #[derive(Clone, Copy, Drop)]
 pub(crate) struct Dump {
     place: Place,
     scl: Option<Code>,
     sda: Option<Code>,
     setup: u64,
+    is_defined: bool,
 }
 
 /// What a word says.
@@ -64,7 +68,7 @@ pub(crate) struct DumpStep {
 impl Dump {
     ghost use Rattle.std.specs.Prelude.{◌≡◌, bytes_eq, codes, if◌then◌else◌};
     ghost use Rattle.i3c_wave.specs.DumpWords.{code_of, unit_setup};
-    ghost use Rattle.i3c_wave.specs.Dumps.{Says, at_place, begun_word, command_said, ended, is_ended, inside, line_of, missing, named, new_dump, scale_word, scaled_by, scaled_unit, value_said, word_said};
+    ghost use Rattle.i3c_wave.specs.Dumps.{Says, at_place, begun_word, coded, command_said, defined, ended, is_ended, inside, line_of, missing, named, new_dump, scale_word, scaled_by, scaled_unit, value_said, word_said};
 
     /// A dump before the first word.
     pub fn new() -> Dump
@@ -75,6 +79,7 @@ impl Dump {
             scl: None,
             sda: None,
             setup: UNSCALED,
+            is_defined: false,
         }
     }
 
@@ -138,13 +143,24 @@ impl Dump {
         }
     }
 
-    /// Ends the text: no command is open, and both lines were declared.
+    /// Ends the text: no command is open, both lines were declared, and the declarations have ended.
     pub fn end_text(&self, at: u64) -> Result<(), CaptureFault>
         ensures { result ≡ is_ended self.now at }
     {
         match self.place {
-            Place::Between => self.missing(),
+            Place::Between => self.defined(at),
             _ => Err(CaptureFault::BadWord(at)),
+        }
+    }
+
+    /// Fails if a line wasn't declared, or the declarations haven't ended.
+    fn defined(&self, at: u64) -> Result<(), CaptureFault>
+        ensures { result ≡ defined self.now.is_defined (missing self.now.scl self.now.sda) at }
+    {
+        match self.missing() {
+            Ok(()) if self.is_defined => Ok(()),
+            Ok(()) => Err(CaptureFault::BadWord(at)),
+            Err(fault) => Err(fault),
         }
     }
 
@@ -172,9 +188,9 @@ impl Dump {
                 Some(time) => Ok(Item::Time(time)),
                 None => Err(CaptureFault::BadTime(at)),
             },
-            Lead::Low => Ok(self.value(Some(false), rest)),
-            Lead::High => Ok(self.value(Some(true), rest)),
-            Lead::NoLevel => Ok(self.value(None, rest)),
+            Lead::Low => self.coded(Some(false), at, rest),
+            Lead::High => self.coded(Some(true), at, rest),
+            Lead::NoLevel => self.coded(None, at, rest),
             Lead::Vector => {
                 self.place = Place::Vector;
                 Ok(Item::Nothing)
@@ -202,10 +218,24 @@ impl Dump {
             Command::Var => Ok(nothing(self.at_place(Place::Kind))),
             Command::Other => Ok(nothing(self.at_place(Place::Passed))),
             Command::EndDefinitions => match self.missing() {
-                Ok(()) => Ok(nothing(self.at_place(Place::Passed))),
+                Ok(()) => Ok(nothing(Dump {
+                    place: Place::Passed,
+                    is_defined: true,
+                    ..self
+                })),
                 Err(fault) => Err(fault),
             },
         }
+    }
+
+    /// What the value of a signal says, if it has a code.
+    fn coded(&self, level: Option<bool>, at: u64, code: &[u8]) -> Result<Item, CaptureFault>
+        ensures { Says (coded self.now level at code.now) self.now result }
+    {
+        if code.is_empty() {
+            return Err(CaptureFault::BadWord(at));
+        }
+        Ok(self.value(level, code))
     }
 
     /// What the value of a signal says.
@@ -236,7 +266,7 @@ impl Dump {
         ensures { result ≡ ended self at }
     {
         match self.place {
-            Place::Passed => Ok(nothing(self.at_place(Place::Between))),
+            Place::Passed | Place::Scaled => Ok(nothing(self.at_place(Place::Between))),
             Place::Scale(_) => Err(CaptureFault::BadTimescale(at)),
             _ => Err(CaptureFault::BadWord(at)),
         }
@@ -249,6 +279,7 @@ impl Dump {
         match self.place {
             Place::Between | Place::Vector | Place::Passed => Ok(nothing(self)),
             Place::Scale(magnitude) => self.scale(magnitude, at, word),
+            Place::Scaled => Err(CaptureFault::BadTimescale(at)),
             Place::Kind => Ok(nothing(self.at_place(Place::Width))),
             Place::Width => Ok(nothing(self.at_place(Place::Code(is_word(word, b"1"))))),
             Place::Code(true) => Ok(nothing(self.at_place(Place::Name(code_of(word))))),
@@ -321,7 +352,7 @@ impl Dump {
     {
         match unit_setup(unit) {
             Some(setup) => Ok(nothing(Dump {
-                place: Place::Passed,
+                place: Place::Scaled,
                 setup: scaled(setup, magnitude),
                 ..self
             })),

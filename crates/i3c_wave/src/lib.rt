@@ -1,12 +1,12 @@
 //! The wire as a waveform: what each symbol is on SCL and SDA, with times, and the text of a value change dump.
 //!
-//! `levels` is what the two lines are at, symbol by symbol. `timing` says for how long, and `wave` is the dump (IEEE 1364) of
-//! one symbol after another. `script_wave` has the lines of a script and what they print. `run` writes the dump of a trace as
-//! a stream, by `reading` and `output`. `edges` is a watcher of the two lines. `laws` says that SDA has a symbol's bits where
-//! SCL rises, and what is heard of a trace's levels; `clock_laws` says the same of whole frames, bit by bit. `dump_word` and
-//! `dump` say what the words of a dump say of two signals, `capture` reads symbols of the signals' levels, each with its time
-//! (`stamped`), and `capture_text` and `capture_run` those of a whole text. `timed` puts the times of frames behind what is
-//! told of them.
+//! `levels` is what the two lines are at, symbol by symbol. `timing` says for how long, and `wave` is the dump (IEEE 1364)
+//! of one symbol after another. `script_wave` has the lines of a script and what they print. `run` writes the dump of a
+//! trace as a stream, by `reading` and `output`. `source` is a reader that knows whether it failed. `edges` is a watcher of
+//! the two lines. `laws` says that SDA has a symbol's bits where SCL rises, and what is heard of a trace's levels;
+//! `clock_laws` says the same of whole frames, bit by bit. `dump_word` and `dump` say what the words of a dump say of two
+//! signals, `capture` reads symbols of the signals' levels, each with its time (`stamped`), and `capture_text` and
+//! `capture_run` those of a whole text. `timed` puts the times of frames behind what is told of them.
 #![tactic(auto)]
 
 mod awaited;
@@ -26,6 +26,7 @@ mod reader;
 mod reading;
 mod run;
 mod script_wave;
+mod source;
 mod stamped;
 mod symbol_lines;
 mod timed;
@@ -46,6 +47,7 @@ pub use levels::{Level, Levels};
 pub use reader::{Reader, Reading};
 pub use run::run_wave;
 pub use script_wave::{push_script_line, push_script_preamble, push_served};
+pub use source::Source;
 pub use stamped::{Stamped, frame_times};
 pub use symbol_lines::symbols_text;
 pub use timed::{LinePlace, push_timed};

@@ -3,10 +3,12 @@ ghost use Rattle.std.specs.Io.KnownBytes.{Appends};
 ghost use Rattle.i3c_wave.specs.Dump.{after_symbol, dump_text, preamble, symbol_dump};
 ghost use Rattle.i3c_wave.specs.Output.{AppendsSome, WritesFront};
 ghost use Rattle.i3c_wave.specs.Runs.{GoesOut, IsWriteFault, fault_line};
+ghost use Rattle.i3c_wave.specs.Sources.{TellsRead};
 
 use crate::fault::WaveFault;
 use crate::output::{write_gathered, write_out};
 use crate::reading::{MOST_BYTES, read_text};
+use crate::source::Source;
 use crate::wave::Wave;
 use i3c_base::Addresses;
 use i3c_frame::{Symbol, TraceFault, read_trace_bytes};
@@ -15,18 +17,20 @@ use std::alloc::{AllocError, Global};
 use std::io::{Read, Write};
 
 /// Writes the value change dump (IEEE 1364) of a trace, on a bus with legacy targets at these addresses; or the line of the
-/// trace's first fault, which it gives. A trace is read whole, and has at most 1,048,576 bytes.
+/// trace's first fault, which it gives. A trace is read whole, and has at most 1,048,576 bytes. `Read` is told exactly where a
+/// read failed.
 pub fn run_wave<R: Read, W: Write>(
     alloc: Global,
     legacies: Addresses,
-    reader: &mut R,
+    source: &mut Source<R>,
     writer: &mut W,
 ) -> Result<Option<TraceFault>, WaveFault>
-    ensures fits { OnOk result (IfSome (R.remaining reader.old) (λ bytes. length bytes ≤ MOST_BYTES)) }
-    ensures large { result ≡ Err WaveFault.TooLarge → IfSome (R.remaining reader.old) (λ bytes. MOST_BYTES < length bytes) }
-    ensures lines { GoesOut legacies.0 (R.remaining reader.old) (W.contents writer.old) (W.contents writer.new) result }
+    ensures fits { OnOk result (IfSome (R.remaining source.old.reader) (λ bytes. length bytes ≤ MOST_BYTES)) }
+    ensures large { result ≡ Err WaveFault.TooLarge → IfSome (R.remaining source.old.reader) (λ bytes. MOST_BYTES < length bytes) }
+    ensures lines { GoesOut legacies.0 (R.remaining source.old.reader) (W.contents writer.old) (W.contents writer.new) result }
+    ensures read { TellsRead source.old.has_failed source.new.has_failed result }
 {
-    let text = read_text(alloc, reader)?;
+    let text = read_text(alloc, source)?;
     match read_trace_bytes(alloc, &text) {
         Ok(trace) => {
             write_dump(alloc, legacies, &trace, writer)?;

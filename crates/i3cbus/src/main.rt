@@ -9,6 +9,7 @@
 
 mod ending;
 mod run;
+mod stack;
 mod watcher;
 
 use std::io::IsTerminal;

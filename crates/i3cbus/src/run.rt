@@ -1,4 +1,5 @@
 use crate::ending::{Ending, explore_ending, lines_ending, status_of};
+use crate::stack::make_stack;
 use crate::watcher::Watcher;
 use i3c_cli::{Fault, print_version, reading_fault, run_capture, run_file, run_stress};
 use i3c_explore::{Limits, Part};
@@ -11,12 +12,15 @@ use std::thread::Threads;
 use std::{env, fs, io};
 
 /// Runs the program, tells standard error why it gave up, if it did, and gives its exit status. Somebody may watch
-/// standard error on a terminal.
+/// standard error on a terminal. Before anything else there is room for its stack.
 pub(crate) fn run<R>(rt: &R, is_watched: bool) -> u8
 where
     R: Env + Files + Input + Print + Eprint + AllocGlobal + Threads + Wait + Sync,
 {
-    let outcome = run_named(rt, is_watched);
+    let outcome = match make_stack(rt.alloc(), u8::from(is_watched)) {
+        Ok(()) => run_named(rt, is_watched),
+        Err(_) => Err(Fault::Memory),
+    };
     if let Err(fault) = &outcome {
         let _ = rt.eprint(fault);
     }
@@ -24,6 +28,8 @@ where
 }
 
 /// Does what the command line asks for. Its words are judged before its file is opened.
+// not in line, since what it calls needs room on the stack as soon as it begins
+#[inline(never)]
 fn run_named<R>(rt: &R, is_watched: bool) -> Result<Ending, Fault>
 where
     R: Env + Files + Input + Print + Eprint + AllocGlobal + Threads + Wait + Sync,

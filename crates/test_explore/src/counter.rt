@@ -22,6 +22,8 @@ pub enum Line {
     Clear,
     /// Adds a number in way 0, and sets it to 0 in each other way.
     Risk(u8),
+    /// Adds the way's number, up to this one.
+    Spread(u8),
 }
 
 /// The counter after a line.
@@ -39,12 +41,13 @@ fn counted(count: u64, line: &Line, way: usize) -> Option<u64>
                 count.checked_add(u64::from(*more))
             }
         }
+        Line::Spread(most) => count.checked_add(way.min(usize::from(*most)) as u64),
     }
 }
 
 impl Machine for Counter {
     ghost use Rattle.std.specs.Prelude.{⊤};
-    ghost use Rattle.test_explore.specs.Counters.{Counts, Overflows};
+    ghost use Rattle.test_explore.specs.Counters.{Counts, Overflows, last_of};
 
     type Line = Line;
 
@@ -54,6 +57,8 @@ impl Machine for Counter {
 
     ghost steps = { Counts };
 
+    ghost last = { last_of };
+
     ghost breaks = { Overflows };
 
     ghost near = { λ runner counter. ⊤ };
@@ -61,7 +66,8 @@ impl Machine for Counter {
     fn last_way(&self, line: &Line) -> usize {
         match line {
             Line::Risk(_) => 1,
-            _ => 0,
+            Line::Spread(most) => usize::from(*most),
+            Line::Add(_) | Line::Double | Line::Clear => 0,
         }
     }
 

@@ -66,6 +66,42 @@ fn blocks_of(alloc: Global, blocks: &[&[&[Line]]]) -> Result<Vec<Vec<Vec<Line>>>
     Ok(made)
 }
 
+/// A watcher that compares what it is told with the moments that are expected, one after another.
+#[derive(Drop)]
+struct Moments {
+    expected: Vec<Progress>,
+    told: Cell<usize>,
+    wrong: Cell<bool>,
+}
+
+impl Moments {
+    /// Nothing was told yet of these moments.
+    fn new(expected: Vec<Progress>) -> Moments {
+        Moments {
+            expected,
+            told: Cell::new(0),
+            wrong: Cell::new(false),
+        }
+    }
+
+    /// Whether each expected moment was told, and no other one.
+    fn are_met(&self) -> bool {
+        self.told.get() == self.expected.len() && !self.wrong.get()
+    }
+}
+
+impl Watch for Moments {
+    fn told(&self, progress: Progress) {
+        let next = self.told.get();
+        if self.expected.get(next) != Some(&progress) {
+            self.wrong.set(true);
+        }
+        self.told.set(next.wrapping_add(1));
+    }
+
+    fn ended(&self) {}
+}
+
 /// Explores blocks from a counter at 1.
 fn explored(
     alloc: Global,
@@ -539,5 +575,154 @@ fn a_watcher_is_told_how_far_it_is(rt: HostRuntime) -> Result<(), Fail> {
         };
         assert!(rt; found.steps == 6 && notes.ends.get() == 1 && notes.last.get() == Some(last));
     }
+    Ok(())
+}
+
+/// Lines that lead from 1 to 100 states, then to 109 by 1,000 runs, and then to 109 by as many.
+const SPREADING: [Line; 3] = [Line::Spread(99), Line::Spread(9), Line::Add(1)];
+
+/// Explores one track of these lines by some jobs.
+fn spread_by<R: Threads + Sync, W: Watch>(
+    rt: &R,
+    alloc: Global,
+    limits: Limits,
+    jobs: usize,
+    watch: &W,
+) -> Result<Explored<Counter>, Stop> {
+    let lines = SPREADING;
+    let blocks = blocks_of(alloc, &[&[&lines]])?;
+    let start = Counter { count: 1 };
+    explore_on(
+        rt,
+        alloc,
+        start,
+        &blocks,
+        limits,
+        Part::whole(),
+        jobs,
+        watch,
+    )
+}
+
+// counts of 1 to 100, and then of 1 to 109. From 100 states each of four jobs has a part of the one line, so that jobs come to
+// the same states
+#[test]
+fn a_layer_has_as_many_states_as_the_limit(rt: HostRuntime) -> Result<(), Fail> {
+    for jobs in [1, 2, 4] {
+        let exact = Limits {
+            steps: 1209,
+            states: 109,
+        };
+        let found = spread_by(&rt, rt.alloc(), exact, jobs, &Nobody)?;
+        assert!(rt; has(&found, 109, Some(1), 1209));
+        let narrow = Limits {
+            steps: 1209,
+            states: 108,
+        };
+        assert!(rt;
+            matches!(
+                spread_by(&rt, rt.alloc(), narrow, jobs, &Nobody),
+                Err(Stop::Most)
+            )
+        );
+        let short = Limits {
+            steps: 1208,
+            states: 109,
+        };
+        assert!(rt;
+            matches!(
+                spread_by(&rt, rt.alloc(), short, jobs, &Nobody),
+                Err(Stop::Most)
+            )
+        );
+    }
+    Ok(())
+}
+
+// counts of 1 to 100 behind the one line, and then each of them behind a line of either track: jobs come to different states
+#[test]
+fn a_layer_of_two_tracks_has_as_many_states_as_the_limit(rt: HostRuntime) -> Result<(), Fail> {
+    let front: &[&[Line]] = &[&[Line::Spread(99)]];
+    let tracks: &[&[Line]] = &[&[Line::Add(1)], &[Line::Add(2)]];
+    let blocks = blocks_of(rt.alloc(), &[front, tracks])?;
+    let start = Counter { count: 1 };
+    for jobs in [1, 2, 4] {
+        for (steps, states, enough) in [(500, 200, true), (500, 199, false), (499, 200, false)] {
+            let limits = Limits { steps, states };
+            let found = explore_on(
+                &rt,
+                rt.alloc(),
+                start,
+                &blocks,
+                limits,
+                Part::whole(),
+                jobs,
+                &Nobody,
+            );
+            assert!(rt; found.is_ok() == enough);
+            assert!(rt; enough || matches!(found, Err(Stop::Most)));
+        }
+    }
+    Ok(())
+}
+
+/// The progress at a line of three, with these numbers of states and steps.
+fn moment(line: usize, states: usize, steps: u64) -> Progress {
+    Progress {
+        line,
+        lines: 3,
+        states,
+        steps,
+    }
+}
+
+// each of the first line's states leads to ten, nine of which the state before it led to as well
+#[test]
+fn one_thread_tells_its_progress_behind_each_node(rt: HostRuntime) -> Result<(), Fail> {
+    let mut expected = Vec::new(rt.alloc());
+    expected.push(moment(1, 100, 100))?;
+    for node in 1..101usize {
+        expected.push(moment(2, 9 + node, 100 + 10 * node as u64))?;
+    }
+    for node in 1..110usize {
+        expected.push(moment(3, node, 1100 + node as u64))?;
+    }
+    let moments = Moments::new(expected);
+    let found = spread_by(&rt, rt.alloc(), WIDE, 1, &moments)?;
+    assert!(rt; found.steps == 1209 && moments.are_met());
+    Ok(())
+}
+
+#[test]
+fn jobs_tell_their_progress_behind_each_layer(rt: HostRuntime) -> Result<(), Fail> {
+    let mut expected = Vec::new(rt.alloc());
+    expected.push(moment(1, 100, 100))?;
+    expected.push(moment(2, 109, 1100))?;
+    expected.push(moment(3, 109, 1209))?;
+    let moments = Moments::new(expected);
+    let found = spread_by(&rt, rt.alloc(), WIDE, 4, &moments)?;
+    assert!(rt; found.steps == 1209 && moments.are_met());
+    Ok(())
+}
+
+// a layer may have no state, so it can't have the start
+#[test]
+fn a_limit_of_no_state_is_reached_at_the_start(rt: HostRuntime) -> Result<(), Fail> {
+    let none = Limits {
+        steps: 1,
+        states: 0,
+    };
+    assert!(rt; matches!(explored(rt.alloc(), &[], none), Err(Stop::Most)));
+    assert!(rt;
+        matches!(
+            explored(rt.alloc(), &[&[&[Line::Add(1)]]], none),
+            Err(Stop::Most)
+        )
+    );
+    let one = Limits {
+        steps: 1,
+        states: 1,
+    };
+    assert!(rt; explored(rt.alloc(), &[&[&[Line::Add(1)]]], one).is_ok());
     Ok(())
 }

@@ -2,11 +2,13 @@
 //! proved again, so these have a crate of their own.
 //!
 //! `lines` has names, numbers and refusals, `script` whole scripts and traces with what they print, and readers and writers
-//! that fail.
+//! that fail. `driven` has what a driven bus does beside its answers.
 #![tactic(auto)]
 
 #[cfg(test)]
 mod checks;
+#[cfg(test)]
+mod driven;
 #[cfg(test)]
 mod lines;
 #[cfg(test)]

@@ -8,6 +8,7 @@ use std::{io, str};
 
 mod joining;
 mod refused_io;
+mod refused_writes;
 mod traces;
 
 /// How many bytes a script may have.

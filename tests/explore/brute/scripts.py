@@ -270,8 +270,13 @@ class Script:
     def track(self):
         lines = []
         for line in track_of(self.bus):
-            lines += [line, *self.expecting(35)]
+            for frame in self.written(line):
+                lines += [frame, *self.expecting(35)]
         return lines
+
+    def written(self, line):
+        """A `daa` by its frames, where a device may lose power in each: it is refused there."""
+        return ['open', 'round', 'round', 'end'] if line == 'daa' and self.is_cut else [line]
 
     def risky_track(self):
         """A device at risk that comes back and may be lost once more, or a command to it that may be done all the same."""

@@ -1,8 +1,6 @@
--- A row may be put at an address that may be picked, or that is kept for its identity; its static address is one.
-use Rattle.std.proofs.Common.{◌≡◌, ◌∙◌, ℕ, Option, Some, None, false, ap, inl, inr, refl, set, sym}
-use Rattle.std.proofs.lemmas.Bool.{cond-true}
-use Rattle.i3c_base.specs.State.{fixed_of, is_static, kept_entry_of}
-use Rattle.i3c_table.specs.Rows.{static_in}
+-- A row may be put at an address that may be picked, or that is kept for its identity.
+use Rattle.std.proofs.Common.{◌≡◌, ◌∙◌, ℕ, Option, Some, false, ap, inl, inr, refl, set, sym}
+use Rattle.i3c_base.specs.State.{kept_entry_of}
 use Rattle.i3c_bus.proofs.setting.enter.Goals as goal
 
 pub put-requires : goal.put-requires
@@ -10,5 +8,4 @@ put-requires c = elim c.requires.given [ inl p ↦ inl p | inr k ↦ inr (c.args
 
 pub returns : goal.returns
 returns c =
-    let fixed : static_in (Some c.args.fixed) ≡ fixed_of c.args.table.now.declared c.args.identity.now = cond-true (is_static c.args.fixed) (Some c.args.fixed) None c.requires.fixed.0 ∙ sym c.requires.fixed.1 in
-    c.put.ensures ∙ ap (λ (f : Option ℕ). record c.args.table.now { given = set c.args.table.now.given c.args.address (Some (record (kept_entry_of c.args.table.now.declared c.args.identity.now) { fixed = f })); listed = false }) fixed
+    c.put.ensures ∙ ap (λ (f : Option ℕ). record c.args.table.now { given = set c.args.table.now.given c.args.address (Some (record (kept_entry_of c.args.table.now.declared c.args.identity.now) { fixed = f })); listed = false }) (sym c.requires.fixed.1)

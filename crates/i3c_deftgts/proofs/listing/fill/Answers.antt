@@ -68,10 +68,10 @@ returns-clause-few c =
     omega (arith, long, few, c.given_addresses.ensures.few)
 
 pub returns-clause-read : goal.returns-clause-read
-returns-clause-read c words carried =
-    rw (whole c) (entries_read c.args.table.now c.args.own words c.requires.stands c.given_addresses.ensures.usable c.given_addresses.ensures.apart (rw (sym (told c)) c.push_legacies.ensures.static_alone) c.given_addresses.ensures.static_alone (rw (whole c) at carried))
+returns-clause-read c tellable words carried =
+    rw (whole c) (entries_read c.args.table.now c.args.own words c.requires.stands c.given_addresses.ensures.usable c.given_addresses.ensures.apart (rw (sym (told c)) c.push_legacies.ensures.static_alone) tellable (rw (whole c) at carried))
 
 pub returns-clause-copied : goal.returns-clause-copied
 returns-clause-copied c =
-    ap table_of (whole c) ∙ copied_back c.args.table.now c.args.own c.requires.stands c.given_addresses.ensures.usable c.given_addresses.ensures.apart (rw (sym (told c)) c.push_legacies.ensures.static_alone) c.given_addresses.ensures.static_alone c.given_addresses.ensures.all_places
+    ap table_of (whole c) ∙ copied_back c.args.table.now c.args.own c.requires.stands c.given_addresses.ensures.usable c.given_addresses.ensures.apart (rw (sym (told c)) c.push_legacies.ensures.static_alone) c.given_addresses.ensures.all_places
     (ap length (sym (told c)) ∙ c.push_legacies.ensures.all_places) (rw (sym (told c)) c.push_legacies.ensures.few)

@@ -33,7 +33,7 @@ returns-clause-long c =
     omega (arith, all, length-flat_bytes c.rewrite.new.self, c.rewrite.ensures.long)
 
 pub returns-clause-read : goal.returns-clause-read
-returns-clause-read c = rw (sym c.rewrite.ensures.entries) (c.rewrite.ensures.read c.loop-entry.words.items (carried c))
+returns-clause-read c told = rw (sym c.rewrite.ensures.entries) (c.rewrite.ensures.read told c.loop-entry.words.items (carried c))
 
 pub returns-clause-copied : goal.returns-clause-copied
 returns-clause-copied c = rw (sym c.rewrite.ensures.entries) c.rewrite.ensures.copied

@@ -1,4 +1,4 @@
-use Rattle.std.proofs.Common.{◌≡◌, ◌+◌, ℕ, suc, arith, length, subst}
+use Rattle.std.proofs.Common.{◌≡◌, ◌∙◌, ◌+◌, ℕ, suc, arith, length, subst}
 use Rattle.std.specs.List.{Contains}
 use Rattle.i3c_explore.specs.Layers.{IsBreak}
 use Rattle.i3c_explore.specs.Parts.{Part, opening}
@@ -9,6 +9,9 @@ use Rattle.i3c_explore.proofs.Expanding.{all_passed}
 use Rattle.i3c_explore.proofs.Shares.{shares_all}
 use Rattle.i3c_explore.proofs.Blocks.{AreHeld, AreReached, LeadOn, ends_held, ends_reached, first_break, held_first, held_then, lead_on_first, lead_on_next, no_more, reached_first, reached_then, some_first, some_next}
 use Rattle.i3c_explore.proofs.Ends.{IsCounted, counted_first, counted_next, ends_shared, next_shared}
+use Rattle.i3c_explore.specs.Nexts.{FollowsAll}
+use Rattle.i3c_explore.specs.Runs.{IsWithin, runs_behind}
+use Rattle.i3c_explore.proofs.Layering.{far_first, far_next, far_over}
 use Rattle.i3c_explore.proofs.block.explore_block.Goals as goal
 
 one_more : (count : ℕ) → suc count ≡ count + 1
@@ -22,6 +25,7 @@ loop-ran-init g c =
       held = held_first steps part tracks starts layer (λ k lt. get_below layer k (omega arith)) made.restarted;
       reached = reached_first steps part tracks starts layer made.restarted;
       counted = counted_first steps part tracks starts layer made.restarted made.length;
+      layers = far_first steps g.M.Machine.last part tracks c.args.starts.limits starts layer made.restarted made.length c.requires.narrow;
       some = some_first part tracks starts layer made.length;
     }
 
@@ -91,8 +95,23 @@ loop-ran-preserved g c =
           let here = subst (λ (p : Part). IsSharedNext (IsLed steps tracks starts past) (opening p tracks) (length tracks) layer next before.share) c.only_if-opening.ensures then_ in
           let more : IsCounted steps part tracks starts past (suc count) next = counted_next steps part tracks starts past count layer next before here in
           subst (λ (k : ℕ). IsCounted steps part tracks starts past k next) same more;
+      layers = far_next steps g.M.Machine.last part tracks c.args.starts.limits starts layer count c.loop-ran.layer.limits c.in-Ok.next chosen c.only_if-opening.ensures was.layers
+          (subst (λ l. FollowsAll steps tracks chosen l next) c.deref.ensures.value made)
+          (subst (λ l. IsWithin c.loop-ran.layer.limits c.in-Ok.next (runs_behind g.M.Machine.last chosen tracks l)) c.deref.ensures.value (c.requires.within _ _ _ _ _ _ _ _ c.in-Ok.ensures));
       some = some_next steps part tracks starts next count held c.requires.begins (λ over. let is = c.is_over.ensures.1 over in cc);
     }
 
 pub returns-in_err-restart_all-clause-broken : goal.returns-in_err-restart_all-clause-broken
 returns-in_err-restart_all-clause-broken g c = memory_breaks _ c.from_residual.result c.from_residual.ensures.1
+
+pub returns-then-is_over-clause-run : goal.returns-then-is_over-clause-run
+returns-then-is_over-clause-run g c =
+    let steps = g.M.Machine.steps in let last = g.M.Machine.last in let tracks = c.args.tracks.now in
+    let layer = c.loop-ran.layer.nodes.items in let left = c.loop-ran.layer.limits in let next = c.in-Ok.next in let chosen = c.only_if-opening.result in
+    let (empty, _) = c.is_over.ensures.0 c.if-is_over.true in
+    far_over steps last c.args.part tracks c.args.starts.limits c.args.starts.nodes.items layer c.loop-ran.ran left next chosen c.only_if-opening.ensures c.loop-ran.invariant.layers
+    (subst (λ l. FollowsAll steps tracks chosen l next.nodes.items) c.deref.ensures.value (c.requires.next _ _ _ _ _ _ _ _ c.in-Ok.ensures))
+    (subst (λ l. IsWithin left next (runs_behind last chosen tracks l)) c.deref.ensures.value (c.requires.within _ _ _ _ _ _ _ _ c.in-Ok.ensures)) empty
+
+pub returns-then-is_over-clause-states : goal.returns-then-is_over-clause-states
+returns-then-is_over-clause-states g c = (c.requires.within _ _ _ _ _ _ _ _ c.in-Ok.ensures).states ∙ c.loop-ran.invariant.layers.states

@@ -1,4 +1,4 @@
-use Rattle.std.proofs.Common.{inl, inr, subst, sym}
+use Rattle.std.proofs.Common.{◌∙◌, arith, inl, inr, rules, subst, sym}
 use Rattle.i3c_explore.specs.Layers.{IsSuccessor, advanced}
 use Rattle.i3c_explore.specs.Stops.{IsShort}
 use Rattle.i3c_explore.proofs.Stopping.{memory_breaks}
@@ -60,3 +60,11 @@ returns-in-Ok-clause-near g c = c.in_ok-run.ensures.near
 
 pub returns-in-Err-clause-broken : goal.returns-in-Err-clause-broken
 returns-in-Err-clause-broken g c order is lines next = absurd (subst IsShort is c.in-Err.ensures.short)
+
+pub returns-in-Ok-clause-charged : goal.returns-in-Ok-clause-charged
+returns-in-Ok-clause-charged g c =
+    let put = c.in-Ok.ensures.charged in let stepped = c.step.ensures.taken (search rules) in let states = c.step.ensures.states in record {
+      steps = let e = put.steps in omega arith;
+      states = put.states ∙ states;
+      narrow = λ le. let e = put.narrow (omega arith) in omega arith;
+    }

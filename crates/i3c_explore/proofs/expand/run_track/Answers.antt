@@ -1,5 +1,5 @@
 use borrow.Author.Count.{below_more}
-use Rattle.std.proofs.Common.{◌≡◌, ◌<◌, ◌+◌, ℕ, [], Option, arith, length, subst, None, Some}
+use Rattle.std.proofs.Common.{◌≡◌, ◌∙◌, ◌<◌, ◌+◌, ℕ, [], Option, ap, arith, length, subst, sym, None, Some}
 use Rattle.std.specs.Global.{Vec}
 use Rattle.std.specs.List.{slice_get, slice_index}
 use Rattle.std.proofs.lemmas.Option.{slice_get_within}
@@ -11,6 +11,8 @@ use Rattle.i3c_explore.specs.Parts.{opening}
 use Rattle.i3c_explore.proofs.Opening.{opened}
 use Rattle.i3c_explore.proofs.NextLines.{next_at, next_once}
 use Rattle.i3c_explore.proofs.Expanding.{from_more, from_same, keeps_both}
+use Rattle.i3c_explore.proofs.Running.{charged_more, charged_none}
+use Rattle.i3c_explore.specs.Runs.{IsCharged, ways_of}
 use Rattle.i3c_explore.proofs.expand.run_track.Goals as goal
 
 pub run-requires-clause-next : goal.run-requires-clause-next
@@ -28,6 +30,7 @@ loop-way-preserved g c =
       keeps = keeps_both old mid new was.keeps done.keeps;
       ran = below_more _ _ (λ way lt. let (state, step, has) = was.ran way lt in (state, step, done.keeps _ state has)) done.ran;
       counted = gains_way g.M.Machine.steps c.args.tracks.now c.args.node.now old mid new c.args.track c.loop-way.way was.counted done.counted;
+      charged = charged_more c.args.next.now c.loop-way.next c.run.new.next c.loop-way.way 1 was.charged done.charged;
       near = λ _. done.near;
       from = from_more g.M.Machine.steps (opening c.args.part c.args.tracks.now) c.args.node.now old mid new was.from (done.from (opening c.args.part c.args.tracks.now) next_);
     }
@@ -50,6 +53,7 @@ loop-way-init g c = record {
   keeps = λ places state has. has;
   ran = λ way lt. absurd (omega arith);
   counted = λ starts past own mine. added_none (IsLed g.M.Machine.steps c.args.tracks.now starts past) c.args.next.now.nodes.items;
+  charged = charged_none c.args.next.now;
   near = c.requires.again;
   from = from_same g.M.Machine.steps (opening c.args.part c.args.tracks.now) c.args.node.now c.args.next.now.nodes.items;
 }
@@ -113,3 +117,18 @@ run-requires-clause-fits g c =
     fits_behind (slice_get c.args.tracks.now c.args.track) (slice_index c.args.node.now.places.items c.args.track) c.in-Some.line.now
     (opened c.args.part c.args.tracks.now c.args.node.now.places.items c.args.track c.in-Some.line.now
     (next_at (opening c.args.part c.args.tracks.now) c.args.node.now.places.items c.args.track c.index.result.now (Some c.in-Some.line.now) here c.index.ensures c.in-Some.ensures)).1
+
+pub returns-clause-charged : goal.returns-clause-charged
+returns-clause-charged g c =
+    let last = g.M.Machine.last in let node = c.args.node.now in let line = c.in-Some.line.now in
+    let here : c.args.track < length node.places.items = omega arith in
+    let next = next_at (opening c.args.part c.args.tracks.now) node.places.items c.args.track c.index.result.now (Some line) here c.index.ensures c.in-Some.ensures in
+    let ran : c.loop-way.way ≡ ways_of last node.state (Some line) = (let e = c.last_way-last.ensures.way in omega arith) in
+    subst (λ (k : ℕ). IsCharged c.args.next.now c.loop-way.next k) (ran ∙ ap (λ (o : Option g.row.M-Line.Denot). ways_of last node.state o) (sym next)) c.loop-way.invariant.charged
+
+pub returns-in_default-clause-charged : goal.returns-in_default-clause-charged
+returns-in_default-clause-charged g c =
+    let last = g.M.Machine.last in let node = c.args.node.now in
+    let here : c.args.track < length node.places.items = omega arith in
+    let none = next_at (opening c.args.part c.args.tracks.now) node.places.items c.args.track c.index.result.now None here c.index.ensures c.in_default.ensures in
+    subst (λ (k : ℕ). IsCharged c.args.next.now c.args.next.now k) (ap (λ (o : Option g.row.M-Line.Denot). ways_of last node.state o) (sym none)) (charged_none c.args.next.now)

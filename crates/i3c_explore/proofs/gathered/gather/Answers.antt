@@ -6,4 +6,7 @@ use Rattle.i3c_explore.proofs.gathered.gather.Goals as goal
 pub loop-front-preserved : goal.loop-front-preserved
 loop-front-preserved g c =
     let front = c.in-Some.front in
-    c.in_ok-add.ensures ∙ ap (λ (l : List (Node g.row.M.Denot)). l ++ front.nodes.items) c.loop-front.invariant ∙ sym (left_more c.loop-front.yielded front)
+    let was = c.loop-front.invariant in record {
+      nodes = c.in_ok-add.ensures.nodes ∙ ap (λ (l : List (Node g.row.M.Denot)). l ++ front.nodes.items) was.nodes ∙ sym (left_more c.loop-front.yielded front);
+      limits = c.in_ok-add.ensures.limits ∙ was.limits;
+    }

@@ -4,4 +4,7 @@ use Rattle.i3c_explore.proofs.gathered.gather.Given as goal
 
 -- the nodes are those of the jobs so far
 abbrev pub invariant-loop-front : goal.invariant-loop-front
-invariant-loop-front g l = l.gathered.nodes.items ≡ nodes_left l.yielded
+invariant-loop-front g l = record {
+  nodes : l.gathered.nodes.items ≡ nodes_left l.yielded;
+  limits : l.gathered.limits ≡ l.fn.all.limits;
+}

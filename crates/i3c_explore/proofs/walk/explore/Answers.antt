@@ -2,6 +2,7 @@ use Rattle.std.proofs.Common.{subst, sym}
 use Rattle.i3c_explore.specs.Blocks.{IsShortestInPart, PartIsCounted}
 use Rattle.i3c_explore.specs.Parts.{IsOfPart, Part}
 use Rattle.i3c_explore.proofs.Parting.{all_of_whole, of_whole, shortest_of_whole}
+use Rattle.i3c_explore.specs.Runs.{IsByLayers}
 use Rattle.i3c_explore.proofs.walk.explore.Goals as goal
 
 pub returns-in-Ok-clause-all : goal.returns-in-Ok-clause-all
@@ -32,3 +33,8 @@ returns-in-Err-clause-broken g c order is =
     let steps = g.M.Machine.steps in let breaks = g.M.Machine.breaks in let blocks = c.args.blocks.now in
     shortest_of_whole steps breaks blocks c.args.start order.items
     (subst (λ (p : Part). IsShortestInPart steps breaks p blocks c.args.start order.items) c.whole.ensures (c.in-Err.ensures.broken order is))
+
+pub returns-in-Ok-clause-layers : goal.returns-in-Ok-clause-layers
+returns-in-Ok-clause-layers g c =
+    let found = c.in-Ok.found in
+    subst (λ (p : Part). IsByLayers g.M.Machine.steps g.M.Machine.last p c.args.blocks.now c.args.start c.args.limits.states found.ends.items found.steps) c.whole.ensures c.in-Ok.ensures.layers

@@ -9,13 +9,15 @@ use Rattle.i3c_explore.specs.Layers.{IsFirstBreak}
 use Rattle.i3c_explore.specs.Shares.{AreShared, all_below}
 use Rattle.i3c_explore.specs.Numbers.{IsNumber}
 use Rattle.i3c_explore.specs.declared.turn.Turn.{Turn}
-use Rattle.i3c_explore.specs.Parts.{HasLine, IsOfPart, Part, fork, whole}
+use Rattle.i3c_explore.specs.Parts.{HasLine, IsOfPart, Part, block_part, fork, whole}
 use Rattle.i3c_explore.proofs.Stopping.{memory_breaks}
 use Rattle.i3c_explore.proofs.Courses.{CoursesLead, HoldCourses, ReachCourses, begun_within, hold_first, hold_next, lead_first, lead_next, leads_on_once, none_breaks, reach_first, reach_next, shortest_break}
-use Rattle.i3c_explore.proofs.Opening.{InPart, block_part}
+use Rattle.i3c_explore.proofs.Opening.{InPart}
 use Rattle.i3c_explore.proofs.Parting.{block_ready, none_counted}
 use Rattle.i3c_explore.proofs.Totals.{SharesCourses, all_counted, share_next, share_start}
 use Rattle.i3c_explore.proofs.walk.explore_by.Given.{Over}
+use Rattle.i3c_explore.specs.Runs.{AreRun}
+use Rattle.i3c_explore.proofs.Layering.{run_first, run_next}
 use Rattle.i3c_explore.proofs.walk.explore_by.Goals as goal
 
 pub returns-then-not-has_orders-clause-counted : goal.returns-then-not-has_orders-clause-counted
@@ -48,10 +50,11 @@ part_read part split found index chosen same is = is ∙ ap (λ (k : ℕ). block
 pub loop-index-init : goal.loop-index-init
 loop-index-init g c =
     let steps = g.M.Machine.steps in let part = c.args.part in let blocks = c.args.blocks.now in let start = c.args.start in let layer = c.in_ok-layer.layer.nodes.items in
-    let (n, is, same, none, one) = c.in_ok-layer.ensures in record {
+    let (n, is, same, none, one) = c.in_ok-layer.ensures.alone in record {
       lead = lead_first steps part (fork blocks) blocks start;
       held = hold_first steps part (fork blocks) blocks start n layer is same;
       reached = reach_first steps part (fork blocks) blocks start n layer is same none;
+      run = run_first steps g.M.Machine.last part blocks start c.args.limits c.in_ok-layer.layer c.in_ok-layer.ensures.alone c.in_ok-layer.ensures.limits (let e = ap length is in let f = c.if-limits-eq0.false in omega arith);
       counted = share_start steps part (fork blocks) blocks start n layer is same one;
     }
 
@@ -64,6 +67,8 @@ explore_block-requires g c =
       accepts = c.requires.accepts;
       next = c.requires.next;
       breaks = c.requires.breaks;
+      within = c.requires.within;
+      narrow = let was = c.loop-index.invariant.run in let states = was.states in let fits = was.narrow in omega arith;
       begins = subst (λ (p : Part). (p ≡ whole) ⊎ HasLine tracks) (sym chosen) (block_ready c.args.part blocks count tracks here c.loop-index-test.true);
     }
 
@@ -90,6 +95,7 @@ loop-index-preserved g c =
       reached = subst (λ (k : ℕ). ReachCourses steps part split blocks start k ends) next
           (reach_next steps part split blocks start count layer ends tracks here c.loop-index-test.true was.reached
           (λ n at. let (s, before, (order, all, fits, by, led)) = done.reached n at in (s, before, (order, all, subst (λ (p : Part). InPart p order) chosen fits, by, led))));
+      run = (let (runs, is, left) = done.run in run_next steps g.M.Machine.last part blocks start c.args.limits count layer ends c.loop-index.layer.limits c.in-Ok.layer.limits tracks c.only_if-opening.result runs here chosen was.run is left done.states);
       counted = subst (λ (k : ℕ). SharesCourses steps part split blocks start k ends) next
           (share_next steps part split blocks start count layer ends tracks here c.loop-index-test.true was.counted
           (subst (λ (p : Part). AreShared steps p tracks layer ends was.counted.share) chosen (done.counted was.counted.share was.counted.shared)));
@@ -151,3 +157,25 @@ returns-then-not-has_orders-clause-only g c determined course is of_part end lea
 
 pub returns-then-not-has_orders-clause-reached : goal.returns-then-not-has_orders-clause-reached
 returns-then-not-has_orders-clause-reached g c n (k, lt, _) = let none = ap length c.nothing.ensures.ends in absurd (omega arith)
+
+pub returns-clause-layers : goal.returns-clause-layers
+returns-clause-layers g c =
+    let steps = g.M.Machine.steps in let last = g.M.Machine.last in let part = c.args.part in let blocks = c.args.blocks.now in let start = c.args.start in let most = c.args.limits.states in
+    let was = c.loop-index.invariant.run in let ends = c.loop-index.layer.nodes.items in
+    let all = at_end c.loop-index.index (length blocks) c.loop-index.auto.index-end c.loop-index-test.false in
+    let spent : was.runs ≡ c.saturating_sub-steps.result = (let e = c.saturating_sub-steps.ensures in let f = was.counted in omega arith) in record {
+      run = λ has. subst (λ (k : ℕ). AreRun steps last part blocks start most k ends c.saturating_sub-steps.result) all (subst (λ (k : ℕ). AreRun steps last part blocks start most c.loop-index.index ends k) spent was.run);
+      idle = λ never. absurd (never (λ none. c.has_orders.ensures.0 c.if-not-has_orders.false (c.fork-split.ensures ∙ none)));
+    }
+
+pub returns-clause-states : goal.returns-clause-states
+returns-clause-states g c = c.loop-index.invariant.run.narrow
+
+pub returns-then-not-has_orders-clause-layers : goal.returns-then-not-has_orders-clause-layers
+returns-then-not-has_orders-clause-layers g c = record {
+  run = λ has. let some = c.has_orders.ensures.1 (λ e. has (sym c.fork-split.ensures ∙ e)) in absurd (cc);
+  idle = λ never. (c.nothing.ensures.ends, c.nothing.ensures.steps);
+}
+
+pub returns-then-not-has_orders-clause-states : goal.returns-then-not-has_orders-clause-states
+returns-then-not-has_orders-clause-states g c = let none = ap length c.nothing.ensures.ends in omega arith

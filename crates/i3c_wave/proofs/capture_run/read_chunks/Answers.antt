@@ -1,22 +1,25 @@
-use Rattle.std.proofs.Common.{◌≡◌, ◌⊎◌, ◌<◌, ◌++◌, Err, Ok, IfSome, MatchResult, arith, length, subst, sym, take}
+use Rattle.std.proofs.Common.{◌≡◌, ◌⊎◌, ◌∙◌, ◌<◌, ◌++◌, Global, Vec, Err, Ok, IfSome, MatchResult, arith, length, subst, sym, take}
 use Rattle.std.specs.Io.KnownBytes.{Consumes}
+use Rattle.i3c_wave.specs.declared.stamped.Stamped.{Stamped}
 use Rattle.i3c_wave.specs.CaptureTexts.{HasSymbols, IsOfReading, new_input, text_read}
+use Rattle.i3c_wave.specs.Sources.{CaptureTellsRead}
 use Rattle.i3c_wave.proofs.CaptureLaws.{all_read, bytes_on, chunk_fault, end_fault, ended_with, more_read}
+use Rattle.i3c_wave.proofs.TextFaults.{of_chunk, of_ending, tells_other}
 use Rattle.i3c_wave.proofs.capture_run.read_chunks.Goals as goal
 use Rattle.i3c_wave.proofs.capture_run.read_chunks.Goals.{in-Ok-end_text, in-Err}
 
-pub returns-then-count-eq0 : goal.returns-then-count-eq0
-returns-then-count-eq0 g c =
-    let first = g.R.Read.remaining c.args.reader.now in
-    let old = g.R.Read.remaining c.loop.reader in
-    let new = g.R.Read.remaining c.read.new.self in
+pub returns-then-count-eq0-clause-symbols : goal.returns-then-count-eq0-clause-symbols
+returns-then-count-eq0-clause-symbols g c =
+    let first = g.R.Read.remaining c.args.source.now.reader in
+    let old = g.R.Read.remaining c.loop.source.reader in
+    let new = g.R.Read.remaining c.read.new.self.reader in
     let legacies = c.args.legacies in
     let scl = c.args.scl.now in
     let sda = c.args.sda.now in
     let inv = c.loop.invariant.1 in
     let none : c.in-Ok.count ≡ 0 = omega (arith, c.if-count-eq0.true) in
-    let room : 0 < length c.read.new.buf = omega (arith, c.read.auto.buf, c.loop.invariant.0) in
-    let two = subst (λ n. Consumes old new (take n c.read.new.buf)) none c.in-Ok.ensures.bytes.0 in
+    let room : 0 < length c.read.new.chunk = omega (arith, c.read.auto.chunk, c.loop.invariant.0) in
+    let two = subst (λ n. Consumes old new (take n c.read.new.chunk)) none c.in-Ok.ensures.bytes.0 in
     let end = c.in-Ok.ensures.bytes.1 none room in
     elim c.match-end_text.branch [
       | in-Ok-end_text w ↦
@@ -27,22 +30,42 @@ returns-then-count-eq0 g c =
           (end_fault first old new legacies scl sda inv.0 (record { reached = c.loop.reached; word = c.loop.word; symbols = c.loop.symbols.items }) w.in-Err.fault inv.1 two end inv.2 w.in-Err.ensures)
     ]
 
-pub returns-in-Err-take_bytes : goal.returns-in-Err-take_bytes
-returns-in-Err-take_bytes g c =
-    let first = g.R.Read.remaining c.args.reader.now in
-    let old = g.R.Read.remaining c.loop.reader in
-    let new = g.R.Read.remaining c.read.new.self in
+pub returns-in-Err-take_bytes-clause-symbols : goal.returns-in-Err-take_bytes-clause-symbols
+returns-in-Err-take_bytes-clause-symbols g c =
+    let first = g.R.Read.remaining c.args.source.now.reader in
+    let old = g.R.Read.remaining c.loop.source.reader in
+    let new = g.R.Read.remaining c.read.new.self.reader in
     let inv = c.loop.invariant.1 in
-    let piece = take c.in-Ok.count c.read.new.buf in
+    let piece = take c.in-Ok.count c.read.new.chunk in
     chunk_fault first new c.args.legacies c.args.scl.now c.args.sda.now inv.0 piece (record { reached = c.loop.reached; word = c.loop.word; symbols = c.loop.symbols.items }) c.in-Err-take_bytes.fault (more_read first old new inv.0 piece inv.1 c.in-Ok.ensures.bytes.0) inv.2 c.in-Err-take_bytes.ensures
 
 pub loop-preserved : goal.loop-preserved
 loop-preserved g c =
-    let first = g.R.Read.remaining c.args.reader.now in
-    let old = g.R.Read.remaining c.loop.reader in
-    let new = g.R.Read.remaining c.read.new.self in
+    let first = g.R.Read.remaining c.args.source.now.reader in
+    let old = g.R.Read.remaining c.loop.source.reader in
+    let new = g.R.Read.remaining c.read.new.self.reader in
     let inv = c.loop.invariant.1 in
-    let piece = take c.in-Ok.count c.read.new.buf in (
-      omega (arith, c.read.auto.buf, c.loop.invariant.0),
+    let piece = take c.in-Ok.count c.read.new.chunk in (
+      omega (arith, c.read.auto.chunk, c.loop.invariant.0),
       (inv.0 ++ piece, more_read first old new inv.0 piece inv.1 c.in-Ok.ensures.bytes.0, bytes_on c.args.scl.now c.args.sda.now inv.0 piece (new_input c.args.legacies) (record { reached = c.loop.reached; word = c.loop.word; symbols = c.loop.symbols.items }) (Ok (record { reached = c.take_bytes.new.reached; word = c.take_bytes.new.word; symbols = c.take_bytes.new.symbols.items })) inv.2 c.in-Ok-take_bytes.ensures),
+      c.in-Ok.ensures.failed ∙ c.loop.invariant.2,
     )
+
+pub returns-then-count-eq0-clause-read : goal.returns-then-count-eq0-clause-read
+returns-then-count-eq0-clause-read g c =
+    let old = c.args.source.now.has_failed in
+    let new = c.read.new.self.has_failed in
+    let same : new ≡ old = c.in-Ok.ensures.failed ∙ c.loop.invariant.2 in
+    elim c.match-end_text.branch [
+      | in-Ok-end_text w ↦ subst (λ r. CaptureTellsRead old new r) (sym w.result-is) same
+      | in-Err w ↦
+          subst (λ r. CaptureTellsRead old new r) (sym w.result-is)
+          (tells_other (Vec Stamped Global) old new w.in-Err.fault same (of_ending c.args.scl.now c.args.sda.now (record { reached = c.loop.reached; word = c.loop.word; symbols = c.loop.symbols.items }) w.in-Err.fault w.in-Err.ensures))
+    ]
+
+pub returns-in-Err-take_bytes-clause-read : goal.returns-in-Err-take_bytes-clause-read
+returns-in-Err-take_bytes-clause-read g c =
+    let same = c.in-Ok.ensures.failed ∙ c.loop.invariant.2 in
+    let piece = take c.in-Ok.count c.read.new.chunk in
+    let other = of_chunk c.args.scl.now c.args.sda.now (record { reached = c.loop.reached; word = c.loop.word; symbols = c.loop.symbols.items }) piece c.in-Err-take_bytes.fault c.in-Err-take_bytes.ensures in
+    tells_other (Vec Stamped Global) c.args.source.now.has_failed c.read.new.self.has_failed c.in-Err-take_bytes.fault same other

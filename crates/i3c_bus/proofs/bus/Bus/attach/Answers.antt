@@ -10,7 +10,7 @@ use Rattle.i3c_bus.proofs.bus.Bus.attach.Goals as goal
 
 -- the device has the static address that the table's declarations have for its identity
 fixed : (c : goal.After-put) → c.device-device.result ≡ attached (fixed_of c.self.inside.table.declared c.args.setup.identity) c.args.setup
-fixed c = c.device-device.ensures.new ∙ ap (λ (b : Board). attached (fixed_of b.declared c.args.setup.identity) c.args.setup) c.legacies.ensures
+fixed c = c.device-device.ensures ∙ ap (λ (b : Board). attached (fixed_of b.declared c.args.setup.identity) c.args.setup) c.legacies.ensures
 
 pub invariant_of-self : goal.invariant_of-self
 invariant_of-self c = record {

@@ -1,11 +1,10 @@
 -- Few static addresses leave an address free, and what is made at the pick is a start.
 use Rattle.std.proofs.Common.{rules, ◌≡◌, ◌∙◌, ℕ, List, Option, sym, ap, subst, set, map, option_map, refl, Some, None, false}
-use Rattle.std.proofs.lemmas.Bool.{both_ways, cond-true}
+use Rattle.std.proofs.lemmas.Bool.{both_ways}
 use Rattle.i3c_base.specs.Covered.{Table}
 use Rattle.i3c_base.specs.declared.device.LegacyTarget.{LegacyTarget}
 use Rattle.i3c_base.specs.Round.{winner}
-use Rattle.i3c_base.specs.State.{Device as DeviceState, entry_of, fixed_of, is_static, IsPickIn, IsPickableIn, IsStart, no_entries}
-use Rattle.i3c_table.specs.Rows.{HasStatic, static_in}
+use Rattle.i3c_base.specs.State.{Device as DeviceState, entry_of, fixed_of, IsPickIn, IsPickableIn, IsStart, no_entries}
 use Rattle.i3c_bus.specs.Parts.{state_of}
 use Rattle.i3c_step.proofs.Soundness.{sound_start}
 use Rattle.i3c_bus.proofs.Starting.{lvrs_kept, some_free, start_seen}
@@ -16,19 +15,13 @@ unreachable-requires c =
     some_free c.args.legacies c.addresses-taken.ensures.few c.addresses-taken.ensures.few_declared
     (λ a p. c.in_default.ensures a (subst (λ (t : Table). IsPickableIn t.given t.legacy t.declared a) (sym c.new-table.ensures) p))
 
-static_same : (o : Option ℕ) → HasStatic o → static_in o ≡ o
-static_same None h = refl
-static_same (Some f) h = cond-true (is_static f) (Some f) None h
-
 -- the table with its row
 table : (c : goal.After-new-3) → c.put.new.self
     ≡ record { given = set no_entries c.in-Some.address (Some (entry_of c.args.legacies.declared c.args.main.identity)); legacy = c.args.legacies.legacy; declared = c.args.legacies.declared; listed = false }
 table c =
-    let fixed : c.fixed.result ≡ fixed_of c.args.legacies.declared c.args.main.identity = c.fixed.ensures ∙ ap (λ (d : DeviceState). d.fixed) c.device-controller.ensures.new in
-    let entry : static_in c.fixed.result ≡ fixed_of c.args.legacies.declared c.args.main.identity =
-    static_same c.fixed.result (subst HasStatic (sym c.fixed.ensures) c.device-controller.ensures.static_alone) ∙ fixed in
+    let fixed : c.fixed.result ≡ fixed_of c.args.legacies.declared c.args.main.identity = c.fixed.ensures ∙ ap (λ (d : DeviceState). d.fixed) c.device-controller.ensures in
     c.put.ensures
-    ∙ (ap (λ (f : Option ℕ). record c.new-table.result { given = set c.new-table.result.given c.in-Some.address (Some (record (entry_of c.args.legacies.declared c.args.main.identity) { fixed = f })); listed = false }) entry
+    ∙ (ap (λ (f : Option ℕ). record c.new-table.result { given = set c.new-table.result.given c.in-Some.address (Some (record (entry_of c.args.legacies.declared c.args.main.identity) { fixed = f })); listed = false }) fixed
     ∙ ap (λ (t : Table). record t { given = set t.given c.in-Some.address (Some (entry_of c.args.legacies.declared c.args.main.identity)); listed = false }) c.new-table.ensures)
 
 started : (c : goal.After-new-3)
@@ -38,7 +31,7 @@ started c =
     subst (λ (t : Table). IsPickIn t.given t.legacy t.declared c.in-Some.address) c.new-table.ensures c.in-Some.ensures in
     start_seen c.args.main c.args.legacies c.in-Some.address (fixed_of c.args.legacies.declared c.args.main.identity) c.new-devices.result c.put-2.new.self c.new.result c.new-active.result.0 c.default-holder.result c.take_address.new.self c.put.new.self c.new-legacy.result
     c.new-3.result.items c.addresses-taken.ensures.board pick c.new-devices.ensures (sym c.default-holder.ensures.1 ∙ c.default-holder.ensures.2) refl
-    (c.take_address.ensures ∙ ap (winner c.in-Some.address) c.device-controller.ensures.new) c.put-2.ensures c.new.ensures c.new-active.ensures.kept (table c) c.new-legacy.ensures c.new-3.ensures.items
+    (c.take_address.ensures ∙ ap (winner c.in-Some.address) c.device-controller.ensures) c.put-2.ensures c.new.ensures c.new-active.ensures.kept (table c) c.new-legacy.ensures c.new-3.ensures.items
 
 pub invariant_of-bus : goal.invariant_of-bus
 invariant_of-bus c = record {

@@ -13,7 +13,7 @@ use Rattle.i3c_bus.specs.Parts.{state_of}
 use Rattle.i3c_bus.specs.Whole.{the_table}
 use Rattle.i3c_bus.specs.Wire.{IsListPart}
 use Rattle.i3c_bus.specs.Readings.{address_of}
-use Rattle.i3c_bus.proofs.Listing.{copy_written, count_mapped}
+use Rattle.i3c_bus.proofs.Listing.{copy_written, count_mapped, tellable}
 use Rattle.i3c_bus.proofs.Resetting.{has_own, own_address}
 use Rattle.i3c_bus.proofs.Seen.{seen}
 use Rattle.i3c_step.specs.Sound.{IsSound}
@@ -41,7 +41,7 @@ invariant_of-self g c = record {
       let copy : IsCopy (seen c.self.inside) (table_of c.rewrite.new.self) = copy_written (seen c.self.inside) c.self.inside.table c.rewrite.new.self c.self.invariant.covered c.rewrite.ensures.copied in
       let entries : entries_of c.self.inside.table c.in-Some.own ≡ entries_of (record { given = c.mark_listed.new.self.given; legacy = lvrs (seen c.self.inside); declared = c.self.inside.table.declared; listed = c.mark_listed.new.self.listed }) c.in-Some.own =
       λ t. entries_of (record { given = (sym c.mark_listed.ensures t).given; legacy = c.self.invariant.covered.1 t; declared = c.self.inside.table.declared; listed = false }) c.in-Some.own in
-      ((copy.0 ∙ ap (λ (t : Table). map (option_map unkept) t.given) (sym c.mark_listed.ensures), copy.1), (c.in-Some.own, owns, c.rewrite.ensures.entries ∙ entries));
+      ((copy.0 ∙ ap (λ (t : Table). map (option_map unkept) t.given) (sym c.mark_listed.ensures), copy.1), (c.in-Some.own, owns, c.rewrite.ensures.entries ∙ entries), c.rewrite.ensures.read (tellable (seen c.self.inside) c.self.inside.table c.in-Some.own c.self.invariant.sound.addresses refl));
 }
 
 pub returns-clause-told : goal.returns-clause-told

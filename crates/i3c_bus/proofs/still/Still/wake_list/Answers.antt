@@ -7,7 +7,7 @@ use Rattle.i3c_deftgts.specs.Entries.{entries_of}
 use Rattle.i3c_bus.specs.Parts.{state_of}
 use Rattle.i3c_bus.specs.Readings.{address_of}
 use Rattle.i3c_bus.specs.Whole.{the_table}
-use Rattle.i3c_bus.proofs.Listing.{copy_written}
+use Rattle.i3c_bus.proofs.Listing.{copy_written, tellable}
 use Rattle.i3c_bus.proofs.Resetting.{has_own, own_address}
 use Rattle.i3c_bus.proofs.still.Still.wake_list.Goals as goal
 
@@ -33,4 +33,5 @@ returns c listed =
     λ t. entries_of (record { given = c.requires.0 t; legacy = c.requires.1 t; declared = c.requires.3 t; listed = c.requires.2 t }) c.in-Some.own in (
       copy_written c.args.self.now c.args.table.now c.rewrite.new.self c.requires c.rewrite.ensures.copied,
       (c.in-Some.own, subst (λ (s : State). active_has s c.in-Some.own ≡ true) c.self.view_is owns, c.rewrite.ensures.entries ∙ entries),
+      c.rewrite.ensures.read (tellable st c.args.table.now c.in-Some.own c.self.invariant.sound.addresses (c.requires.0 ∙ ap (λ (s : State). s.given) (sym c.self.view_is))),
     )

@@ -4,7 +4,7 @@ use Rattle.i3c_explore.specs.Fronts.{nodes_left}
 use Rattle.i3c_explore.proofs.Fronts.{left_more}
 use Rattle.i3c_explore.proofs.apart.Apart.add.Goals as goal
 
-pub returns-in-Ok : goal.returns-in-Ok
-returns-in-Ok g c =
+pub returns-in-Ok-clause-nodes : goal.returns-in-Ok-clause-nodes
+returns-in-Ok-clause-nodes g c =
     let fronts = c.args.self.now.fronts.items in
-    ap nodes_left c.in-Ok.ensures.items ∙ left_more fronts c.new.result ∙ ap (λ (l : List (Node g.row.M.Denot)). nodes_left fronts ++ l) (c.new.ensures ∙ ap (λ v. v.items) c.taken_apart-nodes.ensures)
+    ap nodes_left c.in-Ok.ensures.items ∙ left_more fronts c.new.result ∙ ap (λ (l : List (Node g.row.M.Denot)). nodes_left fronts ++ l) (c.new.ensures ∙ ap (λ v. v.items) c.taken_apart-nodes.ensures.nodes)

@@ -1,5 +1,6 @@
-use Rattle.std.proofs.Common.{◌∙◌, inl, inr, refl}
+use Rattle.std.proofs.Common.{◌∙◌, ap, arith, inl, inr, length, refl}
 use Rattle.i3c_explore.specs.declared.node.Node.{Node}
+use Rattle.std.proofs.lemmas.List.{length-set}
 use Rattle.std.proofs.lemmas.Option.{slice_get_within}
 use Rattle.i3c_explore.proofs.Stopping.{memory_short}
 use Rattle.i3c_explore.proofs.layer.Layer.put.Goals as goal
@@ -22,7 +23,7 @@ returns-clause-put g c =
       state = is.state;
       places = is.places ∙ c.in_ok-places.ensures;
       orders = is.orders;
-      put = inl (is.order, c.in_ok-push.ensures);
+      put = inl (is.order, c.in_ok-push.ensures.nodes);
     }
 
 pub merge-requires : goal.merge-requires
@@ -39,3 +40,10 @@ returns-in_err-places-clause-short g c = memory_short c.from_residual.result c.f
 
 pub returns-in_err-push-clause-short : goal.returns-in_err-push-clause-short
 returns-in_err-push-clause-short g c = memory_short c.from_residual-in_err-push.result c.from_residual-in_err-push.ensures.1
+
+pub returns-in-Some-clause-charged : goal.returns-in-Some-clause-charged
+returns-in-Some-clause-charged g c =
+    let made : Node g.row.M.Denot = record c.args.node.now { state = g.M.Machine.shown c.args.runner.now; places = c.in_ok-places.places; orders = c.counted.result } in
+    let merged = c.merge.ensures made c.in-Some.ensures refl in
+    let same = ap length merged.is ∙ length-set c.args.self.now.nodes.items merged.index (record merged.held { orders = merged.total }) in
+    record { steps = omega arith; states = refl; narrow = λ le. omega arith }

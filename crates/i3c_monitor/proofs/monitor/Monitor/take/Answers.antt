@@ -7,5 +7,5 @@ pub returns-in-Some-clause-told : goal.returns-in-Some-clause-told
 returns-in-Some-clause-told c =
     let self = c.args.self.now in
     told_too c.take_behind.result (to_come self) _ (to_come c.take_behind.new.self) c.take_behind.ensures.told
-    (ap (λ symbols. rest_told self.mode self.frames self.before 0 symbols) c.requires
-    ∙ header_first self.mode self.frames self.before c.args.symbol.now c.args.rest.now c.in-Some.header (sym c.in-Some.ensures))
+    (ap (λ symbols. rest_told self.codes self.mode self.frames self.before 0 symbols) c.requires
+    ∙ header_first self.codes self.mode self.frames self.before c.args.symbol.now c.args.rest.now c.in-Some.header (sym c.in-Some.ensures))

@@ -1,6 +1,6 @@
 use Rattle.std.proofs.Common.{◌≡◌, ◌∙◌, ◌+◌, Result, Ok, Err, MatchOption, ap, min, subst, sym}
 use Rattle.std.specs.Result.{OnOk}
-use Rattle.i3c_runner.specs.Checks.{IsToldLine, NameTold}
+use Rattle.i3c_runner.specs.Checks.{NameTold, name_reason, told_line}
 use Rattle.i3c_runner.proofs.CheckRuns.{told_counts}
 use Rattle.i3c_runner.proofs.check.Check.+check_meant.Goals as goal
 
@@ -15,11 +15,12 @@ returns-in-None-clause-told t c =
     let text = c.tell_name.new.self.text in
     let old = c.args.self.now.told in
     let new = c.tell_name.new.self.told in
+    let line = told_line number (name_reason c.in-Some.name.now) in
     let none = sym c.in-None.is ∙ c.place_of.ensures in
     on_ok c.tell_name.result
-    (λ (is : IsToldLine number text × (min new 18446744073709551615 ≡ min (old + 1) 18446744073709551615)). (
+    (λ (is : (text ≡ line) × (min new 18446744073709551615 ≡ min (old + 1) 18446744073709551615)). (
       subst (λ meant. NameTold names number meant text) (sym c.in-Some.ensures.cases.0)
-          (subst (λ place. MatchOption place (IsToldLine number text) (λ _. NameTold names number c.in-Some.rest.now text)) none is.0),
-      is.1 ∙ ap (λ n. min (old + n) 18446744073709551615) (sym (told_counts number text is.0)),
+          (subst (λ place. MatchOption place (text ≡ line) (λ _. NameTold names number c.in-Some.rest.now text)) none is.0),
+      is.1 ∙ ap (λ n. min (old + n) 18446744073709551615) (sym (told_counts number (name_reason c.in-Some.name.now) text is.0)),
     ))
     c.tell_name.ensures.told

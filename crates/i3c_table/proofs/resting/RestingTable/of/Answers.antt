@@ -1,8 +1,8 @@
 -- The lists reach as far as the last address that was given.
 use Rattle.std.proofs.Common.{◌≡◌, ◌<◌, ◌∙◌, ℕ, true, ap, arith, length, subst, sym, take}
 use Rattle.i3c_base.specs.Sets.{is_in}
-use Rattle.i3c_table.specs.Stored.{stored, AreStatic, IsInOrder, IsReaching, IsStoredAlike, IsWhole}
-use Rattle.i3c_table.proofs.AtRest.{alike_taken, order_again, static_taken, stored_again, taken_reaching}
+use Rattle.i3c_table.specs.Stored.{stored, IsInOrder, IsReaching, IsStoredAlike, IsWhole}
+use Rattle.i3c_table.proofs.AtRest.{alike_taken, order_again, stored_again, taken_reaching}
 use Rattle.i3c_table.proofs.resting.RestingTable.of.Goals as goal
 use Rattle.i3c_table.proofs.resting.RestingTable.of.Goals.{After-copied}
 
@@ -21,7 +21,6 @@ invariant_of-result c =
       subst (λ xs. IsInOrder t.kept.0 xs c.copied.result) (sym c.in_ok-numbers_at_rest.ensures)
           (subst (λ order. IsInOrder t.kept.0 (take n t.numbers) order) (sym c.copied.ensures)
           (order_again t.held.0 t.kept.0 t.registers (take n t.registers) t.numbers (take n t.numbers) (alike k) t.order c.table.invariant.0.among c.table.invariant.1)),
-      subst AreStatic (sym c.in_ok-registers_at_rest.ensures) (static_taken n t.registers c.table.invariant.2),
       subst (λ xs. IsReaching t.held.0 (length xs) (length c.in_ok-numbers_at_rest.field-0.items)) (sym c.in_ok-registers_at_rest.ensures)
           (subst (λ xs. IsReaching t.held.0 (length (take n t.registers)) (length xs)) (sym c.in_ok-numbers_at_rest.ensures)
           (taken_reaching t.held.0 n n t.registers t.numbers c.span_of-span.ensures.few c.span_of-span.ensures.few (omega arith) (omega arith) (reached k))),

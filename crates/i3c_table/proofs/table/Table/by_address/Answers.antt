@@ -1,6 +1,6 @@
 use Rattle.std.proofs.Common.{◌∙◌, ap, arith, length, refl, sym}
 use Rattle.std.proofs.lemmas.List.{length-set}
-use Rattle.i3c_table.proofs.Placed.{each_apart, each_static, each_undeclared, each_usable, few, placed_all, placed_more, placed_none}
+use Rattle.i3c_table.proofs.Placed.{each_apart, each_undeclared, each_usable, few, placed_all, placed_more, placed_none}
 use Rattle.i3c_table.proofs.StoredLaws.{length-stored, small_whole}
 use Rattle.i3c_table.proofs.table.Table.by_address.Goals as goal
 
@@ -33,6 +33,3 @@ loop-address-smaller c = c.without-left.ensures.less c.in-Some.ensures.0
 
 pub returns-clause-undeclared : goal.returns-clause-undeclared
 returns-clause-undeclared c a = rw (ap (λ t. t.given) (sym c.self.view_is), ap (λ t. t.declared) (sym c.self.view_is)) (each_undeclared _ _ _ _ _ c.self.invariant.0 a)
-
-pub returns-clause-static_alone : goal.returns-clause-static_alone
-returns-clause-static_alone c a = rw (ap (λ t. t.given) (sym c.self.view_is)) (each_static _ _ _ _ _ c.self.invariant.0 c.self.invariant.2 a)

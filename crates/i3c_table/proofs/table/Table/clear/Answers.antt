@@ -11,7 +11,6 @@ invariant_of-self c =
     let none = c.new-self-inside in (
       whole_only inside.held.0 inside.kept.0 only.result.0 none.result.0 c.args.own inside.legacies c.self.invariant.0 only.ensures.same only.ensures.others none.ensures,
       order_none none.result.0 inside.numbers c.clear.new.self (omega arith) none.ensures c.clear.ensures,
-      c.self.invariant.2,
     )
 
 pub returns : goal.returns

@@ -1,6 +1,6 @@
 use Rattle.std.proofs.Common.{ap, length, sym, ◌∙◌}
 use Rattle.i3c_table.proofs.Open.{given_bits}
-use Rattle.i3c_table.proofs.Placed.{each_apart, each_static, each_undeclared, each_usable, few}
+use Rattle.i3c_table.proofs.Placed.{each_apart, each_undeclared, each_usable, few}
 use Rattle.i3c_table.proofs.StoredLaws.{length-stored, small_whole}
 use Rattle.i3c_table.proofs.table.Table.given_addresses.Goals as goal
 
@@ -21,6 +21,3 @@ returns-clause-all_places c = ap (λ t. length t.given) (sym c.self.view_is) ∙
 
 pub returns-clause-undeclared : goal.returns-clause-undeclared
 returns-clause-undeclared c a = rw (ap (λ t. t.given) (sym c.self.view_is), ap (λ t. t.declared) (sym c.self.view_is)) (each_undeclared _ _ _ _ _ c.self.invariant.0 a)
-
-pub returns-clause-static_alone : goal.returns-clause-static_alone
-returns-clause-static_alone c a = rw (ap (λ t. t.given) (sym c.self.view_is)) (each_static _ _ _ _ _ c.self.invariant.0 c.self.invariant.2 a)

@@ -2,13 +2,12 @@ use Rattle.std.proofs.Common.{◌≡◌, ◌∙◌, ap, arith, false, get_or, re
 use Rattle.std.proofs.lemmas.List.{get_or-set_other, get_or-set_same}
 use Rattle.i3c_base.specs.State.{IsFree, IsUsable}
 use Rattle.i3c_table.specs.declared.registers.Registers.{Registers}
-use Rattle.i3c_table.specs.Rows.{entry_of_row, HasStatic}
+use Rattle.i3c_table.specs.Rows.{entry_of_row}
 use Rattle.i3c_base.specs.Sets.{is_in}
 use Rattle.i3c_table.specs.Stored.{no_registers, stored}
 use Rattle.i3c_table.specs.Putting.{with_row}
 use Rattle.i3c_table.proofs.StoredLaws.{fitting_row, new_row, put_stored, small_put, small_whole, whole_put}
 use Rattle.i3c_base.specs.Covered.{Table}
-use Rattle.i3c_table.proofs.StaticLaws.{static_in-static, static_set}
 use Rattle.i3c_table.proofs.table.Table.put.Goals as goal
 
 pub keep_for-self-inside-requires-clause-ordered : goal.keep_for-self-inside-requires-clause-ordered
@@ -29,14 +28,13 @@ invariant_of-self c =
       whole_put inside.held.0 inside.kept.0 c.with-self-inside.result.0 c.keep_for-self-inside.result.0 a inside.legacies c.self.invariant.0 new c.with-self-inside.ensures.in_it c.with-self-inside.ensures.others
           c.keep_for-self-inside.ensures.others,
       c.keep_for-self-inside.ensures.ordered,
-      rw c.get.ensures.same (static_set inside.registers a (record { bcr = c.args.row.bcr; dcr = c.args.row.dcr; fixed = c.static_only.result }) c.self.invariant.2 (subst HasStatic (sym c.static_only.ensures) (static_in-static c.args.row.fixed))),
     )
 
 pub returns : goal.returns
 returns c =
     let inside = c.self.inside in
     let a = c.args.row.address in
-    let r : Registers = record { bcr = c.args.row.bcr; dcr = c.args.row.dcr; fixed = c.static_only.result } in
+    let r : Registers = record { bcr = c.args.row.bcr; dcr = c.args.row.dcr; fixed = c.of.result } in
     let kept = c.keep_for-self-inside in
     let held = c.with-self-inside.result.0 in
     let set_same : get_or (set inside.registers a r) a no_registers ≡ r = get_or-set_same inside.registers a r no_registers (omega arith) in
@@ -45,5 +43,5 @@ returns c =
     ∙ (ap (λ g. record { given = g; legacy = inside.legacies.legacy; declared = inside.legacies.declared; listed = false })
     (put_stored inside.held.0 inside.kept.0 held kept.result.0 inside.registers (set inside.registers a r) inside.numbers kept.new.numbers a (entry_of_row c.args.row) small
     (small_put inside.held.0 held a small c.get.ensures.in_range c.with-self-inside.ensures.others) c.get.ensures.in_range c.with-self-inside.ensures.in_it c.with-self-inside.ensures.others kept.ensures.others
-    (λ k other. get_or-set_other inside.registers a k r no_registers other) kept.ensures.other_numbers (ap (λ x. x.bcr) set_same) (ap (λ x. x.dcr) set_same) (ap (λ x. x.fixed) set_same ∙ c.static_only.ensures) kept.ensures.its)
+    (λ k other. get_or-set_other inside.registers a k r no_registers other) kept.ensures.other_numbers (ap (λ x. x.bcr) set_same) (ap (λ x. x.dcr) set_same) (ap (λ x. x.fixed) set_same ∙ c.of.ensures) kept.ensures.its)
     ∙ ap (with_row c.args.row) c.self.view_is)

@@ -3,10 +3,8 @@ use Rattle.std.proofs.lemmas.List.{get_or_default}
 use Rattle.i3c_base.specs.Covered.{Table}
 use Rattle.i3c_base.specs.Frames.{released_at}
 use Rattle.i3c_table.specs.declared.registers.Registers.{Registers}
-use Rattle.i3c_table.specs.Rows.{HasStatic}
 use Rattle.i3c_table.specs.Stored.{no_registers, stored}
 use Rattle.i3c_table.proofs.Moving.{released_stored, whole_released}
-use Rattle.i3c_table.proofs.StaticLaws.{static_set}
 use Rattle.i3c_table.proofs.StoredLaws.{small_whole}
 use Rattle.i3c_table.proofs.table.Table.release.Goals as goal
 
@@ -21,7 +19,6 @@ invariant_of-self c =
       whole_released inside.held.0 inside.kept.0 kept.result.0 a inside.registers inside.numbers r (small_whole _ _ _ c.self.invariant.0) (omega arith) (omega arith) kept.ensures.not_in_it kept.ensures.others
           (sym (ap (λ (x : Registers). x.bcr) read)) (sym (ap (λ (x : Registers). x.dcr) read)) c.of.ensures inside.legacies c.self.invariant.0,
       c.of-self-inside.ensures,
-      static_set inside.registers c.get.result r c.self.invariant.2 (subst HasStatic (sym c.of.ensures) tt),
     )
 
 pub returns : goal.returns

@@ -6,10 +6,8 @@ use Rattle.i3c_base.specs.Frames.{moved}
 use Rattle.i3c_base.specs.Sets.{is_in}
 use Rattle.i3c_base.specs.State.{Board, Entry, IsFree, entry_in}
 use Rattle.i3c_table.specs.declared.registers.Registers.{Registers}
-use Rattle.i3c_table.specs.Rows.{HasStatic}
 use Rattle.i3c_table.specs.Stored.{no_registers, stored}
 use Rattle.i3c_table.proofs.Moving.{IsMoved, moved_stored, whole_moved}
-use Rattle.i3c_table.proofs.StaticLaws.{static_set}
 use Rattle.i3c_table.proofs.StoredLaws.{free_stored, small_whole}
 use Rattle.i3c_table.proofs.table.Table.renumber.Goals as goal
 
@@ -39,7 +37,6 @@ invariant_of-self c =
     ap (λ i. get_or inside.registers i c.index-self-from.result) c.get-from.ensures.same ∙ get_or_default inside.registers old c.index-self-from.result no_registers (omega arith) in (
       whole,
       c.of-self-inside.ensures,
-      static_set inside.registers c.get-to.result r c.self.invariant.2 (subst (λ (x : Registers). HasStatic x.fixed) (sym read) (c.self.invariant.2 old)),
     )
 
 pub returns : goal.returns

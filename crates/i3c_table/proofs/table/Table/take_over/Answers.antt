@@ -16,7 +16,6 @@ invariant_of-self c =
     let none = c.new-self-inside in (
       whole_unkept inside.held.0 inside.kept.0 none.result.0 inside.legacies c.self.invariant.0 none.ensures,
       order_none none.result.0 inside.numbers c.clear.new.self (omega arith) none.ensures c.clear.ensures,
-      c.self.invariant.2,
     )
 
 pub returns-then-not-has_declared : goal.returns-then-not-has_declared
@@ -36,7 +35,6 @@ invariant_of-self-2 c =
       whole_again inside.legacies.declared inside.held.0 inside.kept.0 c.args.own inside.registers inside.numbers (small_whole _ _ _ c.self.invariant.0) c.without.result.0 c.without.ensures.not_in_it c.without.ensures.others inside.legacies
           homes.result.0 homes.new.numbers c.self.invariant.0 homes.ensures.again,
       homes.ensures.ordered,
-      c.self.invariant.2,
     )
 
 pub returns : goal.returns

@@ -2,8 +2,8 @@
 use Rattle.std.proofs.Common.{◌≡◌, ◌∙◌, ◌++◌, ℕ, true, List, ap, drop, length, subst, sym}
 use Rattle.i3c_base.specs.Sets.{is_in}
 use Rattle.i3c_table.specs.declared.registers.Registers.{Registers}
-use Rattle.i3c_table.specs.Stored.{stored, AreStatic, IsInOrder, IsStoredAlike, IsWhole}
-use Rattle.i3c_table.proofs.AtRest.{alike_begun, order_again, static_begun, stored_again}
+use Rattle.i3c_table.specs.Stored.{stored, IsInOrder, IsStoredAlike, IsWhole}
+use Rattle.i3c_table.proofs.AtRest.{alike_begun, order_again, stored_again}
 use Rattle.i3c_table.proofs.table.Table.wake.Goals as goal
 use Rattle.i3c_table.proofs.table.Table.wake.Goals.{After-copy_from}
 
@@ -16,7 +16,7 @@ new_numbers c = c.begin_numbers.ensures ∙ ap (λ (xs : List ℕ). xs ++ drop (
 alike : (c : After-copy_from) (a : ℕ) → is_in c.resting.inside.held.0 a ≡ true
     → IsStoredAlike (c.resting.inside.registers.items ++ drop (length c.resting.inside.registers.items) c.self.inside.registers) (c.resting.inside.numbers.items ++ drop (length c.resting.inside.numbers.items) c.self.inside.numbers) c.resting.inside.registers.items
     c.resting.inside.numbers.items a
-alike c = alike_begun c.resting.inside.held.0 c.resting.inside.registers.items c.self.inside.registers c.resting.inside.numbers.items c.self.inside.numbers c.resting.invariant.3.reached
+alike c = alike_begun c.resting.inside.held.0 c.resting.inside.registers.items c.self.inside.registers c.resting.inside.numbers.items c.self.inside.numbers c.resting.invariant.2.reached
 
 pub invariant_of-self : goal.invariant_of-self
 invariant_of-self c =
@@ -27,7 +27,6 @@ invariant_of-self c =
           (subst (λ order. IsInOrder r.kept.0 (r.numbers.items ++ drop (length r.numbers.items) c.self.inside.numbers) order) (sym c.copy_from.ensures)
           (order_again r.held.0 r.kept.0 r.registers.items (r.registers.items ++ drop (length r.registers.items) c.self.inside.registers) r.numbers.items (r.numbers.items ++ drop (length r.numbers.items) c.self.inside.numbers) (alike k) r.order
           c.resting.invariant.0.among c.resting.invariant.1)),
-      subst AreStatic (sym (new_registers k)) (static_begun r.registers.items c.self.inside.registers c.resting.invariant.2 c.self.invariant.2),
     )
 
 pub returns : goal.returns

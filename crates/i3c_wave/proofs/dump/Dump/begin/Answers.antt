@@ -1,4 +1,4 @@
-use Rattle.std.proofs.Common.{◌∙◌, Ok, ap, subst, sym}
+use Rattle.std.proofs.Common.{◌∙◌, ap, subst, sym}
 use Rattle.i3c_wave.specs.declared.dump_word.Lead.{Lead}
 use Rattle.i3c_wave.specs.Dumps.{Says, command_said, time_said}
 use Rattle.i3c_wave.proofs.WordLaws.{led_by, no_word}
@@ -23,13 +23,19 @@ returns-in-None c =
     ∙ ap (λ time. time_said c.args.self.now c.args.at time) (sym c.number_of.ensures ∙ c.in-None.is)
 
 pub returns-in-Low : goal.returns-in-Low
-returns-in-Low c = led_by c.args.self.now c.args.at c.args.word.now Lead.Low c.in-len1-up.len_at_least (sym c.in-Low.is ∙ c.lead_of.ensures) ∙ ap Ok c.value.ensures
+returns-in-Low c =
+    let said = led_by c.args.self.now c.args.at c.args.word.now Lead.Low c.in-len1-up.len_at_least (sym c.in-Low.is ∙ c.lead_of.ensures) in
+    subst (λ said. Says said c.args.self.now c.coded.result) (sym said) c.coded.ensures
 
 pub returns-in-High : goal.returns-in-High
-returns-in-High c = led_by c.args.self.now c.args.at c.args.word.now Lead.High c.in-len1-up.len_at_least (sym c.in-High.is ∙ c.lead_of.ensures) ∙ ap Ok c.value-in-High.ensures
+returns-in-High c =
+    let said = led_by c.args.self.now c.args.at c.args.word.now Lead.High c.in-len1-up.len_at_least (sym c.in-High.is ∙ c.lead_of.ensures) in
+    subst (λ said. Says said c.args.self.now c.coded-in-High.result) (sym said) c.coded-in-High.ensures
 
 pub returns-in-NoLevel : goal.returns-in-NoLevel
-returns-in-NoLevel c = led_by c.args.self.now c.args.at c.args.word.now Lead.NoLevel c.in-len1-up.len_at_least (sym c.in-NoLevel.is ∙ c.lead_of.ensures) ∙ ap Ok c.value-in-NoLevel.ensures
+returns-in-NoLevel c =
+    let said = led_by c.args.self.now c.args.at c.args.word.now Lead.NoLevel c.in-len1-up.len_at_least (sym c.in-NoLevel.is ∙ c.lead_of.ensures) in
+    subst (λ said. Says said c.args.self.now c.coded-in-NoLevel.result) (sym said) c.coded-in-NoLevel.ensures
 
 pub returns-in-Vector : goal.returns-in-Vector
 returns-in-Vector c = led_by c.args.self.now c.args.at c.args.word.now Lead.Vector c.in-len1-up.len_at_least (sym c.in-Vector.is ∙ c.lead_of.ensures)

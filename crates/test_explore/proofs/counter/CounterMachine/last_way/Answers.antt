@@ -1,9 +1,9 @@
 -- Each way behind way 1 does what that one does.
-use Rattle.std.proofs.Common.{◌≡◌, ◌+◌, ◌<◌, ◌≤◌, ℕ, Bool, suc, zero, arith, if◌then◌else◌, inl, inr, subst, sym}
+use Rattle.std.proofs.Common.{◌≡◌, ◌+◌, ◌<◌, ◌≤◌, ℕ, Bool, min, suc, zero, arith, if◌then◌else◌, inl, inr, rules, subst, sym}
 use Rattle.std.proofs.lemmas.Bool.Decides.{leb_tells}
 use Rattle.test_explore.specs.declared.counter.Counter.{Counter}
 use Rattle.test_explore.specs.declared.counter.Line.{Line}
-use Rattle.test_explore.specs.declared.counter.Line.TheVariants.{Risk}
+use Rattle.test_explore.specs.declared.counter.Line.TheVariants.{Risk, Spread}
 use Rattle.test_explore.specs.Counters.{Counts}
 use Rattle.test_explore.proofs.counter.CounterMachine.last_way.Goals as goal
 
@@ -20,3 +20,16 @@ each_way old line more is (suc way) =
 
 pub returns-in-Risk-clause-last : goal.returns-in-Risk-clause-last
 returns-in-Risk-clause-last c = each_way c.args.self.now c.args.line.now c.in-Risk.field-0 c.in-Risk.is
+
+-- in a way behind its last one a line adds as much as in that one
+each_spread : (old : Counter) (line : Line) (most last : ℕ) → line ≡ Spread most → last ≡ most → (way : ℕ) → (tried : ℕ) × (tried ≤ last) × ((new : Counter) → Counts old line tried new → Counts old line way new)
+each_spread old line most last is same_last way =
+    let same : min (min way most) most ≡ min way most = omega arith in (
+      min way most,
+      omega arith,
+      λ new steps. subst (λ (l : Line). Counts old l way new) (sym is)
+          (subst (λ (k : ℕ). (new.count ≡ old.count + k) × (new.count < 1000)) same (subst (λ (l : Line). Counts old l (min way most) new) is steps)),
+    )
+
+pub returns-in-Spread-clause-last : goal.returns-in-Spread-clause-last
+returns-in-Spread-clause-last c = each_spread c.args.self.now c.args.line.now c.in-Spread.most c.from.result c.in-Spread.is (let e = c.from.ensures in search rules)
