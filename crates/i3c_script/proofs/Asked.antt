@@ -1,6 +1,6 @@
 -- Whose requests the next frame would meet, slot by slot.
-use Rattle.std.proofs.Common.{◌≡◌, ◌≢◌, ◌⊎◌, ◌<◌, ◌≤◌, ◌∙◌, ℕ, zero, suc, ◌+◌, Bool, true, false, cond, ◌&&◌, nat_le, List, [], ◌∷◌, ◌++◌, arith, ap, inl, inr, refl, subst, sym, if◌then◌else◌}
-use Rattle.std.proofs.lemmas.Bool.{cases_Bool, cases_lt, eq-eqb, false≢true, ne_eqb}
+use Rattle.std.proofs.Common.{◌≡◌, ◌⊎◌, ◌<◌, ◌≤◌, ◌∙◌, ℕ, suc, ◌+◌, true, false, cond, [], ◌++◌, arith, ap, inl, inr, refl, subst, sym, if◌then◌else◌}
+use Rattle.std.proofs.lemmas.Bool.{cases_Bool, cases_lt, eq-eqb, ne_eqb}
 use Rattle.std.proofs.lemmas.List.{append-nil}
 use Rattle.std.specs.Prelude.{None, slice_index_or, ◌==◌}
 use Rattle.i3c_base.specs.declared.range.TheConstants.{SLOTS}
@@ -9,7 +9,7 @@ use Rattle.i3c_base.specs.Serve.{drives}
 use Rattle.i3c_base.specs.State.{State}
 use Rattle.i3c_bus.specs.Readings.{AreAskers}
 use Rattle.i3c_device.specs.declared.slot_set.SlotSet.{SlotSet}
-use Rattle.i3c_device.specs.Sets.{IsLowestOf, IsNone, has}
+use Rattle.i3c_device.specs.Sets.{IsLowestOf, has}
 use Rattle.i3c_lines.specs.declared.names.Names.{Names}
 use Rattle.i3c_lines.specs.Naming.{slot_names}
 use Rattle.i3c_script.specs.Printed.{asker_text, askers_text}

@@ -1,3 +1,4 @@
+pub mod Hearing
 pub mod Texts
 pub mod Presence
 pub mod Moving

@@ -29,18 +29,21 @@ use Rattle.i3c_lines.specs.declared.names.Name.{Name}
 use Rattle.i3c_lines.specs.declared.names.Names.{Names}
 use Rattle.i3c_lines.specs.declared.refusals.Refusal.{Refusal}
 use Rattle.i3c_text.specs.declared.stop.Stop.{Stop}
+use Rattle.i3c_script.specs.declared.piece.Piece.{Piece}
 use Rattle.i3c_script.specs.declared.replies.Subject.{Subject}
 use Rattle.i3c_script.specs.declared.settings.Settings.{Settings}
 use Rattle.i3c_script.specs.declared.tenures.Tenure.{Tenure}
 use Rattle.i3c_script.specs.declared.wires.TheConstants.{SYMBOLS}
 use Rattle.i3c_script.specs.Asking.{slot_meant}
-use Rattle.i3c_script.specs.Printed.{frame_subject, subject_of}
+use Rattle.i3c_script.specs.Hearing.{Hears}
+use Rattle.i3c_script.specs.Pieces.{frame_subject, subject_of}
 use Rattle.i3c_script.specs.Assigning.{Moves, cuts_left}
 use Rattle.i3c_script.specs.Accepting.{Accepts}
-use Rattle.i3c_script.specs.Obeying.{Answers, AnswersIn, IsRefused, Sends}
+use Rattle.i3c_script.specs.Obeying.{Answers, AnswersIn, AnswersOf, IsRefused, Sends}
 use Rattle.i3c_script.specs.Ran.{Ran, ran_of}
 use Rattle.i3c_script.specs.Telling.{IsTold, Prints}
 use Rattle.i3c_script.specs.Tenures.{ended_by}
+use Rattle.i3c_script.proofs.Hearing.{hears_by}
 
 module _ {X : Type 0} where
   -- to keep the last ones twice is to keep them once
@@ -98,31 +101,32 @@ all_taken event cuts frame = ap (λ b. cond b no_cuts cuts) frame
 pub framed : (old new : Ran) (event : Event) (reply : Reply) → is_some (cuts_in event) ≡ true → Moves (record old { cuts = no_cuts }) event reply new → Moves old event reply new
 framed old new event reply frame m = record { wire = m.wire; step = m.step; sent = m.sent; kept = m.kept; settings = m.settings; cuts = m.cuts ∙ all_taken event no_cuts frame ∙ sym (all_taken event old.cuts frame); ended = m.ended }
 
+module _ {L : Type 0} (heard : L → Piece → L) where
+  -- a frame whose cuts are taken before
+  pub answers_framed : (old mid new : Ran) (event : Event) (before after : L) (result : Result (Unit {0}) (Stop Refusal)) → is_some (cuts_in event) ≡ true → mid ≡ record old { cuts = no_cuts }
+      → Hears heard (λ pieces refused. Answers mid event pieces refused new) before after result → Hears heard (λ pieces refused. Answers old event pieces refused new) before after result
+  answers_framed old mid new event before after result frame same h =
+      hears_by heard (λ pieces refused. Answers mid event pieces refused new) (λ pieces refused. Answers old event pieces refused new)
+      (λ pieces refused a. (a.0, framed old new event a.0 frame (subst (λ r. Moves r event a.0 new) same a.1), subst (λ (r : Ran). IsTold (subject_of event) (reply_from r.settings.forgotten a.0) pieces refused) same a.2)) before after result h
+
+  -- a step whose reply is heard
+  pub answered : (subject : Subject) (old new : Ran) (event : Event) (reply : Reply) (before after : L) (result : Result (Unit {0}) (Stop Refusal)) → Moves old event reply new
+      → Hears heard (IsTold subject (reply_from old.settings.forgotten reply)) before after result → Hears heard (λ pieces refused. AnswersOf subject old event pieces refused new) before after result
+  answered subject old new event reply before after result move told =
+      hears_by heard (IsTold subject (reply_from old.settings.forgotten reply)) (λ pieces refused. AnswersOf subject old event pieces refused new) (λ pieces refused one. (reply, move, one)) before after result told
+
+  -- a line whose name means this slot
+  pub in_slot : (old new : Ran) (names : Names) (name : Name) (event : ℕ → Event) (slot : ℕ) (before after : L) (result : Result (Unit {0}) (Stop Refusal)) → Ok slot ≡ slot_meant names name
+      → Hears heard (λ pieces refused. Answers old (event slot) pieces refused new) before after result → Hears heard (λ pieces refused. AnswersIn old names name event pieces refused new) before after result
+  in_slot old new names name event slot before after result is told =
+      subst (λ r. Hears heard (λ pieces refused. MatchResult r (λ s. Answers old (event s) pieces refused new) (λ why. (new ≡ old) × IsRefused why pieces refused)) before after result) is told
+
 -- a weaker property of output holds too
 pub prints_by : (Is Of : List ℕ → Option Refusal → Type 0) → ((said : List ℕ) (refused : Option Refusal) → Is said refused → Of said refused)
     → (before after : List ℕ) (result : Result (Unit {0}) (Stop Refusal)) → Prints Is before after result → Prints Of before after result
 prints_by Is Of of before after (Ok done) (said, text, is) = (said, text, of said None is)
 prints_by Is Of of before after (Err (Stop.Refused why)) (said, text, is) = (said, text, of said (Some why) is)
 prints_by Is Of of before after (Err Stop.Memory) h = h
-
--- a frame whose cuts are taken before
-pub answers_framed : (old mid new : Ran) (names : Names) (event : Event) (before after : List ℕ) (result : Result (Unit {0}) (Stop Refusal)) → is_some (cuts_in event) ≡ true → mid ≡ record old { cuts = no_cuts }
-    → Prints (λ said refused. Answers mid names event said refused new) before after result → Prints (λ said refused. Answers old names event said refused new) before after result
-answers_framed old mid new names event before after result frame same h =
-    prints_by (λ said refused. Answers mid names event said refused new) (λ said refused. Answers old names event said refused new)
-    (λ said refused a. (a.0, framed old new event a.0 frame (subst (λ r. Moves r event a.0 new) same a.1), subst (λ (r : Ran). IsTold names (subject_of event) (reply_from r.settings.forgotten a.0) said refused) same a.2)) before after result h
-
--- a step whose reply is told
-pub answered : (old new : Ran) (names : Names) (event : Event) (reply : Reply) (before after : List ℕ) (result : Result (Unit {0}) (Stop Refusal)) → Moves old event reply new
-    → Prints (IsTold names (subject_of event) (reply_from old.settings.forgotten reply)) before after result → Prints (λ said refused. Answers old names event said refused new) before after result
-answered old new names event reply before after result move told =
-    prints_by (IsTold names (subject_of event) (reply_from old.settings.forgotten reply)) (λ said refused. Answers old names event said refused new) (λ said refused one. (reply, move, one)) before after result told
-
--- a line whose name means this slot
-pub in_slot : (old new : Ran) (names : Names) (name : Name) (event : ℕ → Event) (slot : ℕ) (before after : List ℕ) (result : Result (Unit {0}) (Stop Refusal)) → Ok slot ≡ slot_meant names name
-    → Prints (λ said refused. Answers old names (event slot) said refused new) before after result → Prints (λ said refused. AnswersIn old names name event said refused new) before after result
-in_slot old new names name event slot before after result is told =
-    subst (λ r. Prints (λ said refused. MatchResult r (λ s. Answers old names (event s) said refused new) (λ why. (new ≡ old) × IsRefused why said refused)) before after result) is told
 
 -- each frame under the role carries cuts, and its text has of the event what it has of the frame
 carries_cuts : (frame : Frame) (policy : Fixed) (cuts : CutList) → is_some (cuts_in (event_of frame policy cuts)) ≡ true
@@ -178,34 +182,35 @@ unhanded old new frame policy cuts reply step = go (is_handed reply) refl
         let (to, others, is, there) = (slots_kept old (event_of frame policy cuts) reply new step).moved e in
         absurd (false≢true (sym (no_handover frame policy cuts) ∙ ap is_handover is))
 
--- a frame under the role
-pub sent : (old new : State) (settings : Settings) (fixed : Fixed) (cuts left : CutList) (symbols later : List Symbol) (ended : List Tenure) (names : Names) (frame : Frame) (reply : Reply) (before after : List ℕ) (result : Result (Unit {0}) (Stop Refusal))
-    → Accepts settings old fixed → left ≡ no_cuts → Step old (event_of frame fixed cuts) reply new → Tells note symbols later (IsWire old (event_of frame fixed cuts) reply new)
-    → Prints (IsTold names (frame_subject frame) (reply_from settings.forgotten reply)) before after result
-    → Prints (λ said refused. Sends (ran_of old settings cuts symbols ended) names frame said refused (ran_of new settings left later ended)) before after result
-sent old new settings fixed cuts left symbols later ended names frame reply before after result accepts none step wire told =
-    let event = event_of frame fixed cuts in
-    let from = ran_of old settings cuts symbols ended in
-    let to = ran_of new settings left later ended in
-    prints_by (λ said refused. Answers from names event said refused to) (λ said refused. Sends from names frame said refused to) (λ said refused answers. (fixed, accepts, answers)) before after result
-    (answered from to names event reply before after result
-    (subst (λ times. Moves from event reply (ran_of new settings left later times)) (ended_still reply old.active (settings.forgotten + length new.records) ended (unhanded old new frame fixed cuts reply step))
-    (subst (λ rest. Moves from event reply (ran_of new settings rest later (ended_by reply old.active (settings.forgotten + length new.records) ended)))
-    (all_taken event cuts (carries_cuts frame fixed cuts) ∙ sym none)
-    (moved old new settings cuts symbols later ended event reply step wire)))
-    (subst (λ subject. Prints (IsTold names subject (reply_from settings.forgotten reply)) before after result) (one_subject frame fixed cuts) told))
+module _ {L : Type 0} (heard : L → Piece → L) where
+  -- a frame under the role
+  pub sent : (old new : State) (settings : Settings) (fixed : Fixed) (cuts left : CutList) (symbols later : List Symbol) (ended : List Tenure) (frame : Frame) (reply : Reply) (before after : L) (result : Result (Unit {0}) (Stop Refusal))
+      → Accepts settings old fixed → left ≡ no_cuts → Step old (event_of frame fixed cuts) reply new → Tells note symbols later (IsWire old (event_of frame fixed cuts) reply new)
+      → Hears heard (IsTold (frame_subject frame) (reply_from settings.forgotten reply)) before after result
+      → Hears heard (λ pieces refused. Sends (ran_of old settings cuts symbols ended) frame pieces refused (ran_of new settings left later ended)) before after result
+  sent old new settings fixed cuts left symbols later ended frame reply before after result accepts none step wire told =
+      let event = event_of frame fixed cuts in
+      let from = ran_of old settings cuts symbols ended in
+      let to = ran_of new settings left later ended in
+      hears_by heard (λ pieces refused. Answers from event pieces refused to) (λ pieces refused. Sends from frame pieces refused to) (λ pieces refused answers. (fixed, accepts, answers)) before after result
+      (answered heard (subject_of event) from to event reply before after result
+      (subst (λ times. Moves from event reply (ran_of new settings left later times)) (ended_still reply old.active (settings.forgotten + length new.records) ended (unhanded old new frame fixed cuts reply step))
+      (subst (λ rest. Moves from event reply (ran_of new settings rest later (ended_by reply old.active (settings.forgotten + length new.records) ended)))
+      (all_taken event cuts (carries_cuts frame fixed cuts) ∙ sym none)
+      (moved old new settings cuts symbols later ended event reply step wire)))
+      (subst (λ subject. Hears heard (IsTold subject (reply_from settings.forgotten reply)) before after result) (one_subject frame fixed cuts) told))
 
--- a line that sends nothing and takes no cuts, in the slot that its name means
-pub quietly : (old new : State) (settings : Settings) (cuts : CutList) (symbols : List Symbol) (ended : List Tenure) (names : Names) (name : Name) (event : ℕ → Event) (slot : ℕ) (reply : Reply) (before after : List ℕ) (result : Result (Unit {0}) (Stop Refusal))
-    → Ok slot ≡ slot_meant names name → is_some (cuts_in (event slot)) ≡ false → is_handed reply ≡ false → reply_from settings.forgotten reply ≡ reply → Step old (event slot) reply new → IsWire old (event slot) reply new []
-    → Prints (IsTold names (subject_of (event slot)) reply) before after result
-    → Prints (λ said refused. AnswersIn (ran_of old settings cuts symbols ended) names name event said refused (ran_of new settings cuts symbols ended)) before after result
-quietly old new settings cuts symbols ended names name event slot reply before after result is uncut still same step wire told =
-    in_slot (ran_of old settings cuts symbols ended) (ran_of new settings cuts symbols ended) names name event slot before after result is
-    (answered (ran_of old settings cuts symbols ended) (ran_of new settings cuts symbols ended) names (event slot) reply before after result
-    (subst (λ left. Moves (ran_of old settings cuts symbols ended) (event slot) reply (ran_of new settings left symbols ended)) (ap (λ b. cond b no_cuts cuts) uncut)
-    (unsent old new settings cuts symbols ended (event slot) reply still step wire))
-    (subst (λ r. Prints (IsTold names (subject_of (event slot)) r) before after result) (sym same) told))
+  -- a line that sends nothing and takes no cuts, in the slot that its name means
+  pub quietly : (old new : State) (settings : Settings) (cuts : CutList) (symbols : List Symbol) (ended : List Tenure) (names : Names) (name : Name) (event : ℕ → Event) (slot : ℕ) (reply : Reply) (before after : L) (result : Result (Unit {0}) (Stop Refusal))
+      → Ok slot ≡ slot_meant names name → is_some (cuts_in (event slot)) ≡ false → is_handed reply ≡ false → reply_from settings.forgotten reply ≡ reply → Step old (event slot) reply new → IsWire old (event slot) reply new []
+      → Hears heard (IsTold (subject_of (event slot)) reply) before after result
+      → Hears heard (λ pieces refused. AnswersIn (ran_of old settings cuts symbols ended) names name event pieces refused (ran_of new settings cuts symbols ended)) before after result
+  quietly old new settings cuts symbols ended names name event slot reply before after result is uncut still same step wire told =
+      in_slot heard (ran_of old settings cuts symbols ended) (ran_of new settings cuts symbols ended) names name event slot before after result is
+      (answered heard (subject_of (event slot)) (ran_of old settings cuts symbols ended) (ran_of new settings cuts symbols ended) (event slot) reply before after result
+      (subst (λ left. Moves (ran_of old settings cuts symbols ended) (event slot) reply (ran_of new settings left symbols ended)) (ap (λ b. cond b no_cuts cuts) uncut)
+      (unsent old new settings cuts symbols ended (event slot) reply still step wire))
+      (subst (λ r. Hears heard (IsTold (subject_of (event slot)) r) before after result) (sym same) told))
 
 -- what a device does by itself sends nothing
 pub attached_still : (old new : State) (event : Event) (attached : Result (Unit {0}) SlotTaken) → IsWire old event (attached_reply attached) new []

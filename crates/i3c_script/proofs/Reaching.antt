@@ -6,7 +6,8 @@ use Rattle.i3c_base.specs.declared.identity.Identity.{Identity}
 use Rattle.i3c_base.specs.declared.identity.Lvr.{Lvr}
 use Rattle.i3c_base.specs.declared.requests.Fixed.{Fixed}
 use Rattle.i3c_base.specs.declared.requests.Record.{Record}
-use Rattle.i3c_base.specs.State.{Board, State}
+use Rattle.i3c_base.specs.State.{Board, State, device_at}
+use Rattle.i3c_bus.specs.Readings.{address_of}
 use Rattle.i3c_step.specs.declared.events.Event.{Event}
 use Rattle.i3c_step.specs.declared.replies.Reply.{Reply}
 use Rattle.i3c_step.specs.Runs.{IsLegalRun}
@@ -18,14 +19,15 @@ use Rattle.i3c_lines.specs.declared.command.Command.{Command}
 use Rattle.i3c_lines.specs.declared.names.Name.{Name}
 use Rattle.i3c_lines.specs.declared.names.Names.{Names}
 use Rattle.i3c_lines.specs.declared.refusals.Refusal.{Refusal}
+use Rattle.i3c_script.specs.declared.piece.Piece.{Piece}
+use Rattle.i3c_script.specs.declared.replies.Subject.{Subject}
 use Rattle.i3c_script.specs.declared.settings.Settings.{Settings}
 use Rattle.i3c_script.specs.declared.stage.Stage.{Stage}
 use Rattle.i3c_script.specs.Asking.{slot_meant, slot_of_device, slots_named}
 use Rattle.i3c_script.specs.Assigning.{Assigns, Follows, HasSession, Moves, Rounds}
 use Rattle.i3c_script.specs.Leading.{AreLegal, AreLegalBehind, Lead, Obeyed, made}
-use Rattle.i3c_script.specs.Making.{Made, assigns_made, command_made, does_made, enters_made, events_of, follows_made, on_bus_made, one, replies_of, rounds_made, session_made, slot_made}
-use Rattle.i3c_script.specs.Obeying.{AddsLegacy, Answers, Declares, Does, IsBegun, IsDone, IsRefused, NamesSlot, ObeysAt, ObeysBefore, ObeysOn, Relieves, ScriptState, Sets, Starts, declare_refusal, legacy_refusal, main_refusal, script}
-use Rattle.i3c_script.specs.Printed.{declared_text, main_text}
+use Rattle.i3c_script.specs.Making.{Made, assigns_made, command_made, does_made, enters_made, events_of, follows_made, on_bus_made, one, pieces_made, replies_of, rounds_made, session_made, slot_made}
+use Rattle.i3c_script.specs.Obeying.{AddsLegacy, Answers, AnswersOf, ComesTo, Declares, Does, IsBegun, IsDone, IsRefused, NamesSlot, ObeysAt, ObeysBefore, ObeysOn, Relieves, ScriptState, Sets, Starts, declare_refusal, legacy_refusal, main_refusal, script}
 use Rattle.i3c_script.specs.Ran.{Ran}
 
 -- steps, one list behind the other
@@ -71,48 +73,48 @@ rounds_on steps old new (answer ∷ earlier) r (mid, before, m) =
     regroup steps (rounds_made old earlier mid before) (one (Event.Round mid.cuts) (Reply.Round answer)) new
     (moves_on (steps ++ rounds_made old earlier mid before) mid new (Event.Round mid.cuts) (Reply.Round answer) (rounds_on steps old mid earlier r before) m)
 
-session_on : (steps : List Made) (old new : Ran) (said : List ℕ) (refused : Option Refusal) → AreLegalBehind steps old → (h : HasSession old said refused new) → AreLegalBehind (steps ++ session_made old said refused new h) new
-session_on steps old new said refused r (last, rounds, ended) =
+session_on : (steps : List Made) (old new : Ran) (pieces : List Piece) (refused : Option Refusal) → AreLegalBehind steps old → (h : HasSession old pieces refused new) → AreLegalBehind (steps ++ session_made old pieces refused new h) new
+session_on steps old new pieces refused r (last, rounds, ended) =
     regroup steps (rounds_made old rounds.0 last rounds.1) (one Event.EndDaa Reply.Ended) new
     (moves_on (steps ++ rounds_made old rounds.0 last rounds.1) last new Event.EndDaa Reply.Ended (rounds_on steps old last rounds.0 r rounds.1) ended)
 
-follows_on : (steps : List Made) (reply : Reply) (opened new : Ran) (said : List ℕ) (refused : Option Refusal) → AreLegalBehind steps opened → (h : Follows reply opened said refused new) → AreLegalBehind (steps ++ follows_made reply opened said refused new h) new
-follows_on steps (Reply.Opened served) opened new said refused r (text, session, told) = session_on steps opened new text refused r session
-follows_on steps (Reply.Refused why) opened new said refused r h = stays steps opened new r h.0
-follows_on steps Reply.OutOfMemory opened new said refused r h = absurd h
-follows_on steps Reply.Attached opened new said refused r h = absurd h
-follows_on steps Reply.Dropped opened new said refused r h = absurd h
-follows_on steps (Reply.Raised number) opened new said refused r h = absurd h
-follows_on steps Reply.Asked opened new said refused r h = absurd h
-follows_on steps (Reply.Served served) opened new said refused r h = absurd h
-follows_on steps (Reply.Framed framed) opened new said refused r h = absurd h
-follows_on steps (Reply.Handed served) opened new said refused r h = absurd h
-follows_on steps (Reply.Round answer) opened new said refused r h = absurd h
-follows_on steps Reply.Ended opened new said refused r h = absurd h
+follows_on : (steps : List Made) (reply : Reply) (opened new : Ran) (pieces : List Piece) (refused : Option Refusal) → AreLegalBehind steps opened → (h : Follows reply opened pieces refused new) → AreLegalBehind (steps ++ follows_made reply opened pieces refused new h) new
+follows_on steps (Reply.Opened served) opened new pieces refused r (rounds, session, told) = session_on steps opened new rounds refused r session
+follows_on steps (Reply.Refused why) opened new pieces refused r h = stays steps opened new r h.0
+follows_on steps Reply.OutOfMemory opened new pieces refused r h = absurd h
+follows_on steps Reply.Attached opened new pieces refused r h = absurd h
+follows_on steps Reply.Dropped opened new pieces refused r h = absurd h
+follows_on steps (Reply.Raised number) opened new pieces refused r h = absurd h
+follows_on steps Reply.Asked opened new pieces refused r h = absurd h
+follows_on steps (Reply.Served served) opened new pieces refused r h = absurd h
+follows_on steps (Reply.Framed framed) opened new pieces refused r h = absurd h
+follows_on steps (Reply.Handed served) opened new pieces refused r h = absurd h
+follows_on steps (Reply.Round answer) opened new pieces refused r h = absurd h
+follows_on steps Reply.Ended opened new pieces refused r h = absurd h
 
-assigns_on : (steps : List Made) (old new : Ran) (said : List ℕ) (refused : Option Refusal) → AreLegalBehind steps old → (h : Assigns old said refused new) → AreLegalBehind (steps ++ assigns_made old said refused new h) new
-assigns_on steps old new said refused r (opened, reply, m, follows) =
-    regroup steps (one (Event.OpenDaa old.cuts) (reply_from old.settings.forgotten reply)) (follows_made reply opened said refused new follows) new
-    (follows_on (steps ++ one (Event.OpenDaa old.cuts) (reply_from old.settings.forgotten reply)) reply opened new said refused (moves_on steps old opened (Event.OpenDaa old.cuts) reply r m) follows)
+assigns_on : (steps : List Made) (old new : Ran) (pieces : List Piece) (refused : Option Refusal) → AreLegalBehind steps old → (h : Assigns old pieces refused new) → AreLegalBehind (steps ++ assigns_made old pieces refused new h) new
+assigns_on steps old new pieces refused r (opened, reply, m, follows) =
+    regroup steps (one (Event.OpenDaa old.cuts) (reply_from old.settings.forgotten reply)) (follows_made reply opened pieces refused new follows) new
+    (follows_on (steps ++ one (Event.OpenDaa old.cuts) (reply_from old.settings.forgotten reply)) reply opened new pieces refused (moves_on steps old opened (Event.OpenDaa old.cuts) reply r m) follows)
 
-in_on : (steps : List Made) (slot : Result ℕ Refusal) (old new : Ran) (names : Names) (event : ℕ → Event) (said : List ℕ) (refused : Option Refusal) → AreLegalBehind steps old
-    → (h : MatchResult slot (λ s. Answers old names (event s) said refused new) (λ why. (new ≡ old) × IsRefused why said refused)) → AreLegalBehind (steps ++ slot_made slot old names event said refused new h) new
-in_on steps (Ok slot) old new names event said refused r (reply, m, told) = moves_on steps old new (event slot) reply r m
-in_on steps (Err why) old new names event said refused r h = stays steps old new r h.0
+in_on : (steps : List Made) (slot : Result ℕ Refusal) (old new : Ran) (event : ℕ → Event) (pieces : List Piece) (refused : Option Refusal) → AreLegalBehind steps old
+    → (h : MatchResult slot (λ s. Answers old (event s) pieces refused new) (λ why. (new ≡ old) × IsRefused why pieces refused)) → AreLegalBehind (steps ++ slot_made slot old event pieces refused new h) new
+in_on steps (Ok slot) old new event pieces refused r (reply, m, told) = moves_on steps old new (event slot) reply r m
+in_on steps (Err why) old new event pieces refused r h = stays steps old new r h.0
 
-cut_on : (steps : List Made) (slot : Result ℕ Refusal) (old new : Ran) (Cut : ℕ → Ran) (said : List ℕ) (refused : Option Refusal) → ((s : ℕ) → AreLegalBehind steps (Cut s)) → AreLegalBehind steps old
-    → MatchResult slot (λ s. (new ≡ Cut s) × IsDone [] said refused) (λ why. (new ≡ old) × IsRefused why said refused) → AreLegalBehind (steps ++ []) new
-cut_on steps (Ok slot) old new Cut said refused legal r h = stays steps (Cut slot) new (legal slot) h.0
-cut_on steps (Err why) old new Cut said refused legal r h = stays steps old new r h.0
+cut_on : (steps : List Made) (slot : Result ℕ Refusal) (old new : Ran) (Cut : ℕ → Ran) (pieces : List Piece) (refused : Option Refusal) → ((s : ℕ) → AreLegalBehind steps (Cut s)) → AreLegalBehind steps old
+    → MatchResult slot (λ s. (new ≡ Cut s) × IsDone [] pieces refused) (λ why. (new ≡ old) × IsRefused why pieces refused) → AreLegalBehind (steps ++ []) new
+cut_on steps (Ok slot) old new Cut pieces refused legal r h = stays steps (Cut slot) new (legal slot) h.0
+cut_on steps (Err why) old new Cut pieces refused legal r h = stays steps old new r h.0
 
 -- what frames accept changes no log
 sets_on : (steps : List Made) (old new : Ran) (kinds : Fixed) (slots : List ℕ) → AreLegalBehind steps old → Sets old kinds slots new → AreLegalBehind (steps ++ []) new
 sets_on steps old new kinds slots (gone, many, legal) (settings, set, same) = stays steps (record old { settings = settings }) new (gone, many ∙ sym set.forgotten, legal) same
 
-excepts_on : (steps : List Made) (slots : Result (List ℕ) Refusal) (old new : Ran) (kinds : Fixed) (said : List ℕ) (refused : Option Refusal) → AreLegalBehind steps old
-    → MatchResult slots (λ s. Sets old kinds s new × IsDone [] said refused) (λ why. (new ≡ old) × IsRefused why said refused) → AreLegalBehind (steps ++ []) new
-excepts_on steps (Ok slots) old new kinds said refused r h = sets_on steps old new kinds slots r h.0
-excepts_on steps (Err why) old new kinds said refused r h = stays steps old new r h.0
+excepts_on : (steps : List Made) (slots : Result (List ℕ) Refusal) (old new : Ran) (kinds : Fixed) (pieces : List Piece) (refused : Option Refusal) → AreLegalBehind steps old
+    → MatchResult slots (λ s. Sets old kinds s new × IsDone [] pieces refused) (λ why. (new ≡ old) × IsRefused why pieces refused) → AreLegalBehind (steps ++ []) new
+excepts_on steps (Ok slots) old new kinds pieces refused r h = sets_on steps old new kinds slots r h.0
+excepts_on steps (Err why) old new kinds pieces refused r h = stays steps old new r h.0
 
 -- records that leave the log are among those that are gone
 forgets_on : (steps : List Made) (old new : Ran) (last : ℕ) → AreLegalBehind steps old → Relieves old last new → AreLegalBehind (steps ++ []) new
@@ -123,61 +125,61 @@ forgets_on steps old new last (gone, many, legal) (settings, st, lets, same) =
     ap (λ (l : List Record). record old.state { records = l }) whole ∙ ap (λ (s : State). record s { records = (gone ++ lets.gone) ++ st.records }) (sym lets.log) in
     stays steps (record old { state = st; settings = settings }) new (gone ++ lets.gone, all, subst (AreLegal steps) log legal) same
 
-does_on : (steps : List Made) (old new : Ran) (names : Names) (command : Command) (said : List ℕ) (refused : Option Refusal) → AreLegalBehind steps old → (h : Does old names command said refused new) → AreLegalBehind (steps ++ does_made old names command said refused new h) new
-does_on steps old new names (Command.Frame frame) said refused r (fixed, accepts, (reply, m, told)) = moves_on steps old new _ reply r m
-does_on steps old new names (Command.DropOff name) said refused r h = in_on steps (slot_meant names name) old new names Event.DropOff said refused r h
-does_on steps old new names (Command.Raise name byte) said refused r h = in_on steps (slot_meant names name) old new names (λ slot. Event.Raise slot byte) said refused r h
-does_on steps old new names (Command.AskJoin name) said refused r h = in_on steps (slot_meant names name) old new names Event.AskJoin said refused r h
-does_on steps old new names (Command.AskRole name) said refused r h = in_on steps (slot_meant names name) old new names Event.AskRole said refused r h
-does_on steps old new names (Command.HandOver to) said refused r (reply, m, told) = moves_on steps old new _ reply r m
-does_on steps old new names Command.Open said refused r (reply, m, told) = moves_on steps old new _ reply r m
-does_on steps old new names Command.Round said refused r (reply, m, told) = moves_on steps old new _ reply r m
-does_on steps old new names Command.End said refused r (reply, m, told) = moves_on steps old new _ reply r m
-does_on steps old new names Command.Daa said refused r h = assigns_on steps old new said refused r h
-does_on steps old new names (Command.Policy kinds) said refused r h = sets_on steps old new kinds [] r h.0
-does_on steps old new names (Command.PolicyBut kinds but) said refused r h = excepts_on steps (slots_named (slot_of_device old.state names) but.items) old new kinds said refused r h
-does_on steps old new names (Command.Cut name bit) said refused r h = cut_on steps (slot_of_device old.state names name) old new _ said refused (λ slot. r) r h
-does_on steps old new names Command.Show said refused r h = stays steps old new r h.0
-does_on steps old new names Command.ShowAll said refused r h = stays steps old new r h.0
-does_on steps old new names (Command.ShowFrom first) said refused r h = stays steps old new r h.0
-does_on steps old new names (Command.Forget last) said refused r h = forgets_on steps old new last r h.0
-does_on steps old new names Command.Symbols said refused r h = stays steps old new r h.0
-does_on steps old new names (Command.Frames count) said refused r h = stays steps old new r h.0
-does_on steps old new names (Command.Legacy name address lvr) said refused r h = stays steps old new r h.0
-does_on steps old new names (Command.Declare address identity) said refused r h = stays steps old new r h.0
-does_on steps old new names (Command.Main name setup) said refused r h = stays steps old new r h.0
-does_on steps old new names (Command.Attach name setup) said refused r h = absurd h
+does_on : (steps : List Made) (old new : Ran) (names : Names) (command : Command) (pieces : List Piece) (refused : Option Refusal) → AreLegalBehind steps old → (h : Does old names command pieces refused new) → AreLegalBehind (steps ++ does_made old names command pieces refused new h) new
+does_on steps old new names (Command.Frame frame) pieces refused r (fixed, accepts, (reply, m, told)) = moves_on steps old new _ reply r m
+does_on steps old new names (Command.DropOff name) pieces refused r h = in_on steps (slot_meant names name) old new Event.DropOff pieces refused r h
+does_on steps old new names (Command.Raise name byte) pieces refused r h = in_on steps (slot_meant names name) old new (λ slot. Event.Raise slot byte) pieces refused r h
+does_on steps old new names (Command.AskJoin name) pieces refused r h = in_on steps (slot_meant names name) old new Event.AskJoin pieces refused r h
+does_on steps old new names (Command.AskRole name) pieces refused r h = in_on steps (slot_meant names name) old new Event.AskRole pieces refused r h
+does_on steps old new names (Command.HandOver to) pieces refused r (reply, m, told) = moves_on steps old new _ reply r m
+does_on steps old new names Command.Open pieces refused r (reply, m, told) = moves_on steps old new _ reply r m
+does_on steps old new names Command.Round pieces refused r (reply, m, told) = moves_on steps old new _ reply r m
+does_on steps old new names Command.End pieces refused r (reply, m, told) = moves_on steps old new _ reply r m
+does_on steps old new names Command.Daa pieces refused r h = assigns_on steps old new pieces refused r h
+does_on steps old new names (Command.Policy kinds) pieces refused r h = sets_on steps old new kinds [] r h.0
+does_on steps old new names (Command.PolicyBut kinds but) pieces refused r h = excepts_on steps (slots_named (slot_of_device old.state names) but.items) old new kinds pieces refused r h
+does_on steps old new names (Command.Cut name bit) pieces refused r h = cut_on steps (slot_of_device old.state names name) old new _ pieces refused (λ slot. r) r h
+does_on steps old new names Command.Show pieces refused r h = stays steps old new r h.0
+does_on steps old new names Command.ShowAll pieces refused r h = stays steps old new r h.0
+does_on steps old new names (Command.ShowFrom first) pieces refused r h = stays steps old new r h.0
+does_on steps old new names (Command.Forget last) pieces refused r h = forgets_on steps old new last r h.0
+does_on steps old new names Command.Symbols pieces refused r h = stays steps old new r h.0
+does_on steps old new names (Command.Frames count) pieces refused r h = stays steps old new r h.0
+does_on steps old new names (Command.Legacy name address lvr) pieces refused r h = stays steps old new r h.0
+does_on steps old new names (Command.Declare address identity) pieces refused r h = stays steps old new r h.0
+does_on steps old new names (Command.Main name setup) pieces refused r h = stays steps old new r h.0
+does_on steps old new names (Command.Attach name setup) pieces refused r h = absurd h
 
-enters_on : (steps : List Made) (entrance : Result ℕ Refusal) (old new : Ran) (names named : Names) (name : Name) (event : ℕ → Event) (said : List ℕ) (refused : Option Refusal) → AreLegalBehind steps old
-    → (h : MatchResult entrance (λ slot. NamesSlot names named name slot × Answers old named (event slot) said refused new) (λ why. (named ≡ names) × (new ≡ old) × IsRefused why said refused))
-    → AreLegalBehind (steps ++ enters_made entrance old names named name event said refused new h) new
-enters_on steps (Ok slot) old new names named name event said refused r (given, (reply, m, told)) = moves_on steps old new (event slot) reply r m
-enters_on steps (Err why) old new names named name event said refused r h = stays steps old new r h.1
+enters_on : (steps : List Made) (entrance : Result ℕ Refusal) (old new : Ran) (names named : Names) (name : Name) (event : ℕ → Event) (pieces : List Piece) (refused : Option Refusal) → AreLegalBehind steps old
+    → (h : MatchResult entrance (λ slot. NamesSlot names named name slot × AnswersOf (Subject.Attached name slot) old (event slot) pieces refused new) (λ why. (named ≡ names) × (new ≡ old) × IsRefused why pieces refused))
+    → AreLegalBehind (steps ++ enters_made entrance old names named name event pieces refused new h) new
+enters_on steps (Ok slot) old new names named name event pieces refused r (given, (reply, m, told)) = moves_on steps old new (event slot) reply r m
+enters_on steps (Err why) old new names named name event pieces refused r h = stays steps old new r h.1
 
-obeys_on : (steps : List Made) (old new : Ran) (names named : Names) (command : Command) (said : List ℕ) (refused : Option Refusal) → AreLegalBehind steps old → (h : ObeysOn old names command said refused new named) → AreLegalBehind (steps ++ on_bus_made old names command said refused new named h) new
-obeys_on steps old new names named (Command.Attach name setup) said refused r (entrance, is, h) = enters_on steps entrance old new names named name (λ slot. Event.Attach slot setup) said refused r h
-obeys_on steps old new names named (Command.Frame frame) said refused r (same, h) = does_on steps old new names (Command.Frame frame) said refused r h
-obeys_on steps old new names named (Command.DropOff name) said refused r (same, h) = does_on steps old new names (Command.DropOff name) said refused r h
-obeys_on steps old new names named (Command.Raise name byte) said refused r (same, h) = does_on steps old new names (Command.Raise name byte) said refused r h
-obeys_on steps old new names named (Command.AskJoin name) said refused r (same, h) = does_on steps old new names (Command.AskJoin name) said refused r h
-obeys_on steps old new names named (Command.AskRole name) said refused r (same, h) = does_on steps old new names (Command.AskRole name) said refused r h
-obeys_on steps old new names named (Command.HandOver to) said refused r (same, h) = does_on steps old new names (Command.HandOver to) said refused r h
-obeys_on steps old new names named Command.Open said refused r (same, h) = does_on steps old new names Command.Open said refused r h
-obeys_on steps old new names named Command.Round said refused r (same, h) = does_on steps old new names Command.Round said refused r h
-obeys_on steps old new names named Command.End said refused r (same, h) = does_on steps old new names Command.End said refused r h
-obeys_on steps old new names named Command.Daa said refused r (same, h) = does_on steps old new names Command.Daa said refused r h
-obeys_on steps old new names named (Command.Policy policy) said refused r (same, h) = does_on steps old new names (Command.Policy policy) said refused r h
-obeys_on steps old new names named (Command.PolicyBut kinds but) said refused r (same, h) = does_on steps old new names (Command.PolicyBut kinds but) said refused r h
-obeys_on steps old new names named (Command.Cut name bit) said refused r (same, h) = does_on steps old new names (Command.Cut name bit) said refused r h
-obeys_on steps old new names named Command.Show said refused r (same, h) = does_on steps old new names Command.Show said refused r h
-obeys_on steps old new names named Command.ShowAll said refused r (same, h) = does_on steps old new names Command.ShowAll said refused r h
-obeys_on steps old new names named (Command.ShowFrom first) said refused r (same, h) = does_on steps old new names (Command.ShowFrom first) said refused r h
-obeys_on steps old new names named (Command.Forget last) said refused r (same, h) = does_on steps old new names (Command.Forget last) said refused r h
-obeys_on steps old new names named Command.Symbols said refused r (same, h) = does_on steps old new names Command.Symbols said refused r h
-obeys_on steps old new names named (Command.Frames count) said refused r (same, h) = does_on steps old new names (Command.Frames count) said refused r h
-obeys_on steps old new names named (Command.Legacy name address lvr) said refused r (same, h) = does_on steps old new names (Command.Legacy name address lvr) said refused r h
-obeys_on steps old new names named (Command.Declare address identity) said refused r (same, h) = does_on steps old new names (Command.Declare address identity) said refused r h
-obeys_on steps old new names named (Command.Main name setup) said refused r (same, h) = does_on steps old new names (Command.Main name setup) said refused r h
+obeys_on : (steps : List Made) (old new : Ran) (names named : Names) (command : Command) (pieces : List Piece) (refused : Option Refusal) → AreLegalBehind steps old → (h : ObeysOn old names command pieces refused new named) → AreLegalBehind (steps ++ on_bus_made old names command pieces refused new named h) new
+obeys_on steps old new names named (Command.Attach name setup) pieces refused r (entrance, is, h) = enters_on steps entrance old new names named name (λ slot. Event.Attach slot setup) pieces refused r h
+obeys_on steps old new names named (Command.Frame frame) pieces refused r (same, h) = does_on steps old new names (Command.Frame frame) pieces refused r h
+obeys_on steps old new names named (Command.DropOff name) pieces refused r (same, h) = does_on steps old new names (Command.DropOff name) pieces refused r h
+obeys_on steps old new names named (Command.Raise name byte) pieces refused r (same, h) = does_on steps old new names (Command.Raise name byte) pieces refused r h
+obeys_on steps old new names named (Command.AskJoin name) pieces refused r (same, h) = does_on steps old new names (Command.AskJoin name) pieces refused r h
+obeys_on steps old new names named (Command.AskRole name) pieces refused r (same, h) = does_on steps old new names (Command.AskRole name) pieces refused r h
+obeys_on steps old new names named (Command.HandOver to) pieces refused r (same, h) = does_on steps old new names (Command.HandOver to) pieces refused r h
+obeys_on steps old new names named Command.Open pieces refused r (same, h) = does_on steps old new names Command.Open pieces refused r h
+obeys_on steps old new names named Command.Round pieces refused r (same, h) = does_on steps old new names Command.Round pieces refused r h
+obeys_on steps old new names named Command.End pieces refused r (same, h) = does_on steps old new names Command.End pieces refused r h
+obeys_on steps old new names named Command.Daa pieces refused r (same, h) = does_on steps old new names Command.Daa pieces refused r h
+obeys_on steps old new names named (Command.Policy policy) pieces refused r (same, h) = does_on steps old new names (Command.Policy policy) pieces refused r h
+obeys_on steps old new names named (Command.PolicyBut kinds but) pieces refused r (same, h) = does_on steps old new names (Command.PolicyBut kinds but) pieces refused r h
+obeys_on steps old new names named (Command.Cut name bit) pieces refused r (same, h) = does_on steps old new names (Command.Cut name bit) pieces refused r h
+obeys_on steps old new names named Command.Show pieces refused r (same, h) = does_on steps old new names Command.Show pieces refused r h
+obeys_on steps old new names named Command.ShowAll pieces refused r (same, h) = does_on steps old new names Command.ShowAll pieces refused r h
+obeys_on steps old new names named (Command.ShowFrom first) pieces refused r (same, h) = does_on steps old new names (Command.ShowFrom first) pieces refused r h
+obeys_on steps old new names named (Command.Forget last) pieces refused r (same, h) = does_on steps old new names (Command.Forget last) pieces refused r h
+obeys_on steps old new names named Command.Symbols pieces refused r (same, h) = does_on steps old new names Command.Symbols pieces refused r h
+obeys_on steps old new names named (Command.Frames count) pieces refused r (same, h) = does_on steps old new names (Command.Frames count) pieces refused r h
+obeys_on steps old new names named (Command.Legacy name address lvr) pieces refused r (same, h) = does_on steps old new names (Command.Legacy name address lvr) pieces refused r h
+obeys_on steps old new names named (Command.Declare address identity) pieces refused r (same, h) = does_on steps old new names (Command.Declare address identity) pieces refused r h
+obeys_on steps old new names named (Command.Main name setup) pieces refused r (same, h) = does_on steps old new names (Command.Main name setup) pieces refused r h
 
 -- before the bus there was no step; where the script has a bus, its steps are a legal run to it with its whole log
 abbrev pub IsSound : List Made → Stage → Type 0
@@ -190,53 +192,57 @@ before steps board stage none is = subst (IsSound (steps ++ [])) (sym is) (appen
 same_before : (steps : List Made) (board : Board) (names : Names) (new : ScriptState) → steps ≡ [] → new ≡ script (Stage.Before board) names → IsSound (steps ++ []) new.stage
 same_before steps board names new none same = before steps board new.stage none (ap (λ (state : ScriptState). state.stage) same)
 
-adds_on : (steps : List Made) (why : Option Refusal) (board : Board) (names : Names) (name : Name) (address : ℕ) (lvr : Lvr) (text said : List ℕ) (refused : Option Refusal) (new : ScriptState) → steps ≡ []
-    → MatchOption why (AddsLegacy board names name address lvr new × IsDone text said refused) (λ one. (new ≡ script (Stage.Before board) names) × IsRefused one said refused) → IsSound (steps ++ []) new.stage
-adds_on steps None board names name address lvr text said refused new none h = before steps _ new.stage none h.0.stage
-adds_on steps (Some why) board names name address lvr text said refused new none h = same_before steps board names new none h.0
+adds_on : (steps : List Made) (why : Option Refusal) (board : Board) (names : Names) (name : Name) (address : ℕ) (lvr : Lvr) (text pieces : List Piece) (refused : Option Refusal) (new : ScriptState) → steps ≡ []
+    → MatchOption why (AddsLegacy board names name address lvr new × IsDone text pieces refused) (λ one. (new ≡ script (Stage.Before board) names) × IsRefused one pieces refused) → IsSound (steps ++ []) new.stage
+adds_on steps None board names name address lvr text pieces refused new none h = before steps _ new.stage none h.0.stage
+adds_on steps (Some why) board names name address lvr text pieces refused new none h = same_before steps board names new none h.0
 
-declares_on : (steps : List Made) (why : Option Refusal) (board : Board) (names : Names) (address : ℕ) (identity : Identity) (text said : List ℕ) (refused : Option Refusal) (new : ScriptState) → steps ≡ []
-    → MatchOption why (Declares board names address identity new × IsDone text said refused) (λ one. (new ≡ script (Stage.Before board) names) × IsRefused one said refused) → IsSound (steps ++ []) new.stage
-declares_on steps None board names address identity text said refused new none h = same_before steps _ names new none h.0
-declares_on steps (Some why) board names address identity text said refused new none h = same_before steps board names new none h.0
+declares_on : (steps : List Made) (why : Option Refusal) (board : Board) (names : Names) (address : ℕ) (identity : Identity) (text pieces : List Piece) (refused : Option Refusal) (new : ScriptState) → steps ≡ []
+    → MatchOption why (Declares board names address identity new × IsDone text pieces refused) (λ one. (new ≡ script (Stage.Before board) names) × IsRefused one pieces refused) → IsSound (steps ++ []) new.stage
+declares_on steps None board names address identity text pieces refused new none h = same_before steps _ names new none h.0
+declares_on steps (Some why) board names address identity text pieces refused new none h = same_before steps board names new none h.0
 
-starts_on : (steps : List Made) (why : Option Refusal) (board : Board) (names : Names) (name : Name) (setup : Setup) (text : State → List ℕ) (said : List ℕ) (refused : Option Refusal) (new : ScriptState) → steps ≡ []
-    → MatchOption why ((ran : Ran) × Starts board names name setup ran new × IsDone (text ran.state) said refused) (λ one. (new ≡ script (Stage.Before board) names) × IsRefused one said refused) → IsSound (steps ++ []) new.stage
-starts_on steps None board names name setup text said refused new none (ran, s, told) =
+starts_on : (steps : List Made) (why : Option Refusal) (board : Board) (names : Names) (name : Name) (setup : Setup) (text : State → List Piece) (pieces : List Piece) (refused : Option Refusal) (new : ScriptState) → steps ≡ []
+    → MatchOption why ((ran : Ran) × Starts board names name setup ran new × IsDone (text ran.state) pieces refused) (λ one. (new ≡ script (Stage.Before board) names) × IsRefused one pieces refused) → IsSound (steps ++ []) new.stage
+starts_on steps None board names name setup text pieces refused new none (ran, s, told) =
     subst (IsSound (steps ++ [])) (sym s.stage) (subst (λ made. AreLegalBehind made ran) (sym (append-nil steps ∙ none)) ([], sym (ap (λ (settings : Settings). settings.forgotten) s.settings), (setup, board, legal_none setup board ran.state s.start)))
-starts_on steps (Some why) board names name setup text said refused new none h = same_before steps board names new none h.0
+starts_on steps (Some why) board names name setup text pieces refused new none h = same_before steps board names new none h.0
 
-before_on : (steps : List Made) (board : Board) (names : Names) (command : Command) (said : List ℕ) (refused : Option Refusal) (new : ScriptState) → steps ≡ [] → ObeysBefore board names command said refused new → IsSound (steps ++ []) new.stage
-before_on steps board names (Command.Legacy name address lvr) said refused new none h = adds_on steps (legacy_refusal board names name address) board names name address lvr _ said refused new none h
-before_on steps board names (Command.Declare address identity) said refused new none h = declares_on steps (declare_refusal board address identity) board names address identity (declared_text address) said refused new none h
-before_on steps board names (Command.Main name setup) said refused new none h = starts_on steps (main_refusal names name setup.identity.bcr) board names name setup (main_text name) said refused new none h
-before_on steps board names (Command.Attach name setup) said refused new none h = same_before steps board names new none h.0
-before_on steps board names (Command.Frame frame) said refused new none h = same_before steps board names new none h.0
-before_on steps board names (Command.DropOff name) said refused new none h = same_before steps board names new none h.0
-before_on steps board names (Command.Raise name byte) said refused new none h = same_before steps board names new none h.0
-before_on steps board names (Command.AskJoin name) said refused new none h = same_before steps board names new none h.0
-before_on steps board names (Command.AskRole name) said refused new none h = same_before steps board names new none h.0
-before_on steps board names (Command.HandOver to) said refused new none h = same_before steps board names new none h.0
-before_on steps board names Command.Open said refused new none h = same_before steps board names new none h.0
-before_on steps board names Command.Round said refused new none h = same_before steps board names new none h.0
-before_on steps board names Command.End said refused new none h = same_before steps board names new none h.0
-before_on steps board names Command.Daa said refused new none h = same_before steps board names new none h.0
-before_on steps board names (Command.Policy policy) said refused new none h = same_before steps board names new none h.0
-before_on steps board names (Command.Cut name bit) said refused new none h = same_before steps board names new none h.0
-before_on steps board names Command.Show said refused new none h = same_before steps board names new none h.0
-before_on steps board names Command.ShowAll said refused new none h = same_before steps board names new none h.0
-before_on steps board names (Command.ShowFrom first) said refused new none h = same_before steps board names new none h.0
-before_on steps board names (Command.PolicyBut kinds but) said refused new none h = same_before steps board names new none h.0
-before_on steps board names (Command.Forget last) said refused new none h = same_before steps board names new none h.0
-before_on steps board names Command.Symbols said refused new none h = same_before steps board names new none h.0
-before_on steps board names (Command.Frames count) said refused new none h = same_before steps board names new none h.0
+before_on : (steps : List Made) (board : Board) (names : Names) (command : Command) (pieces : List Piece) (refused : Option Refusal) (new : ScriptState) → steps ≡ [] → ObeysBefore board names command pieces refused new → IsSound (steps ++ []) new.stage
+before_on steps board names (Command.Legacy name address lvr) pieces refused new none h = adds_on steps (legacy_refusal board names name address) board names name address lvr _ pieces refused new none h
+before_on steps board names (Command.Declare address identity) pieces refused new none h = declares_on steps (declare_refusal board address identity) board names address identity (Piece.Declared address ∷ []) pieces refused new none h
+before_on steps board names (Command.Main name setup) pieces refused new none h = starts_on steps (main_refusal names name setup.identity.bcr) board names name setup (λ st. Piece.Main name (address_of (device_at st 0)) ∷ []) pieces refused new none h
+before_on steps board names (Command.Attach name setup) pieces refused new none h = same_before steps board names new none h.0
+before_on steps board names (Command.Frame frame) pieces refused new none h = same_before steps board names new none h.0
+before_on steps board names (Command.DropOff name) pieces refused new none h = same_before steps board names new none h.0
+before_on steps board names (Command.Raise name byte) pieces refused new none h = same_before steps board names new none h.0
+before_on steps board names (Command.AskJoin name) pieces refused new none h = same_before steps board names new none h.0
+before_on steps board names (Command.AskRole name) pieces refused new none h = same_before steps board names new none h.0
+before_on steps board names (Command.HandOver to) pieces refused new none h = same_before steps board names new none h.0
+before_on steps board names Command.Open pieces refused new none h = same_before steps board names new none h.0
+before_on steps board names Command.Round pieces refused new none h = same_before steps board names new none h.0
+before_on steps board names Command.End pieces refused new none h = same_before steps board names new none h.0
+before_on steps board names Command.Daa pieces refused new none h = same_before steps board names new none h.0
+before_on steps board names (Command.Policy policy) pieces refused new none h = same_before steps board names new none h.0
+before_on steps board names (Command.Cut name bit) pieces refused new none h = same_before steps board names new none h.0
+before_on steps board names Command.Show pieces refused new none h = same_before steps board names new none h.0
+before_on steps board names Command.ShowAll pieces refused new none h = same_before steps board names new none h.0
+before_on steps board names (Command.ShowFrom first) pieces refused new none h = same_before steps board names new none h.0
+before_on steps board names (Command.PolicyBut kinds but) pieces refused new none h = same_before steps board names new none h.0
+before_on steps board names (Command.Forget last) pieces refused new none h = same_before steps board names new none h.0
+before_on steps board names Command.Symbols pieces refused new none h = same_before steps board names new none h.0
+before_on steps board names (Command.Frames count) pieces refused new none h = same_before steps board names new none h.0
+
+comes_on : (steps : List Made) (stage : Stage) (names : Names) (command : Command) (pieces : List Piece) (refused : Option Refusal) (new : ScriptState) → IsSound steps stage → (h : ComesTo stage names command pieces refused new)
+    → IsSound (steps ++ pieces_made stage names command pieces refused new h) new.stage
+comes_on steps (Stage.Before board) names command pieces refused new s h = before_on steps board names command pieces refused new s h
+comes_on steps (Stage.Running old) names command pieces refused new s (ran, is, h) =
+    subst (IsSound (steps ++ on_bus_made old names command pieces refused ran new.names h)) (sym is) (obeys_on steps old ran names new.names command pieces refused s h)
 
 -- a command leads from a sound stage to a sound one
 pub at_on : (steps : List Made) (stage : Stage) (names : Names) (command : Command) (said : List ℕ) (refused : Option Refusal) (new : ScriptState) → IsSound steps stage → (h : ObeysAt stage names command said refused new)
     → IsSound (steps ++ command_made stage names command said refused new h) new.stage
-at_on steps (Stage.Before board) names command said refused new s h = before_on steps board names command said refused new s h
-at_on steps (Stage.Running old) names command said refused new s (ran, is, h) =
-    subst (IsSound (steps ++ on_bus_made old names command said refused ran new.names h)) (sym is) (obeys_on steps old ran names new.names command said refused s h)
+at_on steps stage names command said refused new s (pieces, comes, text) = comes_on steps stage names command pieces refused new s comes
 
 leads_on : (steps : List Made) (old : ScriptState) (commands : List Obeyed) (new : ScriptState) → IsSound steps old.stage → (h : Lead old commands new) → IsSound (steps ++ made old commands new h) new.stage
 leads_on steps old [] new s same = subst (λ more. IsSound more new.stage) (sym (append-nil steps)) (subst (λ (state : ScriptState). IsSound steps state.stage) (sym same) s)

@@ -1,5 +1,5 @@
 -- `daa`: a whole session of dynamic address assignment.
-use Rattle.std.specs.Prelude.{◌≡◌, ◌⊎◌, ℕ, Bool, true, false, List, [], ◌∷◌, ◌++◌, length, Option, Some, None, is_some, if◌then◌else◌, ⊤}
+use Rattle.std.specs.Prelude.{◌≡◌, ◌⊎◌, Bool, true, false, List, [], ◌∷◌, ◌++◌, length, Option, Some, None, is_some, if◌then◌else◌, ⊤}
 use Rattle.circular_buffer.specs.Buffer.{keep_last}
 use Rattle.i3c_base.specs.declared.answers.RoundReply.{RoundReply}
 use Rattle.i3c_base.specs.declared.range.TheConstants.{SLOTS}
@@ -10,7 +10,8 @@ use Rattle.i3c_step.specs.declared.replies.Reply.{Reply}
 use Rattle.i3c_step.specs.Step.{Step, cuts_in}
 use Rattle.i3c_bus.specs.Wire.{IsWire}
 use Rattle.i3c_lines.specs.declared.refusals.Refusal.{Refusal}
-use Rattle.i3c_script.specs.Printed.{request_text, round_text}
+use Rattle.i3c_script.specs.declared.piece.Piece.{Piece}
+use Rattle.i3c_script.specs.Pieces.{behind_request, round_pieces}
 use Rattle.i3c_script.specs.Ran.{Ran, recorded_in}
 use Rattle.i3c_script.specs.Stops.{round_refusal}
 use Rattle.i3c_script.specs.Tenures.{ended_by}
@@ -51,10 +52,10 @@ abbrev pub AreAll : List RoundReply → Type 0
 AreAll [] = ⊥
 AreAll (answer ∷ earlier) = GoOn earlier × ((goes_on answer ≡ false) ⊎ (length (answer ∷ earlier) ≡ SLOTS))
 
--- the lines that rounds print
-abbrev pub rounds_text : List RoundReply → List ℕ
-rounds_text [] = []
-rounds_text (answer ∷ earlier) = rounds_text earlier ++ round_text answer
+-- the pieces of rounds
+abbrev pub rounds_pieces : List RoundReply → List Piece
+rounds_pieces [] = []
+rounds_pieces (answer ∷ earlier) = rounds_pieces earlier ++ round_pieces answer
 
 -- why a `daa` is refused after its rounds, if it is: the newest found no address to give
 abbrev pub rounds_refusal : List RoundReply → Option Refusal
@@ -62,19 +63,19 @@ rounds_refusal [] = None
 rounds_refusal (answer ∷ earlier) = round_refusal answer
 
 -- the rounds of a session
-abbrev pub HasRounds : Ran → List ℕ → Option Refusal → Ran → Type 0
-HasRounds old said refused new = (answers : List RoundReply) × Rounds old answers new × AreAll answers × (said ≡ rounds_text answers) × (refused ≡ rounds_refusal answers)
+abbrev pub HasRounds : Ran → List Piece → Option Refusal → Ran → Type 0
+HasRounds old pieces refused new = (answers : List RoundReply) × Rounds old answers new × AreAll answers × (pieces ≡ rounds_pieces answers) × (refused ≡ rounds_refusal answers)
 
 -- the rounds of a session, and its end
-abbrev pub HasSession : Ran → List ℕ → Option Refusal → Ran → Type 0
-HasSession old said refused new = (last : Ran) × HasRounds old said refused last × Moves last Event.EndDaa Reply.Ended new
+abbrev pub HasSession : Ran → List Piece → Option Refusal → Ran → Type 0
+HasSession old pieces refused new = (last : Ran) × HasRounds old pieces refused last × Moves last Event.EndDaa Reply.Ended new
 
 -- what follows an opening: its session, where it isn't refused
-abbrev pub Follows : Reply → Ran → List ℕ → Option Refusal → Ran → Type 0
-Follows (Reply.Opened served) opened said refused new = (text : List ℕ) × HasSession opened text refused new × (said ≡ request_text served ++ text)
-Follows (Reply.Refused why) opened said refused new = (new ≡ opened) × (said ≡ []) × (refused ≡ Some (Refusal.Bus why))
-Follows _ opened said refused new = ⊥
+abbrev pub Follows : Reply → Ran → List Piece → Option Refusal → Ran → Type 0
+Follows (Reply.Opened served) opened pieces refused new = (rounds : List Piece) × HasSession opened rounds refused new × (pieces ≡ behind_request served rounds)
+Follows (Reply.Refused why) opened pieces refused new = (new ≡ opened) × (pieces ≡ []) × (refused ≡ Some (Refusal.Bus why))
+Follows _ opened pieces refused new = ⊥
 
 -- `daa`: an opening with the cuts that wait, and what follows it
-abbrev pub Assigns : Ran → List ℕ → Option Refusal → Ran → Type 0
-Assigns old said refused new = (opened : Ran) × (reply : Reply) × Moves old (Event.OpenDaa old.cuts) reply opened × Follows reply opened said refused new
+abbrev pub Assigns : Ran → List Piece → Option Refusal → Ran → Type 0
+Assigns old pieces refused new = (opened : Ran) × (reply : Reply) × Moves old (Event.OpenDaa old.cuts) reply opened × Follows reply opened pieces refused new

@@ -5,8 +5,9 @@ pub mod Accepting
 pub mod Ran
 pub mod Framing
 pub mod Asking
+pub mod Pieces
 pub mod Printed
-pub mod Details
+pub mod Hearing
 pub mod Telling
 pub mod Assigning
 pub mod Obeying

@@ -9,10 +9,13 @@ use Rattle.i3c_lines.specs.declared.command.Command.{Command}
 use Rattle.i3c_lines.specs.declared.names.Name.{Name}
 use Rattle.i3c_lines.specs.declared.names.Names.{Names}
 use Rattle.i3c_lines.specs.declared.refusals.Refusal.{Refusal}
+use Rattle.i3c_script.specs.declared.piece.Piece.{Piece}
+use Rattle.i3c_script.specs.declared.replies.Subject.{Subject}
 use Rattle.i3c_script.specs.declared.stage.Stage.{Stage}
 use Rattle.i3c_script.specs.Asking.{slot_meant}
 use Rattle.i3c_script.specs.Assigning.{Assigns, Follows, HasSession, Rounds}
-use Rattle.i3c_script.specs.Obeying.{Answers, Does, IsRefused, NamesSlot, ObeysAt, ObeysOn, ScriptState}
+use Rattle.i3c_script.specs.Obeying.{Answers, AnswersOf, ComesTo, Does, IsRefused, NamesSlot, ObeysAt, ObeysOn, ScriptState}
+use Rattle.i3c_script.specs.Pieces.{subject_of}
 use Rattle.i3c_script.specs.Ran.{Ran}
 
 -- an event and the reply that it got
@@ -37,75 +40,79 @@ rounds_made old [] new same = []
 rounds_made old (answer ∷ earlier) new (mid, before, moved) = rounds_made old earlier mid before ++ one (Event.Round mid.cuts) (Reply.Round answer)
 
 -- the events of a session with their replies: its rounds, and its end
-abbrev pub session_made : (old : Ran) (said : List ℕ) (refused : Option Refusal) (new : Ran) → HasSession old said refused new → List Made
-session_made old said refused new (last, rounds, ended) = rounds_made old rounds.0 last rounds.1 ++ one Event.EndDaa Reply.Ended
+abbrev pub session_made : (old : Ran) (pieces : List Piece) (refused : Option Refusal) (new : Ran) → HasSession old pieces refused new → List Made
+session_made old pieces refused new (last, rounds, ended) = rounds_made old rounds.0 last rounds.1 ++ one Event.EndDaa Reply.Ended
 
 -- those that follow an opening: none where it was refused
-abbrev pub follows_made : (reply : Reply) (opened : Ran) (said : List ℕ) (refused : Option Refusal) (new : Ran) → Follows reply opened said refused new → List Made
-follows_made (Reply.Opened served) opened said refused new (text, session, told) = session_made opened text refused new session
-follows_made _ opened said refused new follows = []
+abbrev pub follows_made : (reply : Reply) (opened : Ran) (pieces : List Piece) (refused : Option Refusal) (new : Ran) → Follows reply opened pieces refused new → List Made
+follows_made (Reply.Opened served) opened pieces refused new (rounds, session, told) = session_made opened rounds refused new session
+follows_made _ opened pieces refused new follows = []
 
 -- the events of `daa` with their replies: its opening, and those that follow
-abbrev pub assigns_made : (old : Ran) (said : List ℕ) (refused : Option Refusal) (new : Ran) → Assigns old said refused new → List Made
-assigns_made old said refused new (opened, reply, moved, follows) = one (Event.OpenDaa old.cuts) (reply_from old.settings.forgotten reply) ++ follows_made reply opened said refused new follows
+abbrev pub assigns_made : (old : Ran) (pieces : List Piece) (refused : Option Refusal) (new : Ran) → Assigns old pieces refused new → List Made
+assigns_made old pieces refused new (opened, reply, moved, follows) = one (Event.OpenDaa old.cuts) (reply_from old.settings.forgotten reply) ++ follows_made reply opened pieces refused new follows
 
 -- the event that a command asks for, with its reply, which counts the records that left the log too
-abbrev pub answer_made : (old : Ran) (names : Names) (event : Event) (said : List ℕ) (refused : Option Refusal) (new : Ran) → Answers old names event said refused new → List Made
-answer_made old names event said refused new (reply, moved, told) = one event (reply_from old.settings.forgotten reply)
+abbrev pub answer_made : (subject : Subject) (old : Ran) (event : Event) (pieces : List Piece) (refused : Option Refusal) (new : Ran) → AnswersOf subject old event pieces refused new → List Made
+answer_made subject old event pieces refused new (reply, moved, told) = one event (reply_from old.settings.forgotten reply)
 
 -- the same of the slot that a name means: none where the name is refused
-abbrev pub slot_made : (slot : Result ℕ Refusal) (old : Ran) (names : Names) (event : ℕ → Event) (said : List ℕ) (refused : Option Refusal) (new : Ran)
-    → MatchResult slot (λ s. Answers old names (event s) said refused new) (λ why. (new ≡ old) × IsRefused why said refused) → List Made
-slot_made (Ok slot) old names event said refused new answers = answer_made old names (event slot) said refused new answers
-slot_made (Err why) old names event said refused new refuses = []
+abbrev pub slot_made : (slot : Result ℕ Refusal) (old : Ran) (event : ℕ → Event) (pieces : List Piece) (refused : Option Refusal) (new : Ran)
+    → MatchResult slot (λ s. Answers old (event s) pieces refused new) (λ why. (new ≡ old) × IsRefused why pieces refused) → List Made
+slot_made (Ok slot) old event pieces refused new answers = answer_made (subject_of (event slot)) old (event slot) pieces refused new answers
+slot_made (Err why) old event pieces refused new refuses = []
 
 -- the event of a device that enters, with its reply: none if it is refused before
-abbrev pub enters_made : (entrance : Result ℕ Refusal) (old : Ran) (names named : Names) (name : Name) (event : ℕ → Event) (said : List ℕ) (refused : Option Refusal) (new : Ran)
-    → MatchResult entrance (λ slot. NamesSlot names named name slot × Answers old named (event slot) said refused new) (λ why. (named ≡ names) × (new ≡ old) × IsRefused why said refused) → List Made
-enters_made (Ok slot) old names named name event said refused new enters = answer_made old named (event slot) said refused new enters.1
-enters_made (Err why) old names named name event said refused new refuses = []
+abbrev pub enters_made : (entrance : Result ℕ Refusal) (old : Ran) (names named : Names) (name : Name) (event : ℕ → Event) (pieces : List Piece) (refused : Option Refusal) (new : Ran)
+    → MatchResult entrance (λ slot. NamesSlot names named name slot × AnswersOf (Subject.Attached name slot) old (event slot) pieces refused new) (λ why. (named ≡ names) × (new ≡ old) × IsRefused why pieces refused) → List Made
+enters_made (Ok slot) old names named name event pieces refused new enters = answer_made (Subject.Attached name slot) old (event slot) pieces refused new enters.1
+enters_made (Err why) old names named name event pieces refused new refuses = []
 
 -- the events of a command other than `attach` on a bus, with their replies
-abbrev pub does_made : (old : Ran) (names : Names) (command : Command) (said : List ℕ) (refused : Option Refusal) (new : Ran) → Does old names command said refused new → List Made
-does_made old names (Command.Frame frame) said refused new (fixed, accepts, answers) = answer_made old names (event_of frame fixed old.cuts) said refused new answers
-does_made old names (Command.DropOff name) said refused new does = slot_made (slot_meant names name) old names Event.DropOff said refused new does
-does_made old names (Command.Raise name byte) said refused new does = slot_made (slot_meant names name) old names (λ slot. Event.Raise slot byte) said refused new does
-does_made old names (Command.AskJoin name) said refused new does = slot_made (slot_meant names name) old names Event.AskJoin said refused new does
-does_made old names (Command.AskRole name) said refused new does = slot_made (slot_meant names name) old names Event.AskRole said refused new does
-does_made old names (Command.HandOver to) said refused new does = answer_made old names (Event.HandOver to old.cuts) said refused new does
-does_made old names Command.Open said refused new does = answer_made old names (Event.OpenDaa old.cuts) said refused new does
-does_made old names Command.Round said refused new does = answer_made old names (Event.Round old.cuts) said refused new does
-does_made old names Command.End said refused new does = answer_made old names Event.EndDaa said refused new does
-does_made old names Command.Daa said refused new does = assigns_made old said refused new does
-does_made old names _ said refused new does = []
+abbrev pub does_made : (old : Ran) (names : Names) (command : Command) (pieces : List Piece) (refused : Option Refusal) (new : Ran) → Does old names command pieces refused new → List Made
+does_made old names (Command.Frame frame) pieces refused new (fixed, accepts, answers) = answer_made (subject_of (event_of frame fixed old.cuts)) old (event_of frame fixed old.cuts) pieces refused new answers
+does_made old names (Command.DropOff name) pieces refused new does = slot_made (slot_meant names name) old Event.DropOff pieces refused new does
+does_made old names (Command.Raise name byte) pieces refused new does = slot_made (slot_meant names name) old (λ slot. Event.Raise slot byte) pieces refused new does
+does_made old names (Command.AskJoin name) pieces refused new does = slot_made (slot_meant names name) old Event.AskJoin pieces refused new does
+does_made old names (Command.AskRole name) pieces refused new does = slot_made (slot_meant names name) old Event.AskRole pieces refused new does
+does_made old names (Command.HandOver to) pieces refused new does = answer_made (subject_of (Event.HandOver to old.cuts)) old (Event.HandOver to old.cuts) pieces refused new does
+does_made old names Command.Open pieces refused new does = answer_made (subject_of (Event.OpenDaa old.cuts)) old (Event.OpenDaa old.cuts) pieces refused new does
+does_made old names Command.Round pieces refused new does = answer_made (subject_of (Event.Round old.cuts)) old (Event.Round old.cuts) pieces refused new does
+does_made old names Command.End pieces refused new does = answer_made (subject_of Event.EndDaa) old Event.EndDaa pieces refused new does
+does_made old names Command.Daa pieces refused new does = assigns_made old pieces refused new does
+does_made old names _ pieces refused new does = []
 
 -- the events of a command on a bus, with their replies
-abbrev pub on_bus_made : (old : Ran) (names : Names) (command : Command) (said : List ℕ) (refused : Option Refusal) (new : Ran) (named : Names) → ObeysOn old names command said refused new named → List Made
-on_bus_made old names (Command.Attach name setup) said refused new named (entrance, is, enters) = enters_made entrance old names named name (λ slot. Event.Attach slot setup) said refused new enters
-on_bus_made old names (Command.Frame frame) said refused new named (same, does) = does_made old names (Command.Frame frame) said refused new does
-on_bus_made old names (Command.DropOff name) said refused new named (same, does) = does_made old names (Command.DropOff name) said refused new does
-on_bus_made old names (Command.Raise name byte) said refused new named (same, does) = does_made old names (Command.Raise name byte) said refused new does
-on_bus_made old names (Command.AskJoin name) said refused new named (same, does) = does_made old names (Command.AskJoin name) said refused new does
-on_bus_made old names (Command.AskRole name) said refused new named (same, does) = does_made old names (Command.AskRole name) said refused new does
-on_bus_made old names (Command.HandOver to) said refused new named (same, does) = does_made old names (Command.HandOver to) said refused new does
-on_bus_made old names Command.Open said refused new named (same, does) = does_made old names Command.Open said refused new does
-on_bus_made old names Command.Round said refused new named (same, does) = does_made old names Command.Round said refused new does
-on_bus_made old names Command.End said refused new named (same, does) = does_made old names Command.End said refused new does
-on_bus_made old names Command.Daa said refused new named (same, does) = does_made old names Command.Daa said refused new does
-on_bus_made old names (Command.Policy policy) said refused new named (same, does) = does_made old names (Command.Policy policy) said refused new does
-on_bus_made old names (Command.PolicyBut kinds but) said refused new named (same, does) = does_made old names (Command.PolicyBut kinds but) said refused new does
-on_bus_made old names (Command.Cut name bit) said refused new named (same, does) = does_made old names (Command.Cut name bit) said refused new does
-on_bus_made old names Command.Show said refused new named (same, does) = does_made old names Command.Show said refused new does
-on_bus_made old names Command.ShowAll said refused new named (same, does) = does_made old names Command.ShowAll said refused new does
-on_bus_made old names (Command.ShowFrom first) said refused new named (same, does) = does_made old names (Command.ShowFrom first) said refused new does
-on_bus_made old names (Command.Forget last) said refused new named (same, does) = does_made old names (Command.Forget last) said refused new does
-on_bus_made old names Command.Symbols said refused new named (same, does) = does_made old names Command.Symbols said refused new does
-on_bus_made old names (Command.Frames count) said refused new named (same, does) = does_made old names (Command.Frames count) said refused new does
-on_bus_made old names (Command.Legacy name address lvr) said refused new named (same, does) = does_made old names (Command.Legacy name address lvr) said refused new does
-on_bus_made old names (Command.Declare address identity) said refused new named (same, does) = does_made old names (Command.Declare address identity) said refused new does
-on_bus_made old names (Command.Main name setup) said refused new named (same, does) = does_made old names (Command.Main name setup) said refused new does
+abbrev pub on_bus_made : (old : Ran) (names : Names) (command : Command) (pieces : List Piece) (refused : Option Refusal) (new : Ran) (named : Names) → ObeysOn old names command pieces refused new named → List Made
+on_bus_made old names (Command.Attach name setup) pieces refused new named (entrance, is, enters) = enters_made entrance old names named name (λ slot. Event.Attach slot setup) pieces refused new enters
+on_bus_made old names (Command.Frame frame) pieces refused new named (same, does) = does_made old names (Command.Frame frame) pieces refused new does
+on_bus_made old names (Command.DropOff name) pieces refused new named (same, does) = does_made old names (Command.DropOff name) pieces refused new does
+on_bus_made old names (Command.Raise name byte) pieces refused new named (same, does) = does_made old names (Command.Raise name byte) pieces refused new does
+on_bus_made old names (Command.AskJoin name) pieces refused new named (same, does) = does_made old names (Command.AskJoin name) pieces refused new does
+on_bus_made old names (Command.AskRole name) pieces refused new named (same, does) = does_made old names (Command.AskRole name) pieces refused new does
+on_bus_made old names (Command.HandOver to) pieces refused new named (same, does) = does_made old names (Command.HandOver to) pieces refused new does
+on_bus_made old names Command.Open pieces refused new named (same, does) = does_made old names Command.Open pieces refused new does
+on_bus_made old names Command.Round pieces refused new named (same, does) = does_made old names Command.Round pieces refused new does
+on_bus_made old names Command.End pieces refused new named (same, does) = does_made old names Command.End pieces refused new does
+on_bus_made old names Command.Daa pieces refused new named (same, does) = does_made old names Command.Daa pieces refused new does
+on_bus_made old names (Command.Policy policy) pieces refused new named (same, does) = does_made old names (Command.Policy policy) pieces refused new does
+on_bus_made old names (Command.PolicyBut kinds but) pieces refused new named (same, does) = does_made old names (Command.PolicyBut kinds but) pieces refused new does
+on_bus_made old names (Command.Cut name bit) pieces refused new named (same, does) = does_made old names (Command.Cut name bit) pieces refused new does
+on_bus_made old names Command.Show pieces refused new named (same, does) = does_made old names Command.Show pieces refused new does
+on_bus_made old names Command.ShowAll pieces refused new named (same, does) = does_made old names Command.ShowAll pieces refused new does
+on_bus_made old names (Command.ShowFrom first) pieces refused new named (same, does) = does_made old names (Command.ShowFrom first) pieces refused new does
+on_bus_made old names (Command.Forget last) pieces refused new named (same, does) = does_made old names (Command.Forget last) pieces refused new does
+on_bus_made old names Command.Symbols pieces refused new named (same, does) = does_made old names Command.Symbols pieces refused new does
+on_bus_made old names (Command.Frames count) pieces refused new named (same, does) = does_made old names (Command.Frames count) pieces refused new does
+on_bus_made old names (Command.Legacy name address lvr) pieces refused new named (same, does) = does_made old names (Command.Legacy name address lvr) pieces refused new does
+on_bus_made old names (Command.Declare address identity) pieces refused new named (same, does) = does_made old names (Command.Declare address identity) pieces refused new does
+on_bus_made old names (Command.Main name setup) pieces refused new named (same, does) = does_made old names (Command.Main name setup) pieces refused new does
 
--- the events of a command, with their replies: none before the bus
+-- the events of a command with these pieces, with their replies: none before the bus
+abbrev pub pieces_made : (stage : Stage) (names : Names) (command : Command) (pieces : List Piece) (refused : Option Refusal) (new : ScriptState) → ComesTo stage names command pieces refused new → List Made
+pieces_made (Stage.Before board) names command pieces refused new comes = []
+pieces_made (Stage.Running old) names command pieces refused new (ran, is, comes) = on_bus_made old names command pieces refused ran new.names comes
+
+-- the same of what it prints
 abbrev pub command_made : (stage : Stage) (names : Names) (command : Command) (said : List ℕ) (refused : Option Refusal) (new : ScriptState) → ObeysAt stage names command said refused new → List Made
-command_made (Stage.Before board) names command said refused new obeys = []
-command_made (Stage.Running old) names command said refused new (ran, is, obeys) = on_bus_made old names command said refused ran new.names obeys
+command_made stage names command said refused new (pieces, comes, text) = pieces_made stage names command pieces refused new comes

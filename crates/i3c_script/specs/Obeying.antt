@@ -1,5 +1,5 @@
--- What a line's command does, what it prints, and why it is refused.
-use Rattle.std.specs.Prelude.{◌≡◌, ℕ, ◌-◌, List, [], Option, Some, None, Result, MatchOption, MatchResult, if◌then◌else◌, is_some, option_map, slice_set, replicate}
+-- What a line's command does, what it comes to, and why it is refused.
+use Rattle.std.specs.Prelude.{◌≡◌, ℕ, ◌-◌, List, [], ◌∷◌, Option, Some, None, Result, MatchOption, MatchResult, if◌then◌else◌, is_some, option_map, slice_set, replicate}
 use Rattle.i3c_base.specs.declared.device.Setup.{Setup}
 use Rattle.i3c_base.specs.declared.identity.Bcr.{Bcr}
 use Rattle.i3c_base.specs.declared.identity.Identity.{Identity}
@@ -8,7 +8,8 @@ use Rattle.i3c_base.specs.declared.range.TheConstants.{ADDRESSES, SLOTS}
 use Rattle.i3c_base.specs.declared.requests.Fixed.{Fixed}
 use Rattle.i3c_base.specs.Cutting.{CutList, cut_of, earlier, no_cuts}
 use Rattle.i3c_base.specs.Numbers.{is_capable}
-use Rattle.i3c_base.specs.State.{Board, IsStart, State, no_board}
+use Rattle.i3c_base.specs.State.{Board, IsStart, State, device_at, no_board}
+use Rattle.i3c_bus.specs.Readings.{address_of}
 use Rattle.i3c_frame.specs.declared.symbols.Symbol.{Symbol}
 use Rattle.i3c_legacy.specs.Declaring.{first_declare_fault, first_fault}
 use Rattle.i3c_step.specs.declared.events.Command.{Command as Frame}
@@ -24,13 +25,16 @@ use Rattle.i3c_lines.specs.declared.names.Place.{Place}
 use Rattle.i3c_lines.specs.declared.refusals.Refusal.{Refusal}
 use Rattle.i3c_lines.specs.Naming.{GivesAlone, GivesSlot, legacy_names, place_named, slot_names}
 use Rattle.i3c_text.specs.declared.stop.Stop.{Stop}
+use Rattle.i3c_script.specs.declared.piece.Piece.{Piece}
+use Rattle.i3c_script.specs.declared.replies.Subject.{Subject}
 use Rattle.i3c_script.specs.declared.settings.Settings.{Settings}
 use Rattle.i3c_script.specs.declared.stage.Stage.{Stage}
 use Rattle.i3c_script.specs.Accepting.{Accepts, Forgets, IsSet, at_first}
 use Rattle.i3c_script.specs.Asking.{IsEntrance, slot_meant, slot_of_device, slots_named}
 use Rattle.i3c_script.specs.Assigning.{Assigns, Moves}
-use Rattle.i3c_script.specs.Details.{show_all_text}
-use Rattle.i3c_script.specs.Printed.{added_text, declared_text, frames_text, main_text, show_behind_text, show_text, subject_of, symbols_text}
+use Rattle.i3c_script.specs.Hearing.{Hears}
+use Rattle.i3c_script.specs.Pieces.{frames_pieces, show_all_pieces, show_behind_pieces, show_pieces, subject_of, symbols_pieces}
+use Rattle.i3c_script.specs.Printed.{pieces_text}
 use Rattle.i3c_script.specs.Ran.{Ran}
 use Rattle.i3c_script.specs.Telling.{IsTold, Prints}
 
@@ -66,13 +70,13 @@ pub record NamesSlot (old new : Names) (name : Name) (slot : ℕ) : Type 0 where
   pub slots : slot_names new ≡ slice_set (slot_names old) slot (Some name)
   pub legacies : legacy_names new ≡ legacy_names old
 
--- a refused line prints nothing but its refusal
-abbrev pub IsRefused : Refusal → List ℕ → Option Refusal → Type 0
-IsRefused why said refused = (said ≡ []) × (refused ≡ Some why)
+-- a refused line comes to nothing but its refusal
+abbrev pub IsRefused : Refusal → List Piece → Option Refusal → Type 0
+IsRefused why pieces refused = (pieces ≡ []) × (refused ≡ Some why)
 
--- a line that isn't refused prints this
-abbrev pub IsDone : List ℕ → List ℕ → Option Refusal → Type 0
-IsDone text said refused = (said ≡ text) × (refused ≡ None)
+-- a line that isn't refused comes to these
+abbrev pub IsDone : List Piece → List Piece → Option Refusal → Type 0
+IsDone all pieces refused = (pieces ≡ all) × (refused ≡ None)
 
 -- before the bus: why `legacy` is refused, if it is
 abbrev pub legacy_refusal : Board → Names → Name → ℕ → Option Refusal
@@ -110,40 +114,44 @@ pub record Starts (board : Board) (names : Names) (name : Name) (setup : Setup) 
   pub named : NamesSlot names new.names name 0
 
 -- what a command does before the bus
-abbrev pub ObeysBefore : Board → Names → Command → List ℕ → Option Refusal → ScriptState → Type 0
-ObeysBefore board names (Command.Legacy name address lvr) said refused new = MatchOption (legacy_refusal board names name address)
-    (AddsLegacy board names name address lvr new × IsDone (added_text name address) said refused)
-    (λ why. (new ≡ script (Stage.Before board) names) × IsRefused why said refused)
-ObeysBefore board names (Command.Declare address identity) said refused new = MatchOption (declare_refusal board address identity)
-    (Declares board names address identity new × IsDone (declared_text address) said refused)
-    (λ why. (new ≡ script (Stage.Before board) names) × IsRefused why said refused)
-ObeysBefore board names (Command.Main name setup) said refused new = MatchOption (main_refusal names name setup.identity.bcr)
-    ((ran : Ran) × Starts board names name setup ran new × IsDone (main_text name ran.state) said refused)
-    (λ why. (new ≡ script (Stage.Before board) names) × IsRefused why said refused)
-ObeysBefore board names _ said refused new = (new ≡ script (Stage.Before board) names) × IsRefused Refusal.NoBus said refused
+abbrev pub ObeysBefore : Board → Names → Command → List Piece → Option Refusal → ScriptState → Type 0
+ObeysBefore board names (Command.Legacy name address lvr) pieces refused new = MatchOption (legacy_refusal board names name address)
+    (AddsLegacy board names name address lvr new × IsDone (Piece.Legacy name address ∷ []) pieces refused)
+    (λ why. (new ≡ script (Stage.Before board) names) × IsRefused why pieces refused)
+ObeysBefore board names (Command.Declare address identity) pieces refused new = MatchOption (declare_refusal board address identity)
+    (Declares board names address identity new × IsDone (Piece.Declared address ∷ []) pieces refused)
+    (λ why. (new ≡ script (Stage.Before board) names) × IsRefused why pieces refused)
+ObeysBefore board names (Command.Main name setup) pieces refused new = MatchOption (main_refusal names name setup.identity.bcr)
+    ((ran : Ran) × Starts board names name setup ran new × IsDone (Piece.Main name (address_of (device_at ran.state 0)) ∷ []) pieces refused)
+    (λ why. (new ≡ script (Stage.Before board) names) × IsRefused why pieces refused)
+ObeysBefore board names _ pieces refused new = (new ≡ script (Stage.Before board) names) × IsRefused Refusal.NoBus pieces refused
 
--- one step of the bus, whose reply is told; it counts the records that left the log too
-abbrev pub Answers : Ran → Names → Event → List ℕ → Option Refusal → Ran → Type 0
-Answers old names event said refused new = (reply : Reply) × Moves old event reply new × IsTold names (subject_of event) (reply_from old.settings.forgotten reply) said refused
+-- one step of the bus, whose reply is told with this subject; it counts the records that left the log too
+abbrev pub AnswersOf : Subject → Ran → Event → List Piece → Option Refusal → Ran → Type 0
+AnswersOf subject old event pieces refused new = (reply : Reply) × Moves old event reply new × IsTold subject (reply_from old.settings.forgotten reply) pieces refused
+
+-- the same with the subject of the event
+abbrev pub Answers : Ran → Event → List Piece → Option Refusal → Ran → Type 0
+Answers old event pieces refused new = AnswersOf (subject_of event) old event pieces refused new
 
 -- the same with the event of the slot that a name means
-abbrev pub AnswersIn : Ran → Names → Name → (ℕ → Event) → List ℕ → Option Refusal → Ran → Type 0
-AnswersIn old names name event said refused new = MatchResult (slot_meant names name) (λ slot. Answers old names (event slot) said refused new)
-    (λ why. (new ≡ old) × IsRefused why said refused)
+abbrev pub AnswersIn : Ran → Names → Name → (ℕ → Event) → List Piece → Option Refusal → Ran → Type 0
+AnswersIn old names name event pieces refused new = MatchResult (slot_meant names name) (λ slot. Answers old (event slot) pieces refused new)
+    (λ why. (new ≡ old) × IsRefused why pieces refused)
 
 -- a device enters the lowest free slot and has its name from then on
-abbrev pub Enters : Ran → Names → Name → Setup → List ℕ → Option Refusal → Ran → Names → Type 0
-Enters old names name setup said refused new named = (entrance : Result ℕ Refusal) × IsEntrance old.state (place_named names name) entrance
-    × MatchResult entrance (λ slot. NamesSlot names named name slot × Answers old named (Event.Attach slot setup) said refused new)
-    (λ why. (named ≡ names) × (new ≡ old) × IsRefused why said refused)
+abbrev pub Enters : Ran → Names → Name → Setup → List Piece → Option Refusal → Ran → Names → Type 0
+Enters old names name setup pieces refused new named = (entrance : Result ℕ Refusal) × IsEntrance old.state (place_named names name) entrance
+    × MatchResult entrance (λ slot. NamesSlot names named name slot × AnswersOf (Subject.Attached name slot) old (Event.Attach slot setup) pieces refused new)
+    (λ why. (named ≡ names) × (new ≡ old) × IsRefused why pieces refused)
 
 -- a device is cut at this bit of the next frame, if that is earlier than its cut until now
 abbrev pub cut_at : CutList → ℕ → ℕ → CutList
 cut_at cuts slot bit = slice_set cuts slot (Some (earlier (cut_of cuts slot) bit))
 
 -- a frame under the role, which accepts what the script's lines have set
-abbrev pub Sends : Ran → Names → Frame → List ℕ → Option Refusal → Ran → Type 0
-Sends old names frame said refused new = (fixed : Fixed) × Accepts old.settings old.state fixed × Answers old names (event_of frame fixed old.cuts) said refused new
+abbrev pub Sends : Ran → Frame → List Piece → Option Refusal → Ran → Type 0
+Sends old frame pieces refused new = (fixed : Fixed) × Accepts old.settings old.state fixed × Answers old (event_of frame fixed old.cuts) pieces refused new
 
 -- a line sets what frames accept
 abbrev pub Sets : Ran → Fixed → List ℕ → Ran → Type 0
@@ -154,48 +162,56 @@ abbrev pub Relieves : Ran → ℕ → Ran → Type 0
 Relieves old last new = (settings : Settings) × (st : State) × Forgets last old.settings old.state settings st × (new ≡ record old { state = st; settings = settings })
 
 -- what a command other than `attach` does with a bus
-abbrev pub Does : Ran → Names → Command → List ℕ → Option Refusal → Ran → Type 0
-Does old names (Command.Frame frame) said refused new = Sends old names frame said refused new
-Does old names (Command.DropOff name) said refused new = AnswersIn old names name Event.DropOff said refused new
-Does old names (Command.Raise name byte) said refused new = AnswersIn old names name (λ slot. Event.Raise slot byte) said refused new
-Does old names (Command.AskJoin name) said refused new = AnswersIn old names name Event.AskJoin said refused new
-Does old names (Command.AskRole name) said refused new = AnswersIn old names name Event.AskRole said refused new
-Does old names (Command.HandOver to) said refused new = Answers old names (Event.HandOver to old.cuts) said refused new
-Does old names Command.Open said refused new = Answers old names (Event.OpenDaa old.cuts) said refused new
-Does old names Command.Round said refused new = Answers old names (Event.Round old.cuts) said refused new
-Does old names Command.End said refused new = Answers old names Event.EndDaa said refused new
-Does old names Command.Daa said refused new = Assigns old said refused new
-Does old names (Command.Policy kinds) said refused new = Sets old kinds [] new × IsDone [] said refused
-Does old names (Command.PolicyBut kinds but) said refused new = MatchResult (slots_named (slot_of_device old.state names) but.items)
-    (λ slots. Sets old kinds slots new × IsDone [] said refused)
-    (λ why. (new ≡ old) × IsRefused why said refused)
-Does old names (Command.Cut name bit) said refused new = MatchResult (slot_of_device old.state names name)
-    (λ slot. (new ≡ record old { cuts = cut_at old.cuts slot bit }) × IsDone [] said refused)
-    (λ why. (new ≡ old) × IsRefused why said refused)
-Does old names Command.Show said refused new = (new ≡ old) × IsDone (show_text old.settings.forgotten old.state names) said refused
-Does old names Command.ShowAll said refused new = (new ≡ old) × IsDone (show_all_text old.settings.forgotten old.state names old.ended) said refused
-Does old names (Command.ShowFrom first) said refused new = (new ≡ old) × IsDone (show_behind_text (first - 1 - old.settings.forgotten) old.settings.forgotten old.state names) said refused
-Does old names (Command.Forget last) said refused new = Relieves old last new × IsDone [] said refused
-Does old names Command.Symbols said refused new = (new ≡ old) × IsDone (symbols_text old.wire) said refused
-Does old names (Command.Frames count) said refused new = (new ≡ old) × IsDone (frames_text count old.wire) said refused
-Does old names (Command.Legacy name address lvr) said refused new = (new ≡ old) × IsRefused Refusal.BusMade said refused
-Does old names (Command.Declare address identity) said refused new = (new ≡ old) × IsRefused Refusal.BusMade said refused
-Does old names (Command.Main name setup) said refused new = (new ≡ old) × IsRefused Refusal.BusMade said refused
-Does old names (Command.Attach name setup) said refused new = ⊥
+abbrev pub Does : Ran → Names → Command → List Piece → Option Refusal → Ran → Type 0
+Does old names (Command.Frame frame) pieces refused new = Sends old frame pieces refused new
+Does old names (Command.DropOff name) pieces refused new = AnswersIn old names name Event.DropOff pieces refused new
+Does old names (Command.Raise name byte) pieces refused new = AnswersIn old names name (λ slot. Event.Raise slot byte) pieces refused new
+Does old names (Command.AskJoin name) pieces refused new = AnswersIn old names name Event.AskJoin pieces refused new
+Does old names (Command.AskRole name) pieces refused new = AnswersIn old names name Event.AskRole pieces refused new
+Does old names (Command.HandOver to) pieces refused new = Answers old (Event.HandOver to old.cuts) pieces refused new
+Does old names Command.Open pieces refused new = Answers old (Event.OpenDaa old.cuts) pieces refused new
+Does old names Command.Round pieces refused new = Answers old (Event.Round old.cuts) pieces refused new
+Does old names Command.End pieces refused new = Answers old Event.EndDaa pieces refused new
+Does old names Command.Daa pieces refused new = Assigns old pieces refused new
+Does old names (Command.Policy kinds) pieces refused new = Sets old kinds [] new × IsDone [] pieces refused
+Does old names (Command.PolicyBut kinds but) pieces refused new = MatchResult (slots_named (slot_of_device old.state names) but.items)
+    (λ slots. Sets old kinds slots new × IsDone [] pieces refused)
+    (λ why. (new ≡ old) × IsRefused why pieces refused)
+Does old names (Command.Cut name bit) pieces refused new = MatchResult (slot_of_device old.state names name)
+    (λ slot. (new ≡ record old { cuts = cut_at old.cuts slot bit }) × IsDone [] pieces refused)
+    (λ why. (new ≡ old) × IsRefused why pieces refused)
+Does old names Command.Show pieces refused new = (new ≡ old) × IsDone (show_pieces old.settings.forgotten old.state names) pieces refused
+Does old names Command.ShowAll pieces refused new = (new ≡ old) × IsDone (show_all_pieces old.settings.forgotten old.state names old.ended) pieces refused
+Does old names (Command.ShowFrom first) pieces refused new = (new ≡ old) × IsDone (show_behind_pieces (first - 1 - old.settings.forgotten) old.settings.forgotten old.state names) pieces refused
+Does old names (Command.Forget last) pieces refused new = Relieves old last new × IsDone [] pieces refused
+Does old names Command.Symbols pieces refused new = (new ≡ old) × IsDone (symbols_pieces old.wire) pieces refused
+Does old names (Command.Frames count) pieces refused new = (new ≡ old) × IsDone (frames_pieces count old.wire) pieces refused
+Does old names (Command.Legacy name address lvr) pieces refused new = (new ≡ old) × IsRefused Refusal.BusMade pieces refused
+Does old names (Command.Declare address identity) pieces refused new = (new ≡ old) × IsRefused Refusal.BusMade pieces refused
+Does old names (Command.Main name setup) pieces refused new = (new ≡ old) × IsRefused Refusal.BusMade pieces refused
+Does old names (Command.Attach name setup) pieces refused new = ⊥
 
 -- what a command does with a bus: `attach` alone gives a name
-abbrev pub ObeysOn : Ran → Names → Command → List ℕ → Option Refusal → Ran → Names → Type 0
-ObeysOn old names (Command.Attach name setup) said refused new named = Enters old names name setup said refused new named
-ObeysOn old names command said refused new named = (named ≡ names) × Does old names command said refused new
+abbrev pub ObeysOn : Ran → Names → Command → List Piece → Option Refusal → Ran → Names → Type 0
+ObeysOn old names (Command.Attach name setup) pieces refused new named = Enters old names name setup pieces refused new named
+ObeysOn old names command pieces refused new named = (named ≡ names) × Does old names command pieces refused new
 
 -- the same by where the script is
+abbrev pub ComesTo : Stage → Names → Command → List Piece → Option Refusal → ScriptState → Type 0
+ComesTo (Stage.Before board) names command pieces refused new = ObeysBefore board names command pieces refused new
+ComesTo (Stage.Running old) names command pieces refused new = (ran : Ran) × (new.stage ≡ Stage.Running ran) × ObeysOn old names command pieces refused ran new.names
+
+-- the same with what it prints: the text of its pieces
 abbrev pub ObeysAt : Stage → Names → Command → List ℕ → Option Refusal → ScriptState → Type 0
-ObeysAt (Stage.Before board) names command said refused new = ObeysBefore board names command said refused new
-ObeysAt (Stage.Running old) names command said refused new = (ran : Ran) × (new.stage ≡ Stage.Running ran) × ObeysOn old names command said refused ran new.names
+ObeysAt stage names command said refused new = (pieces : List Piece) × ComesTo stage names command pieces refused new × (said ≡ pieces_text pieces)
 
 -- what a command does, what it prints before its refusal, and why it is refused, if it is. A command that is short of memory ends the run, so it is none of these
 abbrev pub Obeys : ScriptState → Command → List ℕ → Option Refusal → ScriptState → Type 0
 Obeys old command said refused new = ObeysAt old.stage old.names command said refused new
+
+-- a command is obeyed for a listener, unless memory is short
+abbrev pub IsHeard : {L : Type 0} → (L → Piece → L) → ScriptState → Command → L → L → Result (Unit {0}) (Stop Refusal) → ScriptState → Type 0
+IsHeard heard old command before after result new = Hears heard (λ pieces refused. ComesTo old.stage old.names command pieces refused new) before after result
 
 -- a command is obeyed, unless memory is short
 abbrev pub IsObeyed : ScriptState → Command → List ℕ → List ℕ → Result (Unit {0}) (Stop Refusal) → ScriptState → Type 0

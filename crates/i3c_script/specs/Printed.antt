@@ -1,34 +1,26 @@
 -- What lines print.
-use Rattle.std.specs.Prelude.{◌≡◌, ℕ, zero, suc, ◌+◌, if◌then◌else◌, List, [], ◌∷◌, ◌++◌, codes, drop, length, map, Option, Some, None, Result, Ok, Err, slice_index_or}
+use Rattle.std.specs.Prelude.{◌≡◌, ℕ, zero, suc, if◌then◌else◌, Bool, true, false, List, [], ◌∷◌, ◌++◌, codes, Option, Some, None, Result, Ok, Err, slice_index_or}
 use Rattle.std.specs.Fmt.{decimal}
-use Rattle.std.specs.List.{flat_map, join_with_byte}
-use Rattle.circular_buffer.specs.Buffer.{keep_last}
-use Rattle.i3c_base.specs.declared.answers.Answer.{Answer}
-use Rattle.i3c_base.specs.declared.answers.RoundReply.{RoundReply}
+use Rattle.std.specs.List.{flat_map}
 use Rattle.i3c_base.specs.declared.identity.Identity.{Identity}
-use Rattle.i3c_base.specs.declared.range.TheConstants.{ADDRESSES, SLOTS}
+use Rattle.i3c_base.specs.declared.range.TheConstants.{SLOTS}
 use Rattle.i3c_base.specs.declared.requests.Record.{Record}
 use Rattle.i3c_base.specs.declared.requests.Request.{Request}
+use Rattle.i3c_base.specs.declared.requests.Request.TheVariants.{Interrupt, Join, Role}
 use Rattle.i3c_base.specs.declared.requests.Served.{Served}
 use Rattle.i3c_base.specs.Serve.{IsFirstRequest, drives}
-use Rattle.i3c_base.specs.State.{Device, State, device_at}
-use Rattle.i3c_frame.specs.declared.symbols.Symbol.{Symbol}
+use Rattle.i3c_base.specs.State.{State}
 use Rattle.i3c_frame.specs.Texts.{text_of}
-use Rattle.i3c_step.specs.declared.events.Command.{Command as Frame}
-use Rattle.i3c_step.specs.declared.events.Event.{Event}
-use Rattle.i3c_step.specs.declared.replies.Framed.{Framed}
-use Rattle.i3c_step.specs.declared.replies.Reply.{Reply}
-use Rattle.i3c_bus.specs.Readings.{address_of}
 use Rattle.i3c_lines.specs.declared.names.Name.{Name}
 use Rattle.i3c_lines.specs.declared.names.Names.{Names}
 use Rattle.i3c_text.specs.Hex.{byte_text, bytes_text, hex_text}
 use Rattle.i3c_lines.specs.Data.{told_token}
-use Rattle.i3c_lines.specs.Naming.{legacy_names, letters, slot_names}
+use Rattle.i3c_lines.specs.Naming.{letters, slot_names}
 use Rattle.i3c_lines.specs.Refusing.{refusal_text}
 use Rattle.i3c_lines.specs.declared.refusals.Refusal.{Refusal}
 use Rattle.i3c_text.specs.declared.stop.Stop.{Stop}
-use Rattle.i3c_script.specs.declared.replies.Subject.{Subject}
-use Rattle.i3c_script.specs.Framing.{whole_frames}
+use Rattle.i3c_script.specs.declared.piece.Piece.{Piece}
+use Rattle.i3c_script.specs.Pieces.{numbered_pieces, show_pieces}
 
 -- what a line's end prints: its refusal, if it is refused
 abbrev pub end_text : Result (Unit {0}) (Stop Refusal) → List ℕ
@@ -49,37 +41,6 @@ served_text Served.Torn = codes "torn" ++ 10 ∷ []
 served_text Served.Joining = codes "joining" ++ 10 ∷ []
 served_text (Served.WantsRole a) = codes "wants role " ++ (byte_text a ++ 10 ∷ [])
 
--- the same before a frame's own part, where nobody asking prints nothing
-abbrev pub request_text : Served → List ℕ
-request_text Served.Quiet = []
-request_text (Served.Recorded place) = served_text (Served.Recorded place)
-request_text Served.Refused = served_text Served.Refused
-request_text Served.Torn = served_text Served.Torn
-request_text Served.Joining = served_text Served.Joining
-request_text (Served.WantsRole a) = served_text (Served.WantsRole a)
-
--- the token before bytes that were read: that of the datum that was asked for, or of a private read
-abbrev pub read_token : Subject → List ℕ
-read_token (Subject.Told what) = told_token what
-read_token (Subject.Attached slot) = codes "bytes"
-read_token (Subject.HandedTo to) = codes "bytes"
-read_token Subject.Nothing = codes "bytes"
-
--- the answer to a frame's own part
-abbrev pub answer_text : Subject → Answer → List ℕ
-answer_text subject Answer.Done = codes "done" ++ 10 ∷ []
-answer_text subject (Answer.Bytes bytes) = read_token subject ++ (codes " " ++ (bytes_text bytes ++ 10 ∷ []))
-answer_text subject (Answer.NoAnswer a) = []
-answer_text subject Answer.NoEnd = []
-
--- what a frame served, and its own part
-abbrev pub framed_text : Subject → Framed → List ℕ
-framed_text subject framed = request_text framed.served ++ answer_text subject framed.answer
-
--- what an opening served, and that the session is open
-abbrev pub opened_text : Served → List ℕ
-opened_text served = request_text served ++ (codes "open" ++ 10 ∷ [])
-
 -- a register of an identity, after a space
 abbrev pub field_text : ℕ → List ℕ
 field_text byte = codes " " ++ byte_text byte
@@ -91,83 +52,6 @@ identity_text identity = hex_text 12 identity.pid ++ (field_text identity.bcr.0 
 -- an address and the identity that got it
 abbrev pub assigned_text : ℕ → Identity → List ℕ
 assigned_text a identity = codes "assigned " ++ (byte_text a ++ (codes " " ++ identity_text identity))
-
--- the line that a round prints
-abbrev pub round_text : RoundReply → List ℕ
-round_text (RoundReply.Assigned a identity) = assigned_text a identity
-round_text RoundReply.Nobody = codes "nobody" ++ 10 ∷ []
-round_text RoundReply.Done = codes "done" ++ 10 ∷ []
-round_text RoundReply.NoAddress = []
-
--- the name in a slot, and the slot
-abbrev pub named_text : Option Name → ℕ → List ℕ
-named_text None slot = []
-named_text (Some name) slot = letters name ++ number_text (codes " slot ") slot
-
--- the part of the event that its printed reply mentions
-abbrev pub subject_of : Event → Subject
-subject_of (Event.Attach slot setup) = Subject.Attached slot
-subject_of (Event.HandOver to cuts) = Subject.HandedTo to
-subject_of (Event.DropOff slot) = Subject.Nothing
-subject_of (Event.Raise slot byte) = Subject.Nothing
-subject_of (Event.AskJoin slot) = Subject.Nothing
-subject_of (Event.AskRole slot) = Subject.Nothing
-subject_of (Event.Reset policy cuts) = Subject.Nothing
-subject_of (Event.SendList policy cuts) = Subject.Nothing
-subject_of (Event.ReadFrom a policy cuts) = Subject.Nothing
-subject_of (Event.WriteTo a bytes policy cuts) = Subject.Nothing
-subject_of (Event.SetStatic f new policy cuts) = Subject.Nothing
-subject_of (Event.SetNew a new policy cuts) = Subject.Nothing
-subject_of (Event.Get what a policy cuts) = Subject.Told what
-subject_of (Event.SetLength way most to policy cuts) = Subject.Nothing
-subject_of (Event.Serve policy cuts) = Subject.Nothing
-subject_of (Event.Enec to kinds policy cuts) = Subject.Nothing
-subject_of (Event.Disec to kinds policy cuts) = Subject.Nothing
-subject_of (Event.OpenDaa cuts) = Subject.Nothing
-subject_of (Event.Round cuts) = Subject.Nothing
-subject_of Event.EndDaa = Subject.Nothing
-
--- the part of a frame under the role that its printed reply mentions
-abbrev pub frame_subject : Frame → Subject
-frame_subject (Frame.Get what a) = Subject.Told what
-frame_subject _ = Subject.Nothing
-
--- the device that was attached, where one was
-abbrev pub attached_text : Names → Subject → List ℕ
-attached_text names (Subject.Attached slot) = named_text (slice_index_or (slot_names names) slot None) slot
-attached_text names (Subject.HandedTo to) = []
-attached_text names (Subject.Told what) = []
-attached_text names Subject.Nothing = []
-
--- an address that is the active controller's now
-abbrev pub active_text : ℕ → List ℕ
-active_text a = codes "active " ++ (byte_text a ++ 10 ∷ [])
-
--- what a handover served, and the active controller's address then
-abbrev pub handed_text : Subject → Served → List ℕ
-handed_text (Subject.HandedTo to) served = request_text served ++ active_text to
-handed_text (Subject.Attached slot) served = []
-handed_text (Subject.Told what) served = []
-handed_text Subject.Nothing served = []
-
--- the number of a raise
-abbrev pub raised_text : ℕ → List ℕ
-raised_text number = number_text (codes "raised ") number
-
--- the reply to a line's event; of the event its text mentions the subject alone
-abbrev pub reply_text : Names → Subject → Reply → List ℕ
-reply_text names subject (Reply.Refused why) = []
-reply_text names subject Reply.OutOfMemory = []
-reply_text names subject Reply.Attached = attached_text names subject
-reply_text names subject Reply.Dropped = codes "dropped" ++ 10 ∷ []
-reply_text names subject (Reply.Raised number) = raised_text number
-reply_text names subject Reply.Asked = codes "asked" ++ 10 ∷ []
-reply_text names subject (Reply.Served served) = served_text served
-reply_text names subject (Reply.Framed framed) = framed_text subject framed
-reply_text names subject (Reply.Opened served) = opened_text served
-reply_text names subject (Reply.Handed served) = handed_text subject served
-reply_text names subject (Reply.Round answer) = round_text answer
-reply_text names subject Reply.Ended = codes "ended" ++ 10 ∷ []
 
 -- an address or a byte, or that there is none
 abbrev pub byte_or_none : Option ℕ → List ℕ
@@ -182,31 +66,6 @@ added_text name a = letters name ++ (codes " legacy at " ++ (byte_text a ++ 10 �
 abbrev pub declared_text : ℕ → List ℕ
 declared_text a = codes "declared " ++ (byte_text a ++ 10 ∷ [])
 
--- `main`: the main controller, with the address that it has
-abbrev pub main_text : Name → State → List ℕ
-main_text name st = letters name ++ (codes " slot 0 at " ++ (byte_or_none (address_of (device_at st 0)) ++ 10 ∷ []))
-
--- a present device: its name, its address, and how many of its interrupts wait
-abbrev pub device_text : Option Name → Option Device → List ℕ
-device_text (Some name) (Some d) = letters name ++ (codes " " ++ (byte_or_none d.address ++ number_text (codes " waiting ") (length d.waiting)))
-device_text None device = []
-device_text (Some name) None = []
-
--- the present devices of the slots below a number, the lowest slot first
-unfoldable pub devices_text : State → Names → ℕ → List ℕ
-devices_text st names zero = []
-devices_text st names (suc slot) = devices_text st names slot ++ device_text (slice_index_or (slot_names names) slot None) (device_at st slot)
-
--- the line of a legacy target, if it has a name
-abbrev pub legacy_text : Option Name → ℕ → List ℕ
-legacy_text None a = []
-legacy_text (Some name) a = letters name ++ (codes " " ++ (byte_text a ++ (codes " legacy" ++ 10 ∷ [])))
-
--- the legacy targets of the static addresses below a number, the lowest address first
-unfoldable pub legacies_text : Names → ℕ → List ℕ
-legacies_text names zero = []
-legacies_text names (suc a) = legacies_text names a ++ legacy_text (slice_index_or (legacy_names names) a None) a
-
 -- the address at which an interrupt was recorded, and its mandatory byte
 abbrev pub recorded_text : ℕ → Option ℕ → List ℕ
 recorded_text a byte = codes " at " ++ (byte_text a ++ (codes " byte " ++ (byte_or_none byte ++ 10 ∷ [])))
@@ -215,42 +74,111 @@ recorded_text a byte = codes " at " ++ (byte_text a ++ (codes " byte " ++ (byte_
 abbrev pub record_text : Record → List ℕ
 record_text r = codes " slot " ++ (decimal r.slot ++ (codes " raise " ++ (decimal r.number ++ recorded_text r.at r.byte)))
 
--- records, counted from this number on
-abbrev pub numbered_text : ℕ → List Record → List ℕ
-numbered_text number [] = []
-numbered_text number (r ∷ rest) = codes "record " ++ (decimal number ++ (record_text r ++ numbered_text (suc number) rest))
+-- the identity and kind of a device, as `show all` prints them
+abbrev pub registers_text : Identity → List ℕ
+registers_text identity = codes " pid " ++ (hex_text 12 identity.pid ++ (codes " bcr " ++ (byte_text identity.bcr.0 ++ (codes " dcr " ++ byte_text identity.dcr.0))))
 
--- the records behind the first `count`, the oldest first, each with its number, where `forgotten` ones have left the log
-abbrev pub behind_text : ℕ → ℕ → List Record → List ℕ
-behind_text count forgotten records = numbered_text (suc (forgotten + count)) (drop count records)
+-- the enabled ones of interrupts, role requests and joins
+abbrev pub kinds_tokens : Bool → Bool → Bool → List ℕ
+kinds_tokens false false false = codes "none"
+kinds_tokens true false false = codes "interrupt"
+kinds_tokens false true false = codes "role"
+kinds_tokens false false true = codes "join"
+kinds_tokens true true false = codes "interrupt role"
+kinds_tokens true false true = codes "interrupt join"
+kinds_tokens false true true = codes "role join"
+kinds_tokens true true true = codes "interrupt role join"
 
--- the number of records in the log, and each behind the first `count`, where `forgotten` ones have left the log
-abbrev pub records_text : ℕ → ℕ → List Record → List ℕ
-records_text count forgotten records = number_text (codes "records ") (length records) ++ behind_text count forgotten records
+-- the token of a wish for the role or to join; `show` counts the interrupts that wait
+abbrev pub wish_token : Option Request → List ℕ
+wish_token None = codes "none"
+wish_token (Some Join) = codes "join"
+wish_token (Some (Role a)) = codes "role"
+wish_token (Some (Interrupt a)) = codes "none"
 
--- the active controller's address, the present devices, the legacy targets, and the records of the log behind the first
--- `count`, where `forgotten` ones have left it
-abbrev pub show_behind_text : ℕ → ℕ → State → Names → List ℕ
-show_behind_text count forgotten st names =
-    codes "active " ++ (byte_or_none (address_of (device_at st st.active)) ++ (10 ∷ (devices_text st names SLOTS ++ (legacies_text names ADDRESSES ++ records_text count forgotten st.records))))
+-- a device by these parts
+abbrev pub described_text : Name → Identity → List ℕ → List ℕ → List ℕ
+described_text name identity kinds wish = codes "device " ++ (letters name ++ (registers_text identity ++ (codes " enabled " ++ (kinds ++ (codes " wishes " ++ (wish ++ 10 ∷ []))))))
 
--- `show`: the same with all records of the log
+-- whether the list of devices is current
+abbrev pub list_text : Bool → List ℕ
+list_text true = codes "list current" ++ 10 ∷ []
+list_text false = codes "list stale" ++ 10 ∷ []
+
+-- whether a session is open
+abbrev pub session_text : Bool → List ℕ
+session_text true = codes "session open" ++ 10 ∷ []
+session_text false = codes "session closed" ++ 10 ∷ []
+
+-- the slot of an active controller, and the numbers of its first and its last record
+abbrev pub tenure_text : ℕ → ℕ → ℕ → List ℕ
+tenure_text slot from to = codes "under slot " ++ (decimal slot ++ (codes " records " ++ (decimal from ++ (codes " to " ++ (decimal to ++ 10 ∷ [])))))
+
+-- a device that entered a slot
+abbrev pub entered_text : Name → ℕ → List ℕ
+entered_text name slot = letters name ++ number_text (codes " slot ") slot
+
+-- the main controller, with its address
+abbrev pub main_text : Name → Option ℕ → List ℕ
+main_text name address = letters name ++ (codes " slot 0 at " ++ (byte_or_none address ++ 10 ∷ []))
+
+-- a present device: its name, its address, and how many of its interrupts wait
+abbrev pub device_text : Name → Option ℕ → ℕ → List ℕ
+device_text name address waiting = letters name ++ (codes " " ++ (byte_or_none address ++ number_text (codes " waiting ") waiting))
+
+-- a legacy target
+abbrev pub target_text : Name → ℕ → List ℕ
+target_text name a = letters name ++ (codes " " ++ (byte_text a ++ (codes " legacy" ++ 10 ∷ [])))
+
+-- some tokens, and bytes that were read
+abbrev pub read_text : List ℕ → List ℕ → List ℕ
+read_text tokens bytes = tokens ++ (codes " " ++ (bytes_text bytes ++ 10 ∷ []))
+
+-- what a script prints of each piece
+abbrev pub piece_text : Piece → List ℕ
+piece_text (Piece.Legacy name a) = added_text name a
+piece_text (Piece.Declared a) = declared_text a
+piece_text (Piece.Main name address) = main_text name address
+piece_text (Piece.Entered name slot) = entered_text name slot
+piece_text Piece.Dropped = codes "dropped" ++ 10 ∷ []
+piece_text (Piece.Raised number) = number_text (codes "raised ") number
+piece_text Piece.Asked = codes "asked" ++ 10 ∷ []
+piece_text (Piece.Served served) = served_text served
+piece_text Piece.Done = codes "done" ++ 10 ∷ []
+piece_text (Piece.Bytes bytes) = read_text (codes "bytes") bytes
+piece_text (Piece.Told what bytes) = read_text (told_token what) bytes
+piece_text Piece.Opened = codes "open" ++ 10 ∷ []
+piece_text (Piece.Assigned a identity) = assigned_text a identity
+piece_text Piece.Nobody = codes "nobody" ++ 10 ∷ []
+piece_text Piece.Ended = codes "ended" ++ 10 ∷ []
+piece_text (Piece.Active address) = codes "active " ++ (byte_or_none address ++ 10 ∷ [])
+piece_text (Piece.Device name address waiting) = device_text name address waiting
+piece_text (Piece.Target name a) = target_text name a
+piece_text (Piece.Records count) = number_text (codes "records ") count
+piece_text (Piece.Entry number r) = codes "record " ++ (decimal number ++ record_text r)
+piece_text (Piece.Description name identity interrupt role join wish) = described_text name identity (kinds_tokens interrupt role join) (wish_token wish)
+piece_text (Piece.Listed is_current) = list_text is_current
+piece_text (Piece.Session is_open) = session_text is_open
+piece_text (Piece.Tenure slot from to) = tenure_text slot from to
+piece_text (Piece.FirstSymbol symbol) = text_of symbol
+piece_text (Piece.Symbol symbol) = 32 ∷ text_of symbol
+piece_text Piece.SymbolsEnd = 10 ∷ []
+
+-- what a script prints of pieces, one after another
+abbrev pub pieces_text : List Piece → List ℕ
+pieces_text pieces = flat_map piece_text pieces
+
+-- a text behind which a piece is printed
+abbrev pub with_piece : List ℕ → Piece → List ℕ
+with_piece text piece = text ++ piece_text piece
+
+-- `show`, where so many records have left the log
 abbrev pub show_text : ℕ → State → Names → List ℕ
-show_text forgotten st names = show_behind_text 0 forgotten st names
+show_text forgotten st names = pieces_text (show_pieces forgotten st names)
 
--- `symbols`: these, with a space between each two
-abbrev pub symbols_text : List Symbol → List ℕ
-symbols_text wire = join_with_byte 32 (map text_of wire) ++ 10 ∷ []
-
--- `frames`: the last `count` whole frames, the oldest first, each as `symbols` prints symbols
-abbrev pub frames_text : ℕ → List Symbol → List ℕ
-frames_text count wire = flat_map symbols_text (keep_last count (whole_frames wire))
-
--- one of some symbols: each but the first follows a space
-abbrev pub nth_text : ℕ → Option Symbol → List ℕ
-nth_text n None = []
-nth_text zero (Some symbol) = text_of symbol
-nth_text (suc n) (Some symbol) = 32 ∷ text_of symbol
+-- records as `show` prints them, counted from this number on
+abbrev pub numbered_text : ℕ → List Record → List ℕ
+numbered_text number records = pieces_text (numbered_pieces number records)
 
 -- a name behind a space, where a slot has one
 abbrev pub asker_text : Option Name → List ℕ

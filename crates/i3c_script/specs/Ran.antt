@@ -1,5 +1,5 @@
 -- A script with a bus.
-use Rattle.std.specs.Prelude.{◌≡◌, ℕ, ◌+◌, List, [], ◌++◌, length}
+use Rattle.std.specs.Prelude.{◌≡◌, ℕ, ◌+◌, List, ◌++◌, length}
 use Rattle.circular_buffer.specs.Buffer.{keep_last}
 use Rattle.i3c_base.specs.Cutting.{CutList}
 use Rattle.i3c_base.specs.State.{State}

@@ -1,18 +1,18 @@
--- What a line's reply prints, and the refusal that it is.
+-- What a reply comes to, and the refusal that it is.
 use Rattle.std.specs.Prelude.{◌≡◌, ◌≢◌, ℕ, List, ◌++◌, Option, Result, Ok, Err, ⊤}
 use Rattle.i3c_step.specs.declared.replies.Reply.{Reply}
 use Rattle.i3c_log_laws.specs.Behind.{reply_from}
-use Rattle.i3c_lines.specs.declared.names.Names.{Names}
 use Rattle.i3c_lines.specs.declared.refusals.Refusal.{Refusal}
 use Rattle.i3c_text.specs.declared.stop.Stop.{Stop}
+use Rattle.i3c_script.specs.declared.piece.Piece.{Piece}
 use Rattle.i3c_script.specs.declared.replies.Subject.{Subject}
-use Rattle.i3c_script.specs.Printed.{reply_text}
+use Rattle.i3c_script.specs.Pieces.{reply_pieces}
 use Rattle.i3c_script.specs.Stops.{Ends, reply_refusal}
 
--- what a line prints of the bus's reply, and why it is refused, if it is. A frame that is short of memory ends the run, so its reply isn't told
-pub record IsTold (names : Names) (subject : Subject) (reply : Reply) (said : List ℕ) (refused : Option Refusal) : Type 0 where
+-- what a line comes to by the bus's reply, and why it is refused, if it is. A frame that is short of memory ends the run, so its reply isn't told
+pub record IsTold (subject : Subject) (reply : Reply) (pieces : List Piece) (refused : Option Refusal) : Type 0 where
   pub fed : reply ≢ Reply.OutOfMemory
-  pub text : said ≡ reply_text names subject reply
+  pub told : pieces ≡ reply_pieces subject reply
   pub refusal : refused ≡ reply_refusal reply
 
 -- a text is printed behind the old one, and holds this with the refusal; of a line that is short of memory nothing is said

@@ -1,23 +1,24 @@
-ghost use Rattle.std.specs.Prelude.{◌≡◌, [], ◌∷◌, ◌++◌, drop, length, MatchOption, OnOk};
+ghost use Rattle.std.specs.Prelude.{◌≡◌, [], ◌∷◌, drop, length, MatchOption, OnOk};
 ghost use Rattle.std.specs.List.{flat_map};
 ghost use Rattle.i3c_script.specs.Framing.{whole_frames};
-ghost use Rattle.i3c_script.specs.Printed.{frames_text, symbols_text};
+ghost use Rattle.i3c_script.specs.Hearing.{all_heard};
+ghost use Rattle.i3c_script.specs.Pieces.{frames_pieces, symbols_pieces};
 
-use crate::symbols::show_line;
+use crate::piece::Listener;
+use crate::symbols::hear_line;
 use i3c_frame::Symbol;
-use i3c_text::Text;
 use std::alloc::AllocError;
 
-/// Prints the last `count` whole frames of some symbols, the oldest first, a line for each.
-pub(crate) fn show_frames(
+/// The last `count` whole frames of some symbols, the oldest first, a line for each.
+pub(crate) fn hear_frames<L: Listener>(
     symbols: &[Symbol],
     count: usize,
-    text: &mut Text,
+    listener: &mut L,
 ) -> Result<(), AllocError>
-    ensures { OnOk result (text.new ≡ text.old ++ frames_text count symbols.now) }
+    ensures { OnOk result (listener.new ≡ all_heard L.heard listener.old (frames_pieces count symbols.now)) }
 {
     let earlier = frame_count(symbols).saturating_sub(count);
-    show_each(behind_frames(symbols, earlier), text)
+    hear_each(behind_frames(symbols, earlier), listener)
 }
 
 /// How many whole frames there are in some symbols.
@@ -46,13 +47,13 @@ fn behind_frames(symbols: &[Symbol], count: usize) -> &[Symbol]
     rest
 }
 
-/// Prints each whole frame of some symbols on a line.
-fn show_each(symbols: &[Symbol], text: &mut Text) -> Result<(), AllocError>
-    ensures { OnOk result (text.new ≡ text.old ++ flat_map symbols_text (whole_frames symbols.now)) }
+/// Each whole frame of some symbols on a line.
+fn hear_each<L: Listener>(symbols: &[Symbol], listener: &mut L) -> Result<(), AllocError>
+    ensures { OnOk result (listener.new ≡ all_heard L.heard listener.old (flat_map symbols_pieces (whole_frames symbols.now))) }
 {
     let mut rest = symbols;
     while let Some((frame, more)) = first_frame(rest) {
-        show_line(frame, text)?;
+        hear_line(frame, listener)?;
         rest = more;
     }
     Ok(())

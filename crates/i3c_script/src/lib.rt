@@ -1,14 +1,16 @@
-//! What the lines of a script do. Each line's command is obeyed on a stage, before the bus or with it, and prints its
-//! result.
+//! What the lines of a script come to. Each line's command is obeyed on a stage, before the bus or with it, and a listener
+//! hears what it comes to, piece by piece.
 //!
-//! A line of one event takes one path: `stage` hands its command to `running`, which makes the event and has the bus
-//! answer it, and `telling` prints the reply.
+//! A line of one event takes one path: `stage` hands its command to `running`, which makes the event and has the bus answer
+//! it, and `replies` makes pieces of the answer.
 //!
-//! * `stage` is where a script is, before its bus and with it. * `settings` is what the script's lines have set. * `running`
-//! makes a command's event. * `telling` prints a reply. * `asking` finds the slots that names mean. * `assigning` plays
-//! the whole session of a `daa`. * `show` prints the bus. * `details` prints all of it. * `tenures` tells the active
-//! controllers of recorded interrupts. * `wires` keeps the last symbols. * `symbols` and `frames` print them. *
-//! `outcomes` gives the result of a line, by the bus's reply. * `laws` says that lines make legal runs.
+//! * `piece` has the pieces, and what a listener is. `printed` makes a text a listener: it prints each piece.
+//! * `stage` is where a script is, before its bus and with it. `running` makes a command's event. `assigning` plays the whole
+//!   session of a `daa`. `settings` is what the script's lines have set. `slot_lookup` finds the slots that names mean.
+//! * `replies` has the pieces of a reply, `show` those of the bus, and `details` those of all that it is; `tenures` those of the
+//!   active controllers at the times of recorded interrupts. `wires` keeps the last symbols; `symbols` and `frames` have
+//!   their pieces.
+//! * `outcomes` gives the result of a line, by the bus's reply. `laws` says that lines make legal runs.
 #![tactic(auto)]
 
 mod assigning;
@@ -16,6 +18,8 @@ mod details;
 mod frames;
 mod laws;
 mod outcomes;
+mod piece;
+mod printed;
 mod replies;
 mod running;
 mod settings;
@@ -28,6 +32,7 @@ mod wires;
 
 pub use laws::scripts_are_legal_runs;
 pub use outcomes::outcome_of;
+pub use piece::{Listener, Piece};
 pub use running::Running;
 pub use settings::{Settings, sum_of};
 pub use show::{show_askers, show_bus, show_records_behind};

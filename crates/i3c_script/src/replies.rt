@@ -1,35 +1,29 @@
-ghost use Rattle.std.specs.Prelude.{◌≡◌, [], ◌∷◌, ◌++◌, OnOk, codes};
-ghost use Rattle.std.specs.Fmt.{decimal};
-ghost use Rattle.i3c_script.specs.Printed.{assigned_text, attached_text, field_text, frame_subject, framed_text, handed_text, identity_text, opened_text, raised_text, read_token, reply_text, request_text, round_text, served_text, subject_of};
+ghost use Rattle.std.specs.Prelude.{◌≡◌, List, OnOk};
 ghost use Rattle.i3c_step.specs.Replies.{attached_reply, dropped_reply, joins_reply, raised_reply, role_reply};
-ghost use Rattle.i3c_lines.specs.declared.names.Names.{Names as NamesValue};
+ghost use Rattle.i3c_script.specs.Hearing.{Hears, all_heard};
+ghost use Rattle.i3c_script.specs.Pieces.{answer_pieces, behind_request, entered_pieces, frame_subject, handed_pieces, reply_pieces, round_pieces, subject_of};
+ghost use Rattle.i3c_script.specs.declared.piece.Piece.{Piece as PieceValue};
 ghost use Rattle.i3c_script.specs.declared.replies.Subject.{Subject as SubjectValue};
-ghost use Rattle.i3c_script.specs.Telling.{Counts, IsTold, Prints};
+ghost use Rattle.i3c_script.specs.Telling.{Counts, IsTold};
 ghost use Rattle.i3c_log_laws.specs.Behind.{counted_from, reply_from};
 
 use crate::outcomes::outcome_of;
+use crate::piece::{Listener, Piece};
 use i3c_base::{
-    Addr7, Answer, Datum, Identity, JoinRefusal, RaiseRefusal, RoleRefusal, RoundReply, Served,
-    Slot,
+    Addr7, Answer, Datum, JoinRefusal, RaiseRefusal, RoleRefusal, RoundReply, Served, Slot,
 };
 use i3c_bus::{
     Command as Frame, DropRefusal, Event, Framed, Refusal as BusRefusal, Reply, SlotTaken,
 };
-use i3c_lines::{Names, Refusal, told_token};
-use i3c_text::{Stop, Text};
+use i3c_lines::{Name, Refusal};
+use i3c_text::Stop;
 use std::alloc::AllocError;
 
-/// What a drop-off prints.
-const DROPPED: &[u8] = b"dropped\n";
-
-/// What a wish prints.
-const ASKED: &[u8] = b"asked\n";
-
-/// The part of an event that its printed reply mentions.
+/// The part of a line's event that its reply doesn't repeat.
 #[derive(Clone, Copy)]
 pub(crate) enum Subject {
-    /// The slot in which a device was attached.
-    Attached(Slot),
+    /// The device that was attached, and its slot.
+    Attached(Name, Slot),
     /// The address to which the role was handed over.
     HandedTo(Addr7),
     /// The datum that was asked for.
@@ -38,19 +32,18 @@ pub(crate) enum Subject {
     Nothing,
 }
 
-/// The part of an event that its printed reply mentions.
+/// The subject of an event. The name of a device that is attached isn't in its event.
 pub(crate) fn subject_of(event: &Event) -> Subject
     ensures { result ≡ subject_of event.now }
 {
     match event {
-        Event::Attach(slot, _) => Subject::Attached(*slot),
         Event::HandOver(to, _) => Subject::HandedTo(*to),
         Event::Get(what, _, _, _) => Subject::Told(*what),
         _ => Subject::Nothing,
     }
 }
 
-/// The part of a frame under the role that its printed reply mentions.
+/// The subject of a frame under the role.
 pub(crate) fn frame_subject(frame: &Frame) -> Subject
     ensures { result ≡ frame_subject frame.now }
 {
@@ -60,16 +53,15 @@ pub(crate) fn frame_subject(frame: &Frame) -> Subject
     }
 }
 
-/// Prints the bus's reply to a frame under the role, as `tell` does. Where nobody asked, and the frame's own part was
+/// Lets a listener hear the bus's reply to a frame under the role, as `answer_reply` does. Where nobody asked, and the frame's own part was
 /// done, it looks no further.
 #[inline(always)]
-pub(crate) fn tell_frame(
-    names: &Names,
+pub(crate) fn answer_frame<L: Listener>(
     frame: &Frame,
     reply: &Reply,
-    text: &mut Text,
+    listener: &mut L,
 ) -> Result<(), Stop<Refusal>>
-    ensures { Prints (IsTold names.now (frame_subject frame.now) reply.now) text.old text.new result }
+    ensures { Hears L.heard (IsTold (frame_subject frame.now) reply.now) listener.old listener.new result }
 {
     match reply {
         Reply::Framed(
@@ -77,24 +69,23 @@ pub(crate) fn tell_frame(
                 served: Served::Quiet,
                 answer: Answer::Done,
             },
-        ) => match text.push(b"done\n") {
+        ) => match listener.hear(Piece::Done) {
             Ok(()) => Ok(()),
             Err(_) => Err(Stop::Memory),
         },
-        _ => tell(names, frame_subject(frame), reply, text),
+        _ => answer_reply(frame_subject(frame), reply, listener),
     }
 }
 
-/// Prints the bus's reply to an event. What the line is refused or stopped by is answered, and not printed here.
-pub(crate) fn tell(
-    names: &Names,
+/// Lets a listener hear the bus's reply to an event. What the line is refused or stopped by is answered, and not heard.
+pub(crate) fn answer_reply<L: Listener>(
     subject: Subject,
     reply: &Reply,
-    text: &mut Text,
+    listener: &mut L,
 ) -> Result<(), Stop<Refusal>>
-    ensures { Prints (IsTold names.now subject reply.now) text.old text.new result }
+    ensures { Hears L.heard (IsTold subject reply.now) listener.old listener.new result }
 {
-    match show_reply(names, subject, reply, text) {
+    match hear_reply(subject, reply, listener) {
         Ok(()) => outcome_of(reply),
         Err(_) => Err(Stop::Memory),
     }
@@ -146,16 +137,16 @@ fn number_served(forgotten: usize, served: &mut Served) -> Result<(), AllocError
     Ok(())
 }
 
-/// Prints the result of a raise, as `tell` does for a reply.
+/// Lets a listener hear the result of a raise.
 #[inline(always)]
-pub(crate) fn tell_raised(
+pub(crate) fn answer_raised<L: Listener>(
     raised: Result<u64, RaiseRefusal>,
-    text: &mut Text,
+    listener: &mut L,
 ) -> Result<(), Stop<Refusal>>
-    ensures { (names : NamesValue) → Prints (IsTold names SubjectValue.Nothing (raised_reply raised)) text.old text.new result }
+    ensures { Hears L.heard (IsTold SubjectValue.Nothing (raised_reply raised)) listener.old listener.new result }
 {
     match raised {
-        Ok(number) => match show_raised(number, text) {
+        Ok(number) => match listener.hear(Piece::Raised(number)) {
             Ok(()) => Ok(()),
             Err(_) => Err(Stop::Memory),
         },
@@ -163,17 +154,17 @@ pub(crate) fn tell_raised(
     }
 }
 
-/// Prints the name of a device that was attached to this slot, as `tell` does for a reply.
-pub(crate) fn tell_attached(
-    names: &Names,
+/// Lets a listener hear that a device was attached to this slot.
+pub(crate) fn answer_attached<L: Listener>(
+    name: &Name,
     slot: Slot,
     attached: Result<(), SlotTaken>,
-    text: &mut Text,
+    listener: &mut L,
 ) -> Result<(), Stop<Refusal>>
-    ensures { Prints (IsTold names.now (SubjectValue.Attached slot) (attached_reply attached)) text.old text.new result }
+    ensures { Hears L.heard (IsTold (SubjectValue.Attached name.now slot) (attached_reply attached)) listener.old listener.new result }
 {
     match attached {
-        Ok(()) => match show_attached(names, Subject::Attached(slot), text) {
+        Ok(()) => match listener.hear(Piece::Entered(*name, slot)) {
             Ok(()) => Ok(()),
             Err(_) => Err(Stop::Memory),
         },
@@ -181,15 +172,15 @@ pub(crate) fn tell_attached(
     }
 }
 
-/// Prints the result of a drop-off, as `tell` does for a reply.
-pub(crate) fn tell_dropped(
+/// Lets a listener hear the result of a drop-off.
+pub(crate) fn answer_dropped<L: Listener>(
     dropped: Result<(), DropRefusal>,
-    text: &mut Text,
+    listener: &mut L,
 ) -> Result<(), Stop<Refusal>>
-    ensures { (names : NamesValue) → Prints (IsTold names SubjectValue.Nothing (dropped_reply dropped)) text.old text.new result }
+    ensures { Hears L.heard (IsTold SubjectValue.Nothing (dropped_reply dropped)) listener.old listener.new result }
 {
     match dropped {
-        Ok(()) => match text.push(DROPPED) {
+        Ok(()) => match listener.hear(Piece::Dropped) {
             Ok(()) => Ok(()),
             Err(_) => Err(Stop::Memory),
         },
@@ -197,15 +188,15 @@ pub(crate) fn tell_dropped(
     }
 }
 
-/// Prints the result of a wish to join, as `tell` does for a reply.
-pub(crate) fn tell_join(
+/// Lets a listener hear the result of a wish to join.
+pub(crate) fn answer_join<L: Listener>(
     asked: Result<(), JoinRefusal>,
-    text: &mut Text,
+    listener: &mut L,
 ) -> Result<(), Stop<Refusal>>
-    ensures { (names : NamesValue) → Prints (IsTold names SubjectValue.Nothing (joins_reply asked)) text.old text.new result }
+    ensures { Hears L.heard (IsTold SubjectValue.Nothing (joins_reply asked)) listener.old listener.new result }
 {
     match asked {
-        Ok(()) => match text.push(ASKED) {
+        Ok(()) => match listener.hear(Piece::Asked) {
             Ok(()) => Ok(()),
             Err(_) => Err(Stop::Memory),
         },
@@ -213,15 +204,15 @@ pub(crate) fn tell_join(
     }
 }
 
-/// Prints the result of a wish for the role, as `tell` does for a reply.
-pub(crate) fn tell_role(
+/// Lets a listener hear the result of a wish for the role.
+pub(crate) fn answer_role<L: Listener>(
     asked: Result<(), RoleRefusal>,
-    text: &mut Text,
+    listener: &mut L,
 ) -> Result<(), Stop<Refusal>>
-    ensures { (names : NamesValue) → Prints (IsTold names SubjectValue.Nothing (role_reply asked)) text.old text.new result }
+    ensures { Hears L.heard (IsTold SubjectValue.Nothing (role_reply asked)) listener.old listener.new result }
 {
     match asked {
-        Ok(()) => match text.push(ASKED) {
+        Ok(()) => match listener.hear(Piece::Asked) {
             Ok(()) => Ok(()),
             Err(_) => Err(Stop::Memory),
         },
@@ -229,168 +220,103 @@ pub(crate) fn tell_role(
     }
 }
 
-/// Prints a reply that is no refusal.
-fn show_reply(
-    names: &Names,
+/// Lets a listener hear a reply that is no refusal.
+fn hear_reply<L: Listener>(
     subject: Subject,
     reply: &Reply,
-    text: &mut Text,
+    listener: &mut L,
 ) -> Result<(), AllocError>
-    ensures { OnOk result (text.new ≡ text.old ++ reply_text names.now subject reply.now) }
+    ensures { OnOk result (listener.new ≡ all_heard L.heard listener.old (reply_pieces subject reply.now)) }
 {
     match reply {
         Reply::Refused(_) | Reply::OutOfMemory => Ok(()),
-        Reply::Attached => show_attached(names, subject, text),
-        Reply::Dropped => text.push(DROPPED),
-        Reply::Raised(number) => show_raised(*number, text),
-        Reply::Asked => text.push(ASKED),
-        Reply::Served(served) => show_served(served, text),
-        Reply::Framed(framed) => show_framed(subject, framed, text),
-        Reply::Opened(served) => show_opened(served, text),
-        Reply::Handed(served) => show_handed(subject, served, text),
-        Reply::Round(answer) => show_round(answer, text),
-        Reply::Ended => text.push(b"ended\n"),
-    }
-}
-
-/// Prints the number of a raise.
-fn show_raised(number: u64, text: &mut Text) -> Result<(), AllocError>
-    ensures { OnOk result (text.new ≡ text.old ++ raised_text number) }
-{
-    text.push_numbered(b"raised ", number)
-}
-
-/// Prints the name and the slot of a device that was attached, and nothing of another subject.
-fn show_attached(names: &Names, subject: Subject, text: &mut Text) -> Result<(), AllocError>
-    ensures { OnOk result (text.new ≡ text.old ++ attached_text names.now subject) }
-{
-    let Subject::Attached(slot) = subject else {
-        return Ok(());
-    };
-    match names.in_slot(slot) {
-        Some(name) => {
-            text.push(name.as_bytes())?;
-            text.push_numbered(b" slot ", slot.index() as u64)
+        Reply::Attached => hear_entered(subject, listener),
+        Reply::Dropped => listener.hear(Piece::Dropped),
+        Reply::Raised(number) => listener.hear(Piece::Raised(*number)),
+        Reply::Asked => listener.hear(Piece::Asked),
+        Reply::Served(served) => listener.hear(Piece::Served(*served)),
+        Reply::Framed(framed) => {
+            hear_request(&framed.served, listener)?;
+            hear_answer(subject, &framed.answer, listener)
         }
-        None => Ok(()),
-    }
-}
-
-/// Prints the result of the request in a frame's first header.
-fn show_served(served: &Served, text: &mut Text) -> Result<(), AllocError>
-    ensures { OnOk result (text.new ≡ text.old ++ served_text served.now) }
-{
-    match served {
-        Served::Quiet => text.push(b"quiet\n"),
-        Served::Recorded(place) => text.push_numbered(b"recorded ", *place as u64),
-        Served::Refused => text.push(b"turned down\n"),
-        Served::Torn => text.push(b"torn\n"),
-        Served::Joining => text.push(b"joining\n"),
-        Served::WantsRole(address) => {
-            text.push(b"wants role ")?;
-            text.push_byte(address.get())?;
-            text.end()
+        Reply::Opened(served) => {
+            hear_request(served, listener)?;
+            listener.hear(Piece::Opened)
         }
+        Reply::Handed(served) => hear_handed(subject, served, listener),
+        Reply::Round(answer) => hear_round(answer, listener),
+        Reply::Ended => listener.hear(Piece::Ended),
     }
 }
 
-/// Prints what a frame served before its own part, unless nobody asked.
-pub(crate) fn show_request(served: &Served, text: &mut Text) -> Result<(), AllocError>
-    ensures { OnOk result (text.new ≡ text.old ++ request_text served.now) }
+/// A device entered, and nothing is heard of another subject.
+fn hear_entered<L: Listener>(subject: Subject, listener: &mut L) -> Result<(), AllocError>
+    ensures { OnOk result (listener.new ≡ all_heard L.heard listener.old (entered_pieces subject)) }
+{
+    match subject {
+        Subject::Attached(name, slot) => listener.hear(Piece::Entered(name, slot)),
+        Subject::HandedTo(_) | Subject::Told(_) | Subject::Nothing => Ok(()),
+    }
+}
+
+/// What a frame served before its own part, unless nobody asked.
+pub(crate) fn hear_request<L: Listener>(served: &Served, listener: &mut L) -> Result<(), AllocError>
+    ensures { (rest : List PieceValue) → OnOk result (all_heard L.heard listener.new rest ≡ all_heard L.heard listener.old (behind_request served.now rest)) }
 {
     match served {
         Served::Quiet => Ok(()),
-        _ => show_served(served, text),
+        _ => listener.hear(Piece::Served(*served)),
     }
 }
 
-/// Prints what a frame served, and the result of its own part, if it was carried out.
-fn show_framed(subject: Subject, framed: &Framed, text: &mut Text) -> Result<(), AllocError>
-    ensures { OnOk result (text.new ≡ text.old ++ framed_text subject framed.now) }
+/// The answer to a frame's own part, if it was carried out.
+fn hear_answer<L: Listener>(
+    subject: Subject,
+    answer: &Answer,
+    listener: &mut L,
+) -> Result<(), AllocError>
+    ensures { OnOk result (listener.new ≡ all_heard L.heard listener.old (answer_pieces subject answer.now)) }
 {
-    show_request(&framed.served, text)?;
-    match &framed.answer {
-        Answer::Done => text.push(b"done\n"),
-        Answer::Bytes(bytes) => {
-            show_read_token(subject, text)?;
-            text.push_bytes(bytes.as_slice())?;
-            text.end()
-        }
+    match answer {
+        Answer::Done => listener.hear(Piece::Done),
+        Answer::Bytes(bytes) => match subject {
+            Subject::Told(what) => listener.hear(Piece::Told(what, *bytes)),
+            Subject::Attached(..) | Subject::HandedTo(_) | Subject::Nothing => {
+                listener.hear(Piece::Bytes(*bytes))
+            }
+        },
         Answer::NoAnswer(_) | Answer::NoEnd => Ok(()),
     }
 }
 
-/// Prints the token before bytes that were read, and a space.
-fn show_read_token(subject: Subject, text: &mut Text) -> Result<(), AllocError>
-    ensures { OnOk result (text.new ≡ text.old ++ (read_token subject ++ codes " ")) }
-{
-    match subject {
-        Subject::Told(what) => {
-            text.push(told_token(what).as_bytes())?;
-            text.push(b" ")
-        }
-        Subject::Attached(_) | Subject::HandedTo(_) | Subject::Nothing => text.push(b"bytes "),
-    }
-}
-
-/// Prints what was served while a session was opened, and that it is open.
-fn show_opened(served: &Served, text: &mut Text) -> Result<(), AllocError>
-    ensures { OnOk result (text.new ≡ text.old ++ opened_text served.now) }
-{
-    show_request(served, text)?;
-    text.push(b"open\n")
-}
-
-/// Prints what was served while the role was handed over, and the address of its holder. Of another subject it prints
-/// nothing.
-fn show_handed(subject: Subject, served: &Served, text: &mut Text) -> Result<(), AllocError>
-    ensures { OnOk result (text.new ≡ text.old ++ handed_text subject served.now) }
+/// What was served while the role was handed over, and the address of its holder. Of another subject nothing is heard.
+fn hear_handed<L: Listener>(
+    subject: Subject,
+    served: &Served,
+    listener: &mut L,
+) -> Result<(), AllocError>
+    ensures { OnOk result (listener.new ≡ all_heard L.heard listener.old (handed_pieces subject served.now)) }
 {
     let Subject::HandedTo(to) = subject else {
         return Ok(());
     };
-    show_request(served, text)?;
-    text.push(b"active ")?;
-    text.push_byte(to.get())?;
-    text.end()
+    hear_request(served, listener)?;
+    listener.hear(Piece::Active(Some(to)))
 }
 
-/// Prints a round.
-pub(crate) fn show_round(answer: &RoundReply, text: &mut Text) -> Result<(), AllocError>
-    ensures { OnOk result (text.new ≡ text.old ++ round_text answer.now) }
+/// A round of a session.
+pub(crate) fn hear_round<L: Listener>(
+    answer: &RoundReply,
+    listener: &mut L,
+) -> Result<(), AllocError>
+    ensures { OnOk result (listener.new ≡ all_heard L.heard listener.old (round_pieces answer.now)) }
 {
     match answer {
-        RoundReply::Assigned(address, identity) => show_assigned(*address, identity, text),
-        RoundReply::Nobody => text.push(b"nobody\n"),
-        RoundReply::Done => text.push(b"done\n"),
+        RoundReply::Assigned(address, identity) => {
+            listener.hear(Piece::Assigned(*address, *identity))
+        }
+        RoundReply::Nobody => listener.hear(Piece::Nobody),
+        RoundReply::Done => listener.hear(Piece::Done),
         RoundReply::NoAddress => Ok(()),
     }
-}
-
-/// Prints an address and the identity that got it.
-fn show_assigned(address: Addr7, identity: &Identity, text: &mut Text) -> Result<(), AllocError>
-    ensures { OnOk result (text.new ≡ text.old ++ assigned_text address identity.now) }
-{
-    text.push(b"assigned ")?;
-    text.push_byte(address.get())?;
-    text.push(b" ")?;
-    show_identity(identity, text)
-}
-
-/// Prints an identity, and ends the line.
-fn show_identity(identity: &Identity, text: &mut Text) -> Result<(), AllocError>
-    ensures { OnOk result (text.new ≡ text.old ++ identity_text identity.now) }
-{
-    text.push_pid(identity.pid)?;
-    show_field(identity.bcr.0, text)?;
-    show_field(identity.dcr.0, text)?;
-    text.end()
-}
-
-/// Prints a register of an identity, after a space.
-fn show_field(byte: u8, text: &mut Text) -> Result<(), AllocError>
-    ensures { OnOk result (text.new ≡ text.old ++ field_text byte) }
-{
-    text.push(b" ")?;
-    text.push_byte(byte)
 }

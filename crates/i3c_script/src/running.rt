@@ -3,13 +3,14 @@ ghost use Rattle.i3c_base.specs.Cutting.{no_cuts};
 ghost use Rattle.i3c_bus.specs.declared.hand.Hand.{Hand as HandValue};
 
 use crate::assigning;
-use crate::details::show_all;
+use crate::details::hear_all;
+use crate::piece::Listener;
 use crate::replies::{
-    count_from, subject_of, tell, tell_attached, tell_dropped, tell_frame, tell_join, tell_raised,
-    tell_role,
+    answer_attached, answer_dropped, answer_frame, answer_join, answer_raised, answer_reply,
+    answer_role, count_from, subject_of,
 };
 use crate::settings::Settings;
-use crate::show::{show_bus, show_bus_behind};
+use crate::show::{hear_bus, hear_bus_behind};
 use crate::slot_lookup::{entrance, slot_of_device, slots_of_devices};
 use crate::tenures::{Tenure, end_tenure};
 use crate::wires::Wires;
@@ -19,7 +20,7 @@ use i3c_bus::{Bus, Command as Frame, Event, Hand, Reply};
 use i3c_frame::Symbol;
 use i3c_legacy::Legacies;
 use i3c_lines::{Command, EXCEPTED, Name, Names, Refusal};
-use i3c_text::{Stop, Text};
+use i3c_text::Stop;
 use std::alloc::{AllocError, Global};
 use std::marker::Model;
 use std::mem;
@@ -61,10 +62,9 @@ impl Running {
     ghost use Rattle.i3c_script.specs.Asking.{slot_of_device, slots_named};
     ghost use Rattle.i3c_script.specs.Assigning.{Assigns, Moves, cuts_left};
     ghost use Rattle.i3c_script.specs.Obeying.{Answers, AnswersIn, Enters, IsDone, ObeysOn, Relieves, Sends, Sets, cut_at};
-    ghost use Rattle.i3c_script.specs.Details.{show_all_text};
-    ghost use Rattle.i3c_script.specs.Printed.{frames_text, show_behind_text, show_text, symbols_text};
+    ghost use Rattle.i3c_script.specs.Hearing.{Hears};
+    ghost use Rattle.i3c_script.specs.Pieces.{frames_pieces, show_all_pieces, show_behind_pieces, show_pieces, symbols_pieces};
     ghost use Rattle.i3c_script.specs.Ran.{IsEnd};
-    ghost use Rattle.i3c_script.specs.Telling.{Prints};
 
     /// A bus with this main controller, whose frames accept each request.
     #[inline(always)]
@@ -111,42 +111,42 @@ impl Running {
         &self.cuts
     }
 
-    /// Obeys a line, and prints the result. `K` names the caller, so that each caller has it in line.
-    pub(crate) fn obey<K>(
+    /// Obeys a line, and lets a listener hear what it comes to. `K` names the caller, so that each caller has it in line.
+    pub(crate) fn obey<K, L: Listener>(
         &mut self,
         names: &mut Names,
         command: &Command,
-        text: &mut Text,
+        listener: &mut L,
     ) -> Result<(), Stop<Refusal>>
-        ensures { Prints (λ said refused. ObeysOn self.old names.old command.now said refused self.new names.new) text.old text.new result }
+        ensures { Hears L.heard (λ pieces refused. ObeysOn self.old names.old command.now pieces refused self.new names.new) listener.old listener.new result }
     {
         match command {
-            Command::Raise { name, byte } => self.raise::<K>(names, name, *byte, text),
-            Command::Frame(frame) => self.send::<K>(names, frame, text),
-            Command::Attach { name, setup } => self.attach(names, name, *setup, text),
-            Command::DropOff { name } => self.drop_off(names, name, text),
-            Command::AskJoin { name } => self.ask_join(names, name, text),
-            Command::AskRole { name } => self.ask_role(names, name, text),
-            Command::HandOver { to } => self.hand_over(names, *to, text),
-            Command::Open => self.open(names, text),
-            Command::Round => self.round(names, text),
-            Command::End => self.end(names, text),
-            Command::Daa => self.assign(text),
+            Command::Raise { name, byte } => self.raise::<K, L>(names, name, *byte, listener),
+            Command::Frame(frame) => self.send::<K, L>(frame, listener),
+            Command::Attach { name, setup } => self.attach(names, name, *setup, listener),
+            Command::DropOff { name } => self.drop_off(names, name, listener),
+            Command::AskJoin { name } => self.ask_join(names, name, listener),
+            Command::AskRole { name } => self.ask_role(names, name, listener),
+            Command::HandOver { to } => self.hand_over(*to, listener),
+            Command::Open => self.open(listener),
+            Command::Round => self.round(listener),
+            Command::End => self.end(listener),
+            Command::Daa => self.assign(listener),
             Command::Policy(kinds) => {
                 self.set(*kinds, ArrayVec::new());
                 Ok(())
             }
             Command::PolicyBut { kinds, but } => self.except(names, *kinds, but.as_slice()),
             Command::Cut { name, bit } => self.cut(names, name, *bit),
-            Command::Show => self.show(names, text),
-            Command::ShowAll => self.show_all(names, text),
-            Command::ShowFrom(first) => self.show_from(names, *first, text),
+            Command::Show => self.show(names, listener),
+            Command::ShowAll => self.show_all(names, listener),
+            Command::ShowFrom(first) => self.show_from(names, *first, listener),
             Command::Forget(last) => {
                 self.forget(*last as usize);
                 Ok(())
             }
-            Command::Symbols => self.show_symbols(text),
-            Command::Frames(count) => self.show_frames(*count, text),
+            Command::Symbols => self.show_symbols(listener),
+            Command::Frames(count) => self.show_frames(*count, listener),
             Command::Legacy { .. } | Command::Declare { .. } | Command::Main { .. } => Err(
                 Refusal::BusMade.into(),
             ),
@@ -154,32 +154,27 @@ impl Running {
     }
 
     /// `raise`, which sends no frame.
-    fn raise<K>(
+    fn raise<K, L: Listener>(
         &mut self,
         names: &Names,
         name: &Name,
         byte: Option<u8>,
-        text: &mut Text,
+        listener: &mut L,
     ) -> Result<(), Stop<Refusal>>
-        ensures { Prints (λ said refused. AnswersIn self.old names.now name.now (λ slot. EventValue.Raise slot byte) said refused self.new) text.old text.new result }
+        ensures { Hears L.heard (λ pieces refused. AnswersIn self.old names.now name.now (λ slot. EventValue.Raise slot byte) pieces refused self.new) listener.old listener.new result }
     {
         match names.slot_of(name) {
             Ok(slot) => {
                 let raised = self.bus.raise(slot, byte);
-                tell_raised(raised, text)
+                answer_raised(raised, listener)
             }
             Err(why) => Err(Stop::Refused(why)),
         }
     }
 
     /// A line that sends a frame under the role. The frame takes the cuts that wait.
-    fn send<K>(
-        &mut self,
-        names: &Names,
-        frame: &Frame,
-        text: &mut Text,
-    ) -> Result<(), Stop<Refusal>>
-        ensures { Prints (λ said refused. Sends self.old names.now frame.now said refused self.new) text.old text.new result }
+    fn send<K, L: Listener>(&mut self, frame: &Frame, listener: &mut L) -> Result<(), Stop<Refusal>>
+        ensures { Hears L.heard (λ pieces refused. Sends self.old frame.now pieces refused self.new) listener.old listener.new result }
     {
         let Some(hand) = &self.hand else {
             unreachable!()
@@ -191,7 +186,7 @@ impl Running {
             .command_into(hand, frame, &mut accepted, wires, &self.cuts, &mut reply);
         self.cuts.clear();
         count_from(self.settings.forgotten, &mut reply)?;
-        tell_frame(names, frame, &reply, text)
+        answer_frame(frame, &reply, listener)
     }
 
     // The lines below are kept apart, so that raises and the frames under the role don't pay for the room that they take
@@ -199,20 +194,20 @@ impl Running {
 
     /// `attach`: a device enters the lowest free slot, and gets its name.
     #[inline(never)]
-    fn attach(
+    fn attach<L: Listener>(
         &mut self,
         names: &mut Names,
         name: &Name,
         setup: Setup,
-        text: &mut Text,
+        listener: &mut L,
     ) -> Result<(), Stop<Refusal>>
-        ensures { Prints (λ said refused. Enters self.old names.old name.now setup said refused self.new names.new) text.old text.new result }
+        ensures { Hears L.heard (λ pieces refused. Enters self.old names.old name.now setup pieces refused self.new names.new) listener.old listener.new result }
     {
         match entrance(&self.bus, names, name) {
             Ok(slot) => match names.give_slot(name, slot) {
                 Ok(()) => {
                     let attached = self.bus.attach(slot, setup);
-                    tell_attached(names, slot, attached, text)
+                    answer_attached(name, slot, attached, listener)
                 }
                 Err(_) => Err(Stop::Memory),
             },
@@ -222,13 +217,18 @@ impl Running {
 
     /// `drop`: a device loses power.
     #[inline(never)]
-    fn drop_off(&mut self, names: &Names, name: &Name, text: &mut Text) -> Result<(), Stop<Refusal>>
-        ensures { Prints (λ said refused. AnswersIn self.old names.now name.now EventValue.DropOff said refused self.new) text.old text.new result }
+    fn drop_off<L: Listener>(
+        &mut self,
+        names: &Names,
+        name: &Name,
+        listener: &mut L,
+    ) -> Result<(), Stop<Refusal>>
+        ensures { Hears L.heard (λ pieces refused. AnswersIn self.old names.now name.now EventValue.DropOff pieces refused self.new) listener.old listener.new result }
     {
         match names.slot_of(name) {
             Ok(slot) => {
                 let dropped = self.bus.drop_off(slot);
-                tell_dropped(dropped, text)
+                answer_dropped(dropped, listener)
             }
             Err(why) => Err(Stop::Refused(why)),
         }
@@ -236,13 +236,18 @@ impl Running {
 
     /// `ask-join`: a device wishes to join.
     #[inline(never)]
-    fn ask_join(&mut self, names: &Names, name: &Name, text: &mut Text) -> Result<(), Stop<Refusal>>
-        ensures { Prints (λ said refused. AnswersIn self.old names.now name.now EventValue.AskJoin said refused self.new) text.old text.new result }
+    fn ask_join<L: Listener>(
+        &mut self,
+        names: &Names,
+        name: &Name,
+        listener: &mut L,
+    ) -> Result<(), Stop<Refusal>>
+        ensures { Hears L.heard (λ pieces refused. AnswersIn self.old names.now name.now EventValue.AskJoin pieces refused self.new) listener.old listener.new result }
     {
         match names.slot_of(name) {
             Ok(slot) => {
                 let asked = self.bus.ask_join(slot);
-                tell_join(asked, text)
+                answer_join(asked, listener)
             }
             Err(why) => Err(Stop::Refused(why)),
         }
@@ -250,13 +255,18 @@ impl Running {
 
     /// `ask-role`: a device wishes for the controller role.
     #[inline(never)]
-    fn ask_role(&mut self, names: &Names, name: &Name, text: &mut Text) -> Result<(), Stop<Refusal>>
-        ensures { Prints (λ said refused. AnswersIn self.old names.now name.now EventValue.AskRole said refused self.new) text.old text.new result }
+    fn ask_role<L: Listener>(
+        &mut self,
+        names: &Names,
+        name: &Name,
+        listener: &mut L,
+    ) -> Result<(), Stop<Refusal>>
+        ensures { Hears L.heard (λ pieces refused. AnswersIn self.old names.now name.now EventValue.AskRole pieces refused self.new) listener.old listener.new result }
     {
         match names.slot_of(name) {
             Ok(slot) => {
                 let asked = self.bus.ask_role(slot);
-                tell_role(asked, text)
+                answer_role(asked, listener)
             }
             Err(why) => Err(Stop::Refused(why)),
         }
@@ -264,49 +274,49 @@ impl Running {
 
     /// `handover`: the role is offered to the device at an address.
     #[inline(never)]
-    fn hand_over(&mut self, names: &Names, to: Addr7, text: &mut Text) -> Result<(), Stop<Refusal>>
-        ensures { Prints (λ said refused. Answers self.old names.now (EventValue.HandOver to self.old.cuts) said refused self.new) text.old text.new result }
+    fn hand_over<L: Listener>(&mut self, to: Addr7, listener: &mut L) -> Result<(), Stop<Refusal>>
+        ensures { Hears L.heard (λ pieces refused. Answers self.old (EventValue.HandOver to self.old.cuts) pieces refused self.new) listener.old listener.new result }
     {
         let cuts = self.take_cuts();
-        self.answer(names, &Event::HandOver(to, cuts), text)
+        self.answer(&Event::HandOver(to, cuts), listener)
     }
 
     /// `open`: a session is opened, and stays open.
     #[inline(never)]
-    fn open(&mut self, names: &Names, text: &mut Text) -> Result<(), Stop<Refusal>>
-        ensures { Prints (λ said refused. Answers self.old names.now (EventValue.OpenDaa self.old.cuts) said refused self.new) text.old text.new result }
+    fn open<L: Listener>(&mut self, listener: &mut L) -> Result<(), Stop<Refusal>>
+        ensures { Hears L.heard (λ pieces refused. Answers self.old (EventValue.OpenDaa self.old.cuts) pieces refused self.new) listener.old listener.new result }
     {
         let cuts = self.take_cuts();
-        self.answer(names, &Event::OpenDaa(cuts), text)
+        self.answer(&Event::OpenDaa(cuts), listener)
     }
 
     /// `round`: one round of the open session.
     #[inline(never)]
-    fn round(&mut self, names: &Names, text: &mut Text) -> Result<(), Stop<Refusal>>
-        ensures { Prints (λ said refused. Answers self.old names.now (EventValue.Round self.old.cuts) said refused self.new) text.old text.new result }
+    fn round<L: Listener>(&mut self, listener: &mut L) -> Result<(), Stop<Refusal>>
+        ensures { Hears L.heard (λ pieces refused. Answers self.old (EventValue.Round self.old.cuts) pieces refused self.new) listener.old listener.new result }
     {
         let cuts = self.take_cuts();
-        self.answer(names, &Event::Round(cuts), text)
+        self.answer(&Event::Round(cuts), listener)
     }
 
     /// `end`: the open session ends.
     #[inline(never)]
-    fn end(&mut self, names: &Names, text: &mut Text) -> Result<(), Stop<Refusal>>
-        ensures { Prints (λ said refused. Answers self.old names.now EventValue.EndDaa said refused self.new) text.old text.new result }
+    fn end<L: Listener>(&mut self, listener: &mut L) -> Result<(), Stop<Refusal>>
+        ensures { Hears L.heard (λ pieces refused. Answers self.old EventValue.EndDaa pieces refused self.new) listener.old listener.new result }
     {
-        self.answer(names, &Event::EndDaa, text)
+        self.answer(&Event::EndDaa, listener)
     }
 
-    /// The bus answers an event, and its reply is printed.
-    fn answer(&mut self, names: &Names, event: &Event, text: &mut Text) -> Result<(), Stop<Refusal>>
+    /// The bus answers an event, and its reply is heard.
+    fn answer<L: Listener>(&mut self, event: &Event, listener: &mut L) -> Result<(), Stop<Refusal>>
         // a frame's cuts are taken before
         requires { cuts_left event.now self.old.cuts ≡ self.old.cuts }
-        ensures { Prints (λ said refused. Answers self.old names.now event.now said refused self.new) text.old text.new result }
+        ensures { Hears L.heard (λ pieces refused. Answers self.old event.now pieces refused self.new) listener.old listener.new result }
     {
         match self.step(event) {
             Ok(mut reply) => {
                 count_from(self.settings.forgotten, &mut reply)?;
-                tell(names, subject_of(event), &reply, text)
+                answer_reply(subject_of(event), &reply, listener)
             }
             Err(_) => Err(Stop::Memory),
         }
@@ -370,8 +380,8 @@ impl Running {
 
     /// `daa`: a whole session. The cuts that wait apply to its opening frame.
     #[inline(never)]
-    fn assign(&mut self, text: &mut Text) -> Result<(), Stop<Refusal>>
-        ensures { Prints (λ said refused. Assigns self.old said refused self.new) text.old text.new result }
+    fn assign<L: Listener>(&mut self, listener: &mut L) -> Result<(), Stop<Refusal>>
+        ensures { Hears L.heard (λ pieces refused. Assigns self.old pieces refused self.new) listener.old listener.new result }
     {
         let hand = take(&mut self.hand);
         let (hand, outcome) = assigning::assign(
@@ -379,7 +389,7 @@ impl Running {
             &mut self.bus,
             &mut self.wires,
             &self.cuts,
-            text,
+            listener,
         );
         self.cuts.clear();
         give(&mut self.hand, hand);
@@ -404,10 +414,10 @@ impl Running {
 
     /// `show`: the bus as it is.
     #[inline(never)]
-    fn show(&self, names: &Names, text: &mut Text) -> Result<(), Stop<Refusal>>
-        ensures { Prints (IsDone (show_text self.now.settings.forgotten self.now.state names.now)) text.old text.new result }
+    fn show<L: Listener>(&self, names: &Names, listener: &mut L) -> Result<(), Stop<Refusal>>
+        ensures { Hears L.heard (IsDone (show_pieces self.now.settings.forgotten self.now.state names.now)) listener.old listener.new result }
     {
-        match show_bus(&self.bus, names, self.settings.forgotten, text) {
+        match hear_bus(&self.bus, names, self.settings.forgotten, listener) {
             Ok(()) => Ok(()),
             Err(_) => Err(Stop::Memory),
         }
@@ -415,12 +425,17 @@ impl Running {
 
     /// `show N`: the bus with its records from this number on.
     #[inline(never)]
-    fn show_from(&self, names: &Names, first: u64, text: &mut Text) -> Result<(), Stop<Refusal>>
-        ensures { Prints (IsDone (show_behind_text (first - 1 - self.now.settings.forgotten) self.now.settings.forgotten self.now.state names.now)) text.old text.new result }
+    fn show_from<L: Listener>(
+        &self,
+        names: &Names,
+        first: u64,
+        listener: &mut L,
+    ) -> Result<(), Stop<Refusal>>
+        ensures { Hears L.heard (IsDone (show_behind_pieces (first - 1 - self.now.settings.forgotten) self.now.settings.forgotten self.now.state names.now)) listener.old listener.new result }
     {
         let forgotten = self.settings.forgotten;
         let count = (first.saturating_sub(1) as usize).saturating_sub(forgotten);
-        match show_bus_behind(&self.bus, names, count, forgotten, text) {
+        match hear_bus_behind(&self.bus, names, count, forgotten, listener) {
             Ok(()) => Ok(()),
             Err(_) => Err(Stop::Memory),
         }
@@ -428,15 +443,15 @@ impl Running {
 
     /// `show all`: the bus with all of its devices.
     #[inline(never)]
-    fn show_all(&self, names: &Names, text: &mut Text) -> Result<(), Stop<Refusal>>
-        ensures { Prints (IsDone (show_all_text self.now.settings.forgotten self.now.state names.now self.now.ended)) text.old text.new result }
+    fn show_all<L: Listener>(&self, names: &Names, listener: &mut L) -> Result<(), Stop<Refusal>>
+        ensures { Hears L.heard (IsDone (show_all_pieces self.now.settings.forgotten self.now.state names.now self.now.ended)) listener.old listener.new result }
     {
-        match show_all(
+        match hear_all(
             &self.bus,
             names,
             &self.settings,
             self.ended.as_slice(),
-            text,
+            listener,
         ) {
             Ok(()) => Ok(()),
             Err(_) => Err(Stop::Memory),
@@ -445,11 +460,11 @@ impl Running {
 
     /// `symbols`: the last symbols of the wire.
     #[inline(never)]
-    fn show_symbols(&mut self, text: &mut Text) -> Result<(), Stop<Refusal>>
+    fn show_symbols<L: Listener>(&mut self, listener: &mut L) -> Result<(), Stop<Refusal>>
         ensures same { self.new ≡ self.old }
-        ensures told { Prints (IsDone (symbols_text self.old.wire)) text.old text.new result }
+        ensures told { Hears L.heard (IsDone (symbols_pieces self.old.wire)) listener.old listener.new result }
     {
-        match self.wires.show(text) {
+        match self.wires.hear(listener) {
             Ok(()) => Ok(()),
             Err(_) => Err(Stop::Memory),
         }
@@ -457,11 +472,15 @@ impl Running {
 
     /// `frames`: the last `count` whole frames of these symbols.
     #[inline(never)]
-    fn show_frames(&mut self, count: u16, text: &mut Text) -> Result<(), Stop<Refusal>>
+    fn show_frames<L: Listener>(
+        &mut self,
+        count: u16,
+        listener: &mut L,
+    ) -> Result<(), Stop<Refusal>>
         ensures same { self.new ≡ self.old }
-        ensures told { Prints (IsDone (frames_text count self.old.wire)) text.old text.new result }
+        ensures told { Hears L.heard (IsDone (frames_pieces count self.old.wire)) listener.old listener.new result }
     {
-        match self.wires.show_frames(count, text) {
+        match self.wires.hear_frames(count, listener) {
             Ok(()) => Ok(()),
             Err(_) => Err(Stop::Memory),
         }

@@ -1,77 +1,20 @@
-ghost use Rattle.std.specs.Prelude.{◌≡◌, ℕ, List, [], ◌∷◌, ◌++◌, OnOk, codes, drop, false, slice_index_or, suc, true};
-ghost use Rattle.std.specs.Fmt.{decimal};
+ghost use Rattle.std.specs.Prelude.{◌≡◌, ℕ, List, ◌+◌, ◌++◌, None, OnOk, drop, false, slice_index_or, suc, true};
 ghost use Rattle.i3c_base.specs.declared.range.TheConstants.{ADDRESSES, SLOTS};
-ghost use Rattle.i3c_bus.specs.Readings.{AreAskers, address_of};
+ghost use Rattle.i3c_bus.specs.Readings.{AreAskers};
 ghost use Rattle.i3c_device.specs.Sets.{IsLowestOf};
-ghost use Rattle.i3c_base.specs.State.{IsPresent, device_at};
-ghost use Rattle.i3c_lines.specs.Naming.{legacy_names, letters, slot_names};
-ghost use Rattle.i3c_script.specs.Printed.{TellsAskers, added_text, asker_text, askers_text, behind_text, byte_or_none, declared_text, device_text, devices_text, legacies_text, legacy_text, record_text, recorded_text, records_text, show_behind_text, show_text};
+ghost use Rattle.i3c_base.specs.State.{device_at};
+ghost use Rattle.i3c_lines.specs.Naming.{legacy_names, slot_names};
+ghost use Rattle.i3c_script.specs.Hearing.{all_heard};
+ghost use Rattle.i3c_script.specs.Pieces.{behind_pieces, device_pieces, devices_pieces, records_pieces, show_behind_pieces, show_pieces, target_pieces, targets_pieces};
+ghost use Rattle.i3c_script.specs.Printed.{TellsAskers, asker_text, askers_text, numbered_text, show_text};
 
+use crate::piece::{Listener, Piece};
 use crate::settings::sum_of;
 use i3c_base::{ADDRESSES, Addr7, Record, SLOTS, Slot};
 use i3c_bus::{Bus, Request, SlotSet};
-use i3c_lines::{Name, Names};
+use i3c_lines::Names;
 use i3c_text::Text;
 use std::alloc::AllocError;
-
-/// What is printed for an address or a byte that isn't there.
-const NONE: &[u8] = b"--";
-
-/// Prints an address: two hex digits, or `--` for none.
-fn show_address(address: Option<Addr7>, text: &mut Text) -> Result<(), AllocError>
-    ensures { OnOk result (text.new ≡ text.old ++ byte_or_none address) }
-{
-    match address {
-        Some(address) => text.push_byte(address.get()),
-        None => text.push(NONE),
-    }
-}
-
-/// Prints a byte: two hex digits, or `--` for none.
-fn show_byte(byte: Option<u8>, text: &mut Text) -> Result<(), AllocError>
-    ensures { OnOk result (text.new ≡ text.old ++ byte_or_none byte) }
-{
-    match byte {
-        Some(byte) => text.push_byte(byte),
-        None => text.push(NONE),
-    }
-}
-
-/// Prints some tokens and an address, and ends the line.
-fn show_place(tokens: &[u8], address: Option<Addr7>, text: &mut Text) -> Result<(), AllocError>
-    ensures { OnOk result (text.new ≡ text.old ++ (tokens.now ++ (byte_or_none address ++ 10 ∷ []))) }
-{
-    text.push(tokens)?;
-    show_address(address, text)?;
-    text.end()
-}
-
-/// Prints a legacy target that was declared.
-pub(crate) fn show_added(name: &Name, address: Addr7, text: &mut Text) -> Result<(), AllocError>
-    ensures { OnOk result (text.new ≡ text.old ++ added_text name.now address) }
-{
-    text.push(name.as_bytes())?;
-    show_place(b" legacy at ", Some(address), text)
-}
-
-/// Prints the static address at which an identity was declared.
-pub(crate) fn show_declared(address: Addr7, text: &mut Text) -> Result<(), AllocError>
-    ensures { OnOk result (text.new ≡ text.old ++ declared_text address) }
-{
-    show_place(b"declared ", Some(address), text)
-}
-
-/// Prints the main controller, with its address.
-pub(crate) fn show_main(
-    name: &Name,
-    address: Option<Addr7>,
-    text: &mut Text,
-) -> Result<(), AllocError>
-    ensures { OnOk result (text.new ≡ text.old ++ (letters name.now ++ (codes " slot 0 at " ++ (byte_or_none address ++ 10 ∷ [])))) }
-{
-    text.push(name.as_bytes())?;
-    show_place(b" slot 0 at ", address, text)
-}
 
 /// Prints the bus: the active controller, the present devices by slot, the legacy targets by address, and the records, where
 /// `forgotten` ones have left the log.
@@ -83,94 +26,7 @@ pub fn show_bus(
 ) -> Result<(), AllocError>
     ensures { OnOk result (text.new ≡ text.old ++ show_text forgotten bus.now.state names.now) }
 {
-    show_bus_behind(bus, names, 0, forgotten, text)
-}
-
-/// Prints the same, but of the log only what is behind its first `count` records.
-pub(crate) fn show_bus_behind(
-    bus: &Bus,
-    names: &Names,
-    count: usize,
-    forgotten: usize,
-    text: &mut Text,
-) -> Result<(), AllocError>
-    ensures { OnOk result (text.new ≡ text.old ++ show_behind_text count forgotten bus.now.state names.now) }
-{
-    show_place(b"active ", bus.address(bus.active()), text)?;
-    show_devices(bus, names, text)?;
-    show_legacies(names, text)?;
-    show_records(bus.records(), count, forgotten, text)
-}
-
-/// Prints each present device, by slot.
-fn show_devices(bus: &Bus, names: &Names, text: &mut Text) -> Result<(), AllocError>
-    ensures { OnOk result (text.new ≡ text.old ++ devices_text bus.now.state names.now SLOTS) }
-{
-    for number in 0..SLOTS as u8 {
-        let slot = Slot::new(number).unwrap();
-        show_slot(bus, names, slot, text)?;
-    }
-    Ok(())
-}
-
-/// Prints the device of a slot, if there is one.
-fn show_slot(bus: &Bus, names: &Names, slot: Slot, text: &mut Text) -> Result<(), AllocError>
-    ensures { OnOk result (text.new ≡ text.old ++ device_text (slice_index_or (slot_names names.now) slot None) (device_at bus.now.state slot)) }
-{
-    match names.in_slot(slot) {
-        Some(name) if bus.present(slot) => show_device(bus, name, slot, text),
-        _ => Ok(()),
-    }
-}
-
-/// Prints the present device of a slot.
-fn show_device(bus: &Bus, name: &Name, slot: Slot, text: &mut Text) -> Result<(), AllocError>
-    requires { IsPresent bus.now.state slot }
-    ensures { OnOk result (text.new ≡ text.old ++ device_text (Some name.now) (device_at bus.now.state slot)) }
-{
-    text.push(name.as_bytes())?;
-    text.push(b" ")?;
-    show_address(bus.address(slot), text)?;
-    text.push_numbered(b" waiting ", bus.waiting(slot) as u64)
-}
-
-/// Prints each legacy target, by address.
-fn show_legacies(names: &Names, text: &mut Text) -> Result<(), AllocError>
-    ensures { OnOk result (text.new ≡ text.old ++ legacies_text names.now ADDRESSES) }
-{
-    for number in 0..ADDRESSES as u8 {
-        let address = Addr7::new(number).unwrap();
-        show_legacy(names, address, text)?;
-    }
-    Ok(())
-}
-
-/// Prints the legacy target at a static address, if there is one.
-fn show_legacy(names: &Names, address: Addr7, text: &mut Text) -> Result<(), AllocError>
-    ensures { OnOk result (text.new ≡ text.old ++ legacy_text (slice_index_or (legacy_names names.now) address None) address) }
-{
-    match names.at_address(address) {
-        Some(name) => {
-            text.push(name.as_bytes())?;
-            text.push(b" ")?;
-            text.push_byte(address.get())?;
-            text.push(b" legacy\n")
-        }
-        None => Ok(()),
-    }
-}
-
-/// Prints how many records are in the log, and each behind the first `count`, the oldest first.
-fn show_records(
-    records: &[Record],
-    count: usize,
-    forgotten: usize,
-    text: &mut Text,
-) -> Result<(), AllocError>
-    ensures { OnOk result (text.new ≡ text.old ++ records_text count forgotten records.now) }
-{
-    text.push_numbered(b"records ", records.len() as u64)?;
-    show_records_behind(records, count, forgotten, text)
+    hear_bus(bus, names, forgotten, text)
 }
 
 /// Prints the records behind the first `count`, each with its number, as `show` does: `forgotten` have left the log before.
@@ -180,12 +36,117 @@ pub fn show_records_behind(
     forgotten: usize,
     text: &mut Text,
 ) -> Result<(), AllocError>
-    ensures { OnOk result (text.new ≡ text.old ++ behind_text count forgotten records.now) }
+    ensures { OnOk result (text.new ≡ text.old ++ numbered_text (suc (forgotten + count)) (drop count records.now)) }
+{
+    hear_records_behind(records, count, forgotten, text)
+}
+
+/// What `show_bus` prints.
+pub(crate) fn hear_bus<L: Listener>(
+    bus: &Bus,
+    names: &Names,
+    forgotten: usize,
+    listener: &mut L,
+) -> Result<(), AllocError>
+    ensures { OnOk result (listener.new ≡ all_heard L.heard listener.old (show_pieces forgotten bus.now.state names.now)) }
+{
+    hear_bus_behind(bus, names, 0, forgotten, listener)
+}
+
+/// The same, but of the log only what is behind its first `count` records.
+pub(crate) fn hear_bus_behind<L: Listener>(
+    bus: &Bus,
+    names: &Names,
+    count: usize,
+    forgotten: usize,
+    listener: &mut L,
+) -> Result<(), AllocError>
+    ensures { OnOk result (listener.new ≡ all_heard L.heard listener.old (show_behind_pieces count forgotten bus.now.state names.now)) }
+{
+    listener.hear(Piece::Active(bus.address(bus.active())))?;
+    hear_devices(bus, names, listener)?;
+    hear_targets(names, listener)?;
+    hear_records(bus.records(), count, forgotten, listener)
+}
+
+/// Each present device, by slot.
+fn hear_devices<L: Listener>(bus: &Bus, names: &Names, listener: &mut L) -> Result<(), AllocError>
+    ensures { OnOk result (listener.new ≡ all_heard L.heard listener.old (devices_pieces bus.now.state names.now SLOTS)) }
+{
+    for number in 0..SLOTS as u8 {
+        let slot = Slot::new(number).unwrap();
+        hear_slot(bus, names, slot, listener)?;
+    }
+    Ok(())
+}
+
+/// The device of a slot, if there is one.
+fn hear_slot<L: Listener>(
+    bus: &Bus,
+    names: &Names,
+    slot: Slot,
+    listener: &mut L,
+) -> Result<(), AllocError>
+    ensures { OnOk result (listener.new ≡ all_heard L.heard listener.old (device_pieces (slice_index_or (slot_names names.now) slot None) (device_at bus.now.state slot))) }
+{
+    match names.in_slot(slot) {
+        Some(name) if bus.present(slot) => {
+            listener.hear(Piece::Device(*name, bus.address(slot), bus.waiting(slot)))
+        }
+        _ => Ok(()),
+    }
+}
+
+/// Each legacy target, by address.
+fn hear_targets<L: Listener>(names: &Names, listener: &mut L) -> Result<(), AllocError>
+    ensures { OnOk result (listener.new ≡ all_heard L.heard listener.old (targets_pieces names.now ADDRESSES)) }
+{
+    for number in 0..ADDRESSES as u8 {
+        let address = Addr7::new(number).unwrap();
+        hear_target(names, address, listener)?;
+    }
+    Ok(())
+}
+
+/// The legacy target at a static address, if there is one.
+fn hear_target<L: Listener>(
+    names: &Names,
+    address: Addr7,
+    listener: &mut L,
+) -> Result<(), AllocError>
+    ensures { OnOk result (listener.new ≡ all_heard L.heard listener.old (target_pieces (slice_index_or (legacy_names names.now) address None) address)) }
+{
+    match names.at_address(address) {
+        Some(name) => listener.hear(Piece::Target(*name, address)),
+        None => Ok(()),
+    }
+}
+
+/// How many records are in the log, and each behind the first `count`, the oldest first.
+fn hear_records<L: Listener>(
+    records: &[Record],
+    count: usize,
+    forgotten: usize,
+    listener: &mut L,
+) -> Result<(), AllocError>
+    ensures { OnOk result (listener.new ≡ all_heard L.heard listener.old (records_pieces count forgotten records.now)) }
+{
+    listener.hear(Piece::Records(records.len()))?;
+    hear_records_behind(records, count, forgotten, listener)
+}
+
+/// The records behind the first `count`, each with its number.
+fn hear_records_behind<L: Listener>(
+    records: &[Record],
+    count: usize,
+    forgotten: usize,
+    listener: &mut L,
+) -> Result<(), AllocError>
+    ensures { OnOk result (listener.new ≡ all_heard L.heard listener.old (behind_pieces count forgotten records.now)) }
 {
     for index in count..records.len() {
         let number = sum_of(forgotten, index + 1)?;
-        show_number(b"record ", number as u64, text)?;
-        show_record(&records[index], text)?;
+        listener.hear(Piece::Entry(number, records[index]))?;
     }
     Ok(())
 }
@@ -244,39 +205,4 @@ fn show_asker(names: &Names, slot: Slot, text: &mut Text) -> Result<(), AllocErr
         }
         None => Ok(()),
     }
-}
-
-/// Prints some tokens and a number.
-pub(crate) fn show_number(tokens: &[u8], number: u64, text: &mut Text) -> Result<(), AllocError>
-    ensures { OnOk result (text.new ≡ text.old ++ (tokens.now ++ decimal number)) }
-{
-    text.push(tokens)?;
-    text.push_decimal(number)
-}
-
-/// Prints a record, after its number.
-fn show_record(kept: &Record, text: &mut Text) -> Result<(), AllocError>
-    ensures { OnOk result (text.new ≡ text.old ++ record_text kept.now) }
-{
-    show_number(b" slot ", kept.slot.index() as u64, text)?;
-    show_number(b" raise ", kept.number, text)?;
-    show_recorded(kept.at, kept.byte, text)
-}
-
-/// Prints at which address an interrupt was recorded, and its mandatory byte.
-fn show_recorded(at: Addr7, byte: Option<u8>, text: &mut Text) -> Result<(), AllocError>
-    ensures { OnOk result (text.new ≡ text.old ++ recorded_text at byte) }
-{
-    text.push(b" at ")?;
-    text.push_byte(at.get())?;
-    show_last_byte(b" byte ", byte, text)
-}
-
-/// Prints some tokens and a byte, and ends the line.
-fn show_last_byte(tokens: &[u8], byte: Option<u8>, text: &mut Text) -> Result<(), AllocError>
-    ensures { OnOk result (text.new ≡ text.old ++ (tokens.now ++ (byte_or_none byte ++ 10 ∷ []))) }
-{
-    text.push(tokens)?;
-    show_byte(byte, text)?;
-    text.end()
 }

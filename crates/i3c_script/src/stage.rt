@@ -1,11 +1,11 @@
 ghost use Rattle.std.specs.Prelude.{◌≡◌};
 ghost use Rattle.i3c_lines.specs.declared.command.Command.{Command as CommandValue};
 ghost use Rattle.i3c_lines.specs.declared.names.Names.{Names as NamesValue};
-ghost use Rattle.i3c_script.specs.Obeying.{IsObeyed, ObeysBefore, main_refusal, script};
-ghost use Rattle.i3c_script.specs.Telling.{Prints};
+ghost use Rattle.i3c_script.specs.Hearing.{Hears};
+ghost use Rattle.i3c_script.specs.Obeying.{IsHeard, IsObeyed, ObeysBefore, main_refusal, script};
 
+use crate::piece::{Listener, Piece};
 use crate::running::Running;
-use crate::show::{show_added, show_declared, show_main};
 use crate::wires::Wires;
 use i3c_base::{Addr7, Bcr, Identity, Lvr, Setup, Slot};
 use i3c_bus::Refusal as BusRefusal;
@@ -48,34 +48,47 @@ impl Stage {
     ) -> Result<(), Stop<Refusal>>
         ensures obeys { IsObeyed (script self.old names.old) command.now text.old text.new result (script self.new names.new) }
     {
+        self.obey_heard::<K, Text>(alloc, names, command, text)
+    }
+
+    /// Obeys a line, and lets a listener hear what it comes to.
+    pub fn obey_heard<K, L: Listener>(
+        &mut self,
+        alloc: Global,
+        names: &mut Names,
+        command: &Command,
+        listener: &mut L,
+    ) -> Result<(), Stop<Refusal>>
+        ensures obeys { IsHeard L.heard (script self.old names.old) command.now listener.old listener.new result (script self.new names.new) }
+    {
         match self {
-            Stage::Running(running) => running.obey::<K>(names, command, text),
+            Stage::Running(running) => running.obey::<K, L>(names, command, listener),
             Stage::Before(legacies) => match command {
                 Command::Legacy { name, address, lvr } => {
-                    add_legacy(legacies, names, name, *address, *lvr, text)
+                    add_legacy(legacies, names, name, *address, *lvr, listener)
                 }
                 Command::Declare { address, identity } => declare(
-                    legacies, *address, *identity, text,
+                    legacies, *address, *identity, listener,
                 ),
-                Command::Main { name, setup } => self.begin(alloc, names, name, *setup, text),
+                Command::Main { name, setup } => self.begin(alloc, names, name, *setup, listener),
                 _ => Err(Refusal::NoBus.into()),
             },
         }
     }
 
-    /// `main`: the bus runs from now on. It prints its main controller.
+    /// `main`: the bus runs from now on.
     // kept apart, so that no other line pays for the room that a bus takes on the stack
     #[cold]
     #[inline(never)]
-    fn begin(
+    fn begin<L: Listener>(
         &mut self,
         alloc: Global,
         names: &mut Names,
         name: &Name,
         setup: Setup,
-        text: &mut Text,
+        listener: &mut L,
     ) -> Result<(), Stop<Refusal>>
-        ensures { IsObeyed (script self.old names.old) (CommandValue.Main name.now setup) text.old text.new result (script self.new names.new) }
+        ensures { IsHeard L.heard (script self.old names.old) (CommandValue.Main name.now setup) listener.old listener.new result (script self.new names.new) }
     {
         let Stage::Before(legacies) = self else {
             return Err(Refusal::BusMade.into());
@@ -90,7 +103,7 @@ impl Stage {
         let running = Running::new(alloc, setup, declared, wires);
         let address = running.bus().address(Slot::default());
         mem::replace(self, Stage::Running(running)).retire();
-        show_main(name, address, text)?;
+        listener.hear(Piece::Main(*name, address))?;
         Ok(())
     }
 
@@ -132,15 +145,15 @@ impl Stage {
 }
 
 /// `legacy`: declares a legacy target.
-fn add_legacy(
+fn add_legacy<L: Listener>(
     legacies: &mut Legacies,
     names: &mut Names,
     name: &Name,
     address: Addr7,
     lvr: Lvr,
-    text: &mut Text,
+    listener: &mut L,
 ) -> Result<(), Stop<Refusal>>
-    ensures { Prints (λ said refused. ObeysBefore legacies.old names.old (CommandValue.Legacy name.now address lvr) said refused (script (Stage.Before legacies.new) names.new)) text.old text.new result }
+    ensures { Hears L.heard (λ pieces refused. ObeysBefore legacies.old names.old (CommandValue.Legacy name.now address lvr) pieces refused (script (Stage.Before legacies.new) names.new)) listener.old listener.new result }
 {
     if names.place_of(name).is_some() {
         return Err(Refusal::NameTaken.into());
@@ -149,23 +162,23 @@ fn add_legacy(
         return Err(Stop::Refused(Refusal::Legacy(fault)));
     }
     names.give_address(name, address)?;
-    show_added(name, address, text)?;
+    listener.hear(Piece::Legacy(*name, address))?;
     Ok(())
 }
 
 /// `declare`: declares an identity at a static address.
-fn declare(
+fn declare<L: Listener>(
     legacies: &mut Legacies,
     address: Addr7,
     identity: Identity,
-    text: &mut Text,
+    listener: &mut L,
 ) -> Result<(), Stop<Refusal>>
-    ensures { (names : NamesValue) → Prints (λ said refused. ObeysBefore legacies.old names (CommandValue.Declare address identity) said refused (script (Stage.Before legacies.new) names)) text.old text.new result }
+    ensures { (names : NamesValue) → Hears L.heard (λ pieces refused. ObeysBefore legacies.old names (CommandValue.Declare address identity) pieces refused (script (Stage.Before legacies.new) names)) listener.old listener.new result }
 {
     if let Err(fault) = legacies.declare(address, identity) {
         return Err(Stop::Refused(Refusal::Declare(fault)));
     }
-    show_declared(address, text)?;
+    listener.hear(Piece::Declared(address))?;
     Ok(())
 }
 

@@ -1,42 +1,32 @@
-ghost use Rattle.std.specs.Prelude.{◌≡◌, ◌<◌, ◌++◌, length, slice_get, OnOk};
-ghost use Rattle.i3c_frame.specs.Texts.{text_of};
-ghost use Rattle.i3c_script.specs.Printed.{nth_text, symbols_text};
+ghost use Rattle.std.specs.Prelude.{◌≡◌, OnOk};
+ghost use Rattle.i3c_script.specs.Hearing.{all_heard};
+ghost use Rattle.i3c_script.specs.Pieces.{later_pieces, symbols_pieces};
 
+use crate::piece::{Listener, Piece};
 use i3c_frame::Symbol;
-use i3c_text::Text;
 use std::alloc::AllocError;
-use std::fmt::Write;
 
-/// Prints symbols, the oldest first, on one line.
-pub(crate) fn show_line(symbols: &[Symbol], text: &mut Text) -> Result<(), AllocError>
-    ensures { OnOk result (text.new ≡ text.old ++ symbols_text symbols.now) }
+/// A line of symbols, the oldest first.
+pub(crate) fn hear_line<L: Listener>(symbols: &[Symbol], listener: &mut L) -> Result<(), AllocError>
+    ensures { OnOk result (listener.new ≡ all_heard L.heard listener.old (symbols_pieces symbols.now)) }
 {
-    for index in 0..symbols.len() {
-        show_nth(symbols, index, text)?;
-    }
-    text.end()
-}
-
-/// Prints one of some symbols, behind a space if it isn't the first.
-fn show_nth(symbols: &[Symbol], index: usize, text: &mut Text) -> Result<(), AllocError>
-    requires { index < length symbols.now }
-    ensures { OnOk result (text.new ≡ text.old ++ nth_text index (slice_get symbols.now index)) }
-{
-    if index > 0 {
-        text.push(b" ")?;
-    }
-    match symbols.get(index) {
-        Some(symbol) => show_symbol(symbol, text),
-        None => Ok(()),
+    match symbols {
+        [] => listener.hear(Piece::SymbolsEnd),
+        [first, later @ ..] => {
+            listener.hear(Piece::FirstSymbol(*first))?;
+            hear_later(later, listener)
+        }
     }
 }
 
-/// Prints a symbol.
-fn show_symbol(symbol: &Symbol, text: &mut Text) -> Result<(), AllocError>
-    ensures { OnOk result (text.new ≡ text.old ++ text_of symbol.now) }
+/// The symbols that follow the first one of a line, and its end.
+fn hear_later<L: Listener>(symbols: &[Symbol], listener: &mut L) -> Result<(), AllocError>
+    ensures { OnOk result (listener.new ≡ all_heard L.heard listener.old (later_pieces symbols.now)) }
 {
-    match write!(text, "{symbol}") {
-        Ok(()) => Ok(()),
-        Err(_) => Err(AllocError),
+    let mut rest = symbols;
+    while let [symbol, more @ ..] = rest {
+        listener.hear(Piece::Symbol(*symbol))?;
+        rest = more;
     }
+    listener.hear(Piece::SymbolsEnd)
 }

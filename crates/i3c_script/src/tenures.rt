@@ -1,11 +1,12 @@
-ghost use Rattle.std.specs.Prelude.{◌≡◌, ◌++◌, OnOk};
+ghost use Rattle.std.specs.Prelude.{◌≡◌, OnOk};
 ghost use Rattle.i3c_step.specs.Slots.{is_handed};
-ghost use Rattle.i3c_script.specs.Tenures.{ended_by, tenure_text, tenures_text};
+ghost use Rattle.i3c_script.specs.Hearing.{all_heard};
+ghost use Rattle.i3c_script.specs.Pieces.{tenure_pieces, tenures_pieces};
+ghost use Rattle.i3c_script.specs.Tenures.{ended_by};
 
-use crate::show::show_number;
+use crate::piece::{Listener, Piece};
 use i3c_base::Slot;
 use i3c_bus::Reply;
-use i3c_text::Text;
 use std::alloc::AllocError;
 
 /// A controller's time as the active one, which ended: its slot, and how many records there were then.
@@ -39,34 +40,39 @@ fn is_handed(reply: &Reply) -> bool
     matches!(reply, Reply::Handed(_))
 }
 
-/// Prints the active controllers, with the numbers of the records of each: the tenures that ended, and the present one.
-pub(crate) fn show_tenures(
+/// The active controllers, with the numbers of the records of each: the tenures that ended, and the present one.
+pub(crate) fn hear_tenures<L: Listener>(
     ended: &[Tenure],
     active: Slot,
     records: usize,
-    text: &mut Text,
+    listener: &mut L,
 ) -> Result<(), AllocError>
-    ensures { OnOk result (text.new ≡ text.old ++ tenures_text ended.now active records) }
+    ensures { OnOk result (listener.new ≡ all_heard L.heard listener.old (tenures_pieces ended.now active records)) }
 {
     let mut from = 0;
     for index in 0..ended.len() {
         let tenure = ended[index];
-        show_tenure(tenure.slot, from, tenure.records, text)?;
+        hear_tenure(tenure.slot, from, tenure.records, listener)?;
         from = tenure.records;
     }
-    show_tenure(active, from, records, text)
+    hear_tenure(active, from, records, listener)
 }
 
-/// Prints which slot was active while the records behind the first `from` were made, up to record `to`, unless there are
-/// none.
-fn show_tenure(slot: Slot, from: usize, to: usize, text: &mut Text) -> Result<(), AllocError>
-    ensures { OnOk result (text.new ≡ text.old ++ tenure_text slot from to) }
+/// Which slot was active while the records behind the first `from` were made, up to record `to`, unless there are none.
+fn hear_tenure<L: Listener>(
+    slot: Slot,
+    from: usize,
+    to: usize,
+    listener: &mut L,
+) -> Result<(), AllocError>
+    ensures { OnOk result (listener.new ≡ all_heard L.heard listener.old (tenure_pieces slot from to)) }
 {
     if to <= from {
         return Ok(());
     }
-    show_number(b"under slot ", slot.index() as u64, text)?;
-    show_number(b" records ", from as u64 + 1, text)?;
-    show_number(b" to ", to as u64, text)?;
-    text.end()
+    listener.hear(Piece::Tenure {
+        slot,
+        from: from + 1,
+        to,
+    })
 }

@@ -1,14 +1,15 @@
 ghost use Rattle.std.specs.Prelude.{◌≡◌, [], ◌∷◌, ◌++◌, vec_capacity, vec_len, IfOk, OnOk};
 ghost use Rattle.circular_buffer.specs.Buffer.{buffer, keep_last};
-ghost use Rattle.i3c_script.specs.Printed.{frames_text, symbols_text};
+ghost use Rattle.i3c_script.specs.Hearing.{all_heard};
+ghost use Rattle.i3c_script.specs.Pieces.{frames_pieces, symbols_pieces};
 ghost use Rattle.i3c_script.specs.Ran.{IsEnd};
 ghost use Rattle.i3c_script.specs.declared.wires.TheConstants.{SYMBOLS};
 
-use crate::frames::show_frames;
-use crate::symbols::show_line;
+use crate::frames::hear_frames;
+use crate::piece::Listener;
+use crate::symbols::hear_line;
 use circular_buffer::HeapCircularBuffer;
 use i3c_frame::{Symbol, Tap};
-use i3c_text::Text;
 use std::alloc::{AllocError, Global};
 use std::marker::Model;
 
@@ -51,13 +52,13 @@ impl Wires {
         Ok(Wires { kept, fresh })
     }
 
-    /// Prints the symbols, the oldest first, on one line.
-    pub fn show(&mut self, text: &mut Text) -> Result<(), AllocError>
+    /// A line of the symbols, the oldest first.
+    pub fn hear<L: Listener>(&mut self, listener: &mut L) -> Result<(), AllocError>
         ensures same { self.new ≡ self.old }
-        ensures told { OnOk result (text.new ≡ text.old ++ symbols_text (keep_last SYMBOLS self.old)) }
+        ensures told { OnOk result (listener.new ≡ all_heard L.heard listener.old (symbols_pieces (keep_last SYMBOLS self.old))) }
     {
         keep(&mut self.kept, &mut self.fresh);
-        show_line(self.kept.make_contiguous(), text)
+        hear_line(self.kept.make_contiguous(), listener)
     }
 
     /// Copies the symbols, the oldest first. From now on `copy_later` copies those that come behind them.
@@ -78,13 +79,17 @@ impl Wires {
         symbols.extend_from_slice(&self.fresh)
     }
 
-    /// Prints the last `count` whole frames of the symbols, the oldest first, a line for each.
-    pub fn show_frames(&mut self, count: u16, text: &mut Text) -> Result<(), AllocError>
+    /// The last `count` whole frames of the symbols, the oldest first, a line for each.
+    pub fn hear_frames<L: Listener>(
+        &mut self,
+        count: u16,
+        listener: &mut L,
+    ) -> Result<(), AllocError>
         ensures same { self.new ≡ self.old }
-        ensures told { OnOk result (text.new ≡ text.old ++ frames_text count (keep_last SYMBOLS self.old)) }
+        ensures told { OnOk result (listener.new ≡ all_heard L.heard listener.old (frames_pieces count (keep_last SYMBOLS self.old))) }
     {
         keep(&mut self.kept, &mut self.fresh);
-        show_frames(self.kept.make_contiguous(), usize::from(count), text)
+        hear_frames(self.kept.make_contiguous(), usize::from(count), listener)
     }
 }
 

@@ -13,12 +13,12 @@ use Rattle.i3c_script.proofs.Moving.{moved, note}
 use Rattle.i3c_script.proofs.assigning.run_round.Goals as goal
 
 pub unreachable-requires : goal.unreachable-requires
-unreachable-requires c =
+unreachable-requires g c =
     not_refused c.args.bus.now.state c.round.new.bus.state c.args.cuts.now c.requires.fits.1 c.requires.uncut
     (subst (λ r. Step c.args.bus.now.state (Event.Round c.args.cuts.now) (rounded_reply r) c.round.new.bus.state) c.in_default.is c.round.ensures.carried.step)
 
-pub returns-in-Ok-show_round-clause-moved : goal.returns-in-Ok-show_round-clause-moved
-returns-in-Ok-show_round-clause-moved c = λ settings ended.
+pub returns-in-Ok-hear_round-clause-moved : goal.returns-in-Ok-hear_round-clause-moved
+returns-in-Ok-hear_round-clause-moved g c = λ settings ended.
     let old = c.args.bus.now.state in
     let new = c.round.new.bus.state in
     subst (λ cuts. Moves (ran_of old settings no_cuts c.args.wires.now ended) (Event.Round cuts) (Reply.Round c.in-Ok.answer) (ran_of new settings no_cuts c.round.new.tap ended)) c.requires.uncut

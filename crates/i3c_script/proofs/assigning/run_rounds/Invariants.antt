@@ -9,6 +9,6 @@ use Rattle.i3c_script.proofs.Assigned.{SoFar}
 use Rattle.i3c_script.proofs.assigning.run_rounds.Given as goal
 
 abbrev pub invariant-loop : goal.invariant-loop
-invariant-loop l =
+invariant-loop g l =
     HandFits (Hand.Session l.initial.session) l.bus.state
-    × ((settings : Settings) (ended : List Tenure) → SoFar (ran_of l.initial.bus.state settings no_cuts l.initial.wires ended) (ran_of l.bus.state settings no_cuts l.wires ended) l.initial.text l.text l.counter)
+    × ((settings : Settings) (ended : List Tenure) → SoFar g.L.Listener.heard (ran_of l.initial.bus.state settings no_cuts l.initial.wires ended) (ran_of l.bus.state settings no_cuts l.wires ended) l.initial.listener l.listener l.counter)

@@ -1,5 +1,5 @@
 -- The first name's slot comes before the others.
-use Rattle.std.proofs.Common.{◌≡◌, ◌∙◌, ◌++◌, Ok, Err, List, ℕ, ap, subst, sym}
+use Rattle.std.proofs.Common.{◌≡◌, ◌∙◌, ◌++◌, Ok, Err, List, ℕ, subst, sym}
 use Rattle.std.specs.Prelude.{MatchResult}
 use Rattle.i3c_script.specs.Asking.{slot_of_device, slots_named, with_others}
 use Rattle.i3c_script.proofs.Gathering.{gathered}

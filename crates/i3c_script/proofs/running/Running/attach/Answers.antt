@@ -1,17 +1,19 @@
 -- A device that enters sends nothing.
 use Rattle.std.proofs.Common.{[], Err, Ok, refl, subst, sym}
-use Rattle.std.proofs.lemmas.List.{append-nil}
 use Rattle.i3c_step.specs.declared.events.Event.{Event}
 use Rattle.i3c_step.specs.Replies.{attached_reply}
-use Rattle.i3c_script.specs.Obeying.{Answers, Enters}
-use Rattle.i3c_script.specs.Printed.{subject_of}
+use Rattle.i3c_script.specs.declared.replies.Subject.{Subject}
+use Rattle.i3c_script.specs.Hearing.{Hears}
+use Rattle.i3c_script.specs.Obeying.{AnswersOf, Enters}
 use Rattle.i3c_script.specs.Ran.{Ran, ran_of}
-use Rattle.i3c_script.specs.Telling.{IsTold, Prints}
-use Rattle.i3c_script.proofs.Moving.{answered, attached_counted, attached_still, attached_unhanded, prints_by, unsent}
+use Rattle.i3c_script.specs.Telling.{IsTold}
+use Rattle.i3c_script.proofs.Hearing.{hears_by}
+use Rattle.i3c_script.proofs.Moving.{answered, attached_counted, attached_still, attached_unhanded, unsent}
 use Rattle.i3c_script.proofs.running.Running.attach.Goals as goal
 
 pub returns-in-Ok-give_slot : goal.returns-in-Ok-give_slot
-returns-in-Ok-give_slot c =
+returns-in-Ok-give_slot g c =
+    let heard = g.L.Listener.heard in
     let at = c.self.inside in
     let before = at.bus.state in
     let after = c.attach-attached.new.self.state in
@@ -21,14 +23,15 @@ returns-in-Ok-give_slot c =
     let named = c.give_slot.new.self in
     let given = c.in-Ok-give_slot.ensures in
     let event = Event.Attach c.in-Ok.slot c.args.setup in
+    let subject = Subject.Attached c.args.name.now c.in-Ok.slot in
     let said = c.attach-attached.result in
-    let answers = answered old new named event (attached_reply said) c.args.text.now c.tell_attached.new.text c.tell_attached.result
+    let answers = answered heard subject old new event (attached_reply said) c.args.listener.now c.answer_attached.new.listener c.answer_attached.result
     (unsent before after at.settings at.cuts at.wires at.ended.items event (attached_reply said) (attached_unhanded said) c.attach-attached.ensures.step (attached_still before after event said))
-    (subst (λ r. Prints (IsTold named (subject_of event) r) c.args.text.now c.tell_attached.new.text c.tell_attached.result) (sym (attached_counted at.settings.forgotten said)) c.tell_attached.ensures) in
-    rw (← c.self.view_is) (prints_by (λ said refused. Answers old named event said refused new)
-    (λ said refused. Enters old names c.args.name.now c.args.setup said refused new named)
-    (λ said refused told. (Ok c.in-Ok.slot, c.in-Ok.ensures, (record { given = given.given; slots = given.told; legacies = c.give_slot.ensures.legacies }, told)))
-    c.args.text.now c.tell_attached.new.text c.tell_attached.result answers)
+    (subst (λ r. Hears heard (IsTold subject r) c.args.listener.now c.answer_attached.new.listener c.answer_attached.result) (sym (attached_counted at.settings.forgotten said)) c.answer_attached.ensures) in
+    rw (← c.self.view_is) (hears_by heard (λ pieces refused. AnswersOf subject old event pieces refused new)
+    (λ pieces refused. Enters old names c.args.name.now c.args.setup pieces refused new named)
+    (λ pieces refused told. (Ok c.in-Ok.slot, c.in-Ok.ensures, (record { given = given.given; slots = given.told; legacies = c.give_slot.ensures.legacies }, told)))
+    c.args.listener.now c.answer_attached.new.listener c.answer_attached.result answers)
 
 pub returns-in-Err : goal.returns-in-Err
-returns-in-Err c = rw (← c.self.view_is) ([], sym (append-nil c.args.text.now), (Err c.in-Err.why, c.in-Err.ensures, (refl, refl, (refl, refl))))
+returns-in-Err g c = rw (← c.self.view_is) ([], refl, (Err c.in-Err.why, c.in-Err.ensures, (refl, refl, (refl, refl))))

@@ -12,5 +12,5 @@ returns-in-Ok g c =
     let old = at.bus.state in
     let new = c.raise-raised.new.self.state in
     let said = c.raise-raised.result in
-    rw (← c.self.view_is) (quietly old new at.settings at.cuts at.wires at.ended.items names c.args.name.now (λ slot. Event.Raise slot c.args.byte) c.in-Ok.slot (raised_reply said) c.args.text.now c.tell_raised.new.text c.tell_raised.result c.in-Ok.ensures refl
-    (raised_unhanded said) (raised_counted at.settings.forgotten said) c.raise-raised.ensures.step (raised_still old new (Event.Raise c.in-Ok.slot c.args.byte) said) (c.tell_raised.ensures names))
+    rw (← c.self.view_is) (quietly g.L.Listener.heard old new at.settings at.cuts at.wires at.ended.items names c.args.name.now (λ slot. Event.Raise slot c.args.byte) c.in-Ok.slot (raised_reply said) c.args.listener.now c.answer_raised.new.listener c.answer_raised.result c.in-Ok.ensures refl
+    (raised_unhanded said) (raised_counted at.settings.forgotten said) c.raise-raised.ensures.step (raised_still old new (Event.Raise c.in-Ok.slot c.args.byte) said) c.answer_raised.ensures)

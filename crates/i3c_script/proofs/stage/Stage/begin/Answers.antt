@@ -1,15 +1,14 @@
 -- The bus starts with its main controller in slot 0.
-use Rattle.std.proofs.Common.{◌≡◌, ◌++◌, ◌∷◌, [], ◌∙◌, None, ap, codes, subst, sym}
+use Rattle.std.proofs.Common.{◌≡◌, ◌∙◌, None, ap, subst, sym}
 use Rattle.i3c_base.specs.State.{IsStart, device_at}
 use Rattle.i3c_bus.specs.Readings.{address_of}
-use Rattle.i3c_lines.specs.Naming.{letters}
+use Rattle.i3c_script.specs.declared.piece.Piece.{Piece}
 use Rattle.i3c_script.specs.Obeying.{NamesSlot, Starts, main_refusal, script}
-use Rattle.i3c_script.specs.Printed.{byte_or_none}
 use Rattle.i3c_script.proofs.Starting.{began}
 use Rattle.i3c_script.proofs.stage.Stage.begin.Goals as goal
 
 pub returns : goal.returns
-returns c =
+returns g c =
     let names = c.args.names.now in
     let named = c.give_slot.new.self in
     let name = c.args.name.now in
@@ -28,5 +27,5 @@ returns c =
       named = subst (λ slot. NamesSlot names named name slot) (sym c.default.ensures.1 ∙ c.default.ensures.2) given;
     } in
     let at : c.address-address.result ≡ address_of (device_at ran.state 0) = c.address-address.ensures ∙ (λ i. address_of (device_at (c.bus.ensures i) ((sym c.default-2.ensures.1 ∙ c.default-2.ensures.2) i))) in
-    began c.args.self.now c.in-Before.legacies names named name setup c.replace.new.dest ran c.args.text.now c.show_main.new.text c.in-Before.is unrefused starts
-    (c.in_ok-show_main.ensures ∙ ap (λ a. c.args.text.now ++ (letters name ++ (codes " slot 0 at " ++ (byte_or_none a ++ 10 ∷ [])))) at)
+    began g.L.Listener.heard c.args.self.now c.in-Before.legacies names named name setup c.replace.new.dest ran c.args.listener.now c.hear.new.self c.in-Before.is unrefused starts
+    (c.in_ok-hear.ensures ∙ ap (λ a. g.L.Listener.heard c.args.listener.now (Piece.Main name a)) at)

@@ -1,15 +1,12 @@
-use Rattle.std.proofs.Common.{subst, sym}
-use Rattle.i3c_script.specs.declared.stage.Stage.{Stage}
-use Rattle.i3c_script.specs.Obeying.{IsObeyed, script}
+-- What a text hears is what is printed.
+use Rattle.std.proofs.Common.{refl}
+use Rattle.i3c_script.specs.Obeying.{ComesTo, ObeysAt, script}
+use Rattle.i3c_script.proofs.Hearing.{printed_by}
 use Rattle.i3c_script.proofs.stage.Stage.obey.Goals as goal
 
-pub returns-in-Declare : goal.returns-in-Declare
-returns-in-Declare g c =
-    let names = c.args.names.now in
-    let before = c.args.text.now in
-    let after = c.declare.new.text in
-    let result = c.declare.result in
-    let new = script (Stage.Before c.declare.new.legacies) names in record {
-      obeys = subst (λ stage. IsObeyed (script stage names) c.args.command.now before after result new) (sym c.in-Before.is)
-          (subst (λ command. IsObeyed (script (Stage.Before c.in-Before.legacies) names) command before after result new) (sym c.in-Declare.is) (c.declare.ensures names));
+pub returns : goal.returns
+returns g c =
+    let new = script c.obey_heard.new.self c.obey_heard.new.names in record {
+      obeys = printed_by (λ pieces refused. ComesTo c.args.self.now c.args.names.now c.args.command.now pieces refused new) (λ said refused. ObeysAt c.args.self.now c.args.names.now c.args.command.now said refused new)
+          (λ pieces refused comes. (pieces, comes, refl)) c.args.text.now c.obey_heard.new.listener c.obey_heard.result c.obey_heard.ensures.obeys;
     }
