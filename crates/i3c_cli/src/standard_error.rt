@@ -14,9 +14,14 @@ impl<'a, R> StandardError<'a, R> {
     }
 }
 
+// Nothing is known of what it shows.
 impl<R: Eprint> Witness for StandardError<'_, R> {
-    fn tell(&mut self, line: &[u8]) {
-        if let Ok(text) = str::from_utf8(line) {
+    ghost use Rattle.std.specs.Prelude.{⊤};
+
+    ghost hears = { λ old told new. ⊤ };
+
+    fn tell(&mut self, told: &[u8]) {
+        if let Ok(text) = str::from_utf8(told) {
             // what can't be told isn't missed
             let _ = self.runtime.eprint(text);
         }

@@ -5,5 +5,6 @@ pub mod ScriptRuns
 pub mod ScriptRead
 mod Reaching
 pub mod CheckRuns
+mod Reasoned
 pub mod WatchRuns
 pub mod ViewRuns

@@ -8,18 +8,17 @@ use Rattle.i3c_streams.specs.declared.faults.ScriptFault.{ScriptFault}
 use Rattle.i3c_text.specs.declared.stop.Stop.{Stop}
 use Rattle.std.specs.Io.KnownBytes.{Appends}
 use Rattle.i3c_lines.specs.Forms.{HasNoForm, IsCommand, IsSkipped}
-use Rattle.i3c_script.specs.Obeying.{ScriptState}
 use Rattle.i3c_facts.specs.Forms.{IsMark}
 use Rattle.i3c_runner.specs.Expecting.{IsBad, IsMarked, Standing}
 use Rattle.i3c_streams.specs.Outcomes.{AppendsSome, GoesLast, HasNoFeed, Output, Puts, PutsOrFails, PutsSome, written}
 use Rattle.i3c_script.specs.Printed.{end_text}
-use Rattle.i3c_runner.specs.Scripts.{LineDoes, LineRun, LineRuns, LinesLead, lines_bytes, lines_out, lines_refused, refusals_of, refused_text, run_text}
+use Rattle.i3c_runner.specs.Scripts.{LineRun, LineRuns, LinesLead, lines_bytes, lines_out, lines_refused, refusals_of, refused_text, run_text}
 use Rattle.i3c_runner.specs.ScriptSteps.{LineDone, LineEnds, LineLost, LineStops, OutOf, Progress, Reads, Runs, RunsTo, RunStops, Takes}
 use Rattle.i3c_script.specs.Stops.{refusals}
 use Rattle.i3c_runner.proofs.Gathered.{flush_all, flush_some, puts_both, puts_none, some_puts}
 
 -- the refusal that a line comes to
-pub refusal_in : Result (Unit {0}) (Stop Refusal) → Option Refusal
+unfoldable pub refusal_in : Result (Unit {0}) (Stop Refusal) → Option Refusal
 refusal_in (Ok done) = None
 refusal_in (Err Stop.Memory) = None
 refusal_in (Err (Stop.Refused why)) = Some why

@@ -1,24 +1,30 @@
 -- The run of a watched script, line by line.
-use Rattle.std.proofs.Common.{◌≡◌, ◌∙◌, ℕ, ◌+◌, true, false, cond, codes, List, [], ◌∷◌, ◌++◌, length, min, arith, Option, IfSome, Result, ap, append_assoc, append-nil, inl, inr, refl, subst, sym}
+use Rattle.std.proofs.Common.{◌≡◌, ◌≢◌, ◌∙◌, ℕ, ◌+◌, Bool, true, false, cond, Ok, Err, codes, List, [], ◌∷◌, ◌++◌, length, min, arith, Option, IfSome, Result, ap, append_assoc, append-nil, inl, inr, refl, subst, sym}
 use Rattle.std.specs.Fmt.{decimal}
 use Rattle.std.specs.Io.KnownBytes.{Appends}
+use Rattle.i3c_base.specs.Cutting.{CutList}
 use Rattle.i3c_lines.specs.declared.refusals.Refusal.{Refusal}
 use Rattle.i3c_text.specs.declared.stop.Stop.{Stop}
+use Rattle.i3c_script.specs.declared.stage.Stage.{Stage}
+use Rattle.i3c_script.specs.Obeying.{ScriptState}
 use Rattle.i3c_script.specs.Printed.{end_text}
 use Rattle.i3c_script.specs.Stops.{refusals}
 use Rattle.i3c_streams.specs.declared.script_lines.ScriptLines.{ScriptLines}
 use Rattle.i3c_streams.specs.declared.watching.Watching.{Watching}
 use Rattle.i3c_runner.specs.declared.watched.WatchFault.{WatchFault}
-use Rattle.i3c_streams.specs.Lines.{GivesLine, IsGivenOut, IsReadFrom, given, line_in_hand}
+use Rattle.i3c_streams.specs.declared.script_lines.Reading.{Reading}
+use Rattle.i3c_streams.specs.Lines.{GivesLine, IsGivenOut, IsReadAs, IsReadFrom, given, line_in_hand}
 use Rattle.i3c_streams.specs.Outcomes.{AppendsSome}
-use Rattle.i3c_runner.specs.Scripts.{LinesLead, LineRuns, LineRun, lines_bytes, lines_out, lines_refused, run_text}
-use Rattle.i3c_runner.specs.ScriptSteps.{Progress}
-use Rattle.i3c_runner.specs.Watched.{AreFormed, EndsAt, IsFormed, IsLastReason, LineCut, LineFails, LineRan, LineWatched, WatchedEnds, WatchedPart, WatchedWhole, echo_text, echoed, numbered, numbered_by, shown, shown_out}
+use Rattle.i3c_runner.specs.Expecting.{Standing}
+use Rattle.i3c_runner.specs.Reasons.{IsExplained, cuts_on}
+use Rattle.i3c_runner.specs.Scripts.{IsLineRun, LineRuns, LineRun, lines_bytes, lines_out, lines_refused, run_text}
+use Rattle.i3c_runner.specs.ScriptSteps.{Progress, noted}
+use Rattle.i3c_runner.specs.Watched.{AreFormed, HeardIf, Hears, IsExplainedIf, IsFormed, IsLastReason, IsTold, KnowsCuts, LineFails, LineRan, LineWatched, LinesTell, WatchedEnds, WatchedPart, WatchedWhole, echo_text, echoed, numbered, numbered_by, shown, shown_out}
 use Rattle.i3c_streams.proofs.BytesRead.{none_read, script_is, unread}
 use Rattle.i3c_runner.proofs.CheckRuns.{nothing_out, some_out}
 use Rattle.i3c_runner.proofs.Gathered.{some_after}
 use Rattle.i3c_streams.proofs.LinesRead.{all_given, first_given}
-use Rattle.i3c_runner.proofs.ScriptRuns.{bytes_both, its_refusals, its_text, refusal_in, refused_both, run_both}
+use Rattle.i3c_runner.proofs.ScriptRuns.{bytes_both, its_refusals, its_text, refusal_in, refused_both}
 use Rattle.i3c_streams.proofs.Written.{appends_both}
 
 shown_more : (watching : Watching) (lines : List LineRun) (number at : ℕ) (run : LineRun) → at ≡ number + length lines → shown_out watching number (lines ++ run ∷ []) ≡ shown_out watching number lines ++ shown watching at run
@@ -35,10 +41,39 @@ length_more : (lines : List LineRun) (run : LineRun) → length (lines ++ run �
 length_more [] run = omega arith
 length_more (one ∷ lines) run = omega (arith, length_more lines run)
 
+-- lines and one more, with what tells of them
+tell_more : (watching : Watching) (number at : ℕ) (old mid new : Standing) (lines : List LineRun) (run : LineRun) (texts : List (List ℕ)) (told : List ℕ) → at ≡ number + length lines → LinesTell watching number old lines texts mid
+    → IsLineRun mid run new → IsTold watching at run.line run.refused (cuts_on mid.script.stage) new.script told → LinesTell watching number old (lines ++ run ∷ []) (texts ++ told ∷ []) new
+tell_more watching number at old mid new [] run [] told e same is tells =
+    let first : at ≡ number = omega (arith, e) in
+    (new, subst (λ st. IsLineRun st run new) same is, subst (λ st. IsTold watching number run.line run.refused (cuts_on st.script.stage) new.script told) same (subst (λ n. IsTold watching n run.line run.refused (cuts_on mid.script.stage) new.script told) first tells), refl)
+tell_more watching number at old mid new [] run (text ∷ texts) told e none is tells = absurd none
+tell_more watching number at old mid new (one ∷ lines) run [] told e none is tells = absurd none
+tell_more watching number at old mid new (one ∷ lines) run (text ∷ texts) told e before is tells =
+    (before.0, before.1, before.2, tell_more watching (number + 1) at before.0 mid new lines run texts told (omega (arith, e)) before.3 is tells)
+
+-- texts and one more, as a witness heard them
+heard_more : {T : Type 0} (hears : Hears T) (explain : Bool) (old mid new : T) (texts : List (List ℕ)) (told : List ℕ) → HeardIf hears explain old texts mid → HeardIf hears explain mid (told ∷ []) new → HeardIf hears explain old (texts ++ told ∷ []) new
+heard_more hears false old mid new texts told one two = two ∙ one
+heard_more hears true old mid new [] told one two = (two.0, subst (λ v. hears v told two.0) one two.1, two.2)
+heard_more hears true old mid new (text ∷ texts) told one two = (one.0, one.1, heard_more hears true one.0 mid new texts told one.2 two)
+
+-- a witness that was told nothing
+heard_none : {T : Type 0} (hears : Hears T) (explain : Bool) (old : T) → HeardIf hears explain old [] old
+heard_none hears false old = refl
+heard_none hears true old = refl
+
+-- the cuts that waited are those on the stage
+told_of : (watching : Watching) (number : ℕ) (line : List ℕ) (refused : Option Refusal) (waited : CutList) (stage : Stage) (after : ScriptState) (told : List ℕ) → KnowsCuts watching waited stage
+    → IsTold watching number line refused waited after told → IsTold watching number line refused (cuts_on stage) after told
+told_of watching number line refused waited stage after told knows tells on = subst (λ cuts. IsExplained number line refused cuts after told) (knows on) (tells on)
+
 -- the lines that were run so far, and the number of the next one
-pub record WatchedSoFar (watching : Watching) (known now old new : Option (List ℕ)) (reader : ScriptLines) (from to : Progress) (at : ℕ) : Type 0 where
+pub record WatchedSoFar {T : Type 0} (hears : Hears T) (watching : Watching) (known now old new : Option (List ℕ)) (before after : T) (reader : ScriptLines) (from to : Progress) (at : ℕ) : Type 0 where
   pub lines : List LineRun
-  pub run : LinesLead from.state lines to.state
+  pub texts : List (List ℕ)
+  pub run : LinesTell watching 1 from.state lines texts to.state
+  pub heard : HeardIf hears watching.explain before texts after
   pub formed : AreFormed watching lines
   pub number : at ≡ 1 + length lines
   pub bytes : given reader ≡ lines_bytes lines
@@ -50,111 +85,155 @@ pub record WatchedSoFar (watching : Watching) (known now old new : Option (List 
 more_bytes : (lines : List LineRun) (run : LineRun) (reader further : ScriptLines) → given reader ≡ lines_bytes lines → given further ≡ given reader ++ (run.line ++ 10 ∷ []) → given further ≡ lines_bytes (lines ++ run ∷ [])
 more_bytes lines run reader further before more = more ∙ ap (λ b. b ++ (run.line ++ 10 ∷ [])) before ∙ sym (bytes_both lines (run ∷ []))
 
--- one more line was run
-pub one_watched : (watching : Watching) (known now next old mid new : Option (List ℕ)) (reader further : ScriptLines) (from c1 c2 : Progress) (number : ℕ)
-    → WatchedSoFar watching known now old mid reader from c1 number → GivesLine reader further → IsReadFrom known next further
-    → LineWatched watching number (line_in_hand further) mid new c1 c2 → WatchedSoFar watching known next old new further from c2 (number + 1)
-one_watched watching known now next old mid new reader further from c1 c2 number so_far gives read done =
-    let lines = so_far.lines in
-    let run : LineRun = record { line = line_in_hand further; said = done.said; refused = done.refused } in
-    record {
-      lines = lines ++ run ∷ [];
-      run = run_both lines (run ∷ []) from.state c1.state c2.state so_far.run (c2.state, record { one = gives.0; does = done.does }, refl);
-      formed = formed_more watching lines run so_far.formed done.formed;
-      number = omega (arith, so_far.number, length_more lines run);
-      bytes = more_bytes lines run reader further so_far.bytes gives.1;
-      out = subst (Appends old new) (sym (shown_more watching lines 1 number run so_far.number)) (appends_both old mid new (shown_out watching 1 lines) (shown watching number run) so_far.out done.out);
-      count = omega (arith, so_far.count, done.count, refused_both lines (run ∷ []));
-      read = read;
-    }
+module _ {T : Type 0} (hears : Hears T) (watching : Watching) (known : Option (List ℕ)) (before : T) where
+  -- no line was run yet
+  pub none_watched : (old : Option (List ℕ)) (reader : ScriptLines) (from : Progress) → given reader ≡ [] → reader.bytes.items ≡ [] → reader.reading ≡ Reading.Open → WatchedSoFar hears watching known known old old before before reader from from 1
+  none_watched old reader from none empty opened = record {
+    lines = [];
+    texts = [];
+    run = refl;
+    heard = heard_none hears watching.explain before;
+    formed = tt;
+    number = omega arith;
+    bytes = none;
+    out = nothing_out old;
+    count = omega arith;
+    read = subst (λ r. IsReadAs r known known reader.bytes.items) (sym opened) (none_read known reader.bytes.items empty, omega (arith, ap length empty));
+  }
 
--- the last line was run
-pub all_watched : (watching : Watching) (known now next old new : Option (List ℕ)) (reader further : ScriptLines) (from to : Progress) (number : ℕ) → WatchedSoFar watching known now old new reader from to number
-    → given further ≡ given reader → IsGivenOut further → IsReadFrom known next further → WatchedWhole watching known old new from to
-all_watched watching known now next old new reader further from to number so_far same end read = record {
-  lines = so_far.lines;
-  run = so_far.run;
-  formed = so_far.formed;
-  all = subst (λ bytes. IfSome known (λ script. bytes ≡ script ++ 10 ∷ [])) (same ∙ so_far.bytes) (all_given known next further read end).0;
-  out = so_far.out;
-  count = so_far.count;
-}
+  -- one more line was run
+  pub one_watched : (now next old mid new : Option (List ℕ)) (told after : T) (reader further : ScriptLines) (from c1 c2 : Progress) (number : ℕ) (waited : CutList)
+      → WatchedSoFar hears watching known now old mid before told reader from c1 number → GivesLine reader further → IsReadFrom known next further → KnowsCuts watching waited c1.state.script.stage
+      → LineWatched hears watching number (line_in_hand further) waited mid new told after c1 c2 → WatchedSoFar hears watching known next old new before after further from c2 (number + 1)
+  one_watched now next old mid new told after reader further from c1 c2 number waited so_far gives read knows done =
+      let lines = so_far.lines in
+      let run : LineRun = record { line = line_in_hand further; said = done.said; refused = done.refused } in
+      record {
+        lines = lines ++ run ∷ [];
+        texts = so_far.texts ++ done.told ∷ [];
+        run = tell_more watching 1 number from.state c1.state c2.state lines run so_far.texts done.told so_far.number so_far.run (record { one = gives.0; does = done.does })
+            (told_of watching number run.line run.refused waited c1.state.script.stage c2.state.script done.told knows done.tells);
+        heard = heard_more hears watching.explain before told after so_far.texts done.told so_far.heard done.heard;
+        formed = formed_more watching lines run so_far.formed done.formed;
+        number = omega (arith, so_far.number, length_more lines run);
+        bytes = more_bytes lines run reader further so_far.bytes gives.1;
+        out = subst (Appends old new) (sym (shown_more watching lines 1 number run so_far.number)) (appends_both old mid new (shown_out watching 1 lines) (shown watching number run) so_far.out done.out);
+        count = omega (arith, so_far.count, done.count, refused_both lines (run ∷ []));
+        read = read;
+      }
 
--- a fault before the next line
-pub watched_stops : (watching : Watching) (known now old new : Option (List ℕ)) (reader : ScriptLines) (from to : Progress) (number : ℕ) → WatchedSoFar watching known now old new reader from to number → WatchedPart watching known old new from
-watched_stops watching known now old new reader from to number so_far =
-    let first = first_given known now reader so_far.read in
-    record {
-      lines = so_far.lines;
-      to = to.state;
-      rest = first.0;
-      run = so_far.run;
-      formed = so_far.formed;
-      first = subst (λ bytes. IfSome known (λ script. bytes ++ first.0 ≡ script ++ 10 ∷ [])) so_far.bytes first.1;
-      out = some_out old new (shown_out watching 1 so_far.lines) so_far.out;
-    }
+  -- the last line was run
+  pub all_watched : (now next old new : Option (List ℕ)) (after : T) (reader further : ScriptLines) (from to : Progress) (number : ℕ) → WatchedSoFar hears watching known now old new before after reader from to number
+      → given further ≡ given reader → IsGivenOut further → IsReadFrom known next further → WatchedWhole hears watching known old new before after from to
+  all_watched now next old new after reader further from to number so_far same end read = record {
+    lines = so_far.lines;
+    texts = so_far.texts;
+    run = so_far.run;
+    heard = so_far.heard;
+    formed = so_far.formed;
+    all = subst (λ bytes. IfSome known (λ script. bytes ≡ script ++ 10 ∷ [])) (same ∙ so_far.bytes) (all_given known next further read end).0;
+    out = so_far.out;
+    count = so_far.count;
+  }
 
-known_split : (known : Option (List ℕ)) (a b : List ℕ) → a ≡ b → IfSome known (λ script. a ≡ script ++ 10 ∷ []) → IfSome known (λ script. b ≡ script ++ 10 ∷ [])
-known_split known a b e h = subst (λ bytes. IfSome known (λ script. bytes ≡ script ++ 10 ∷ [])) e h
+  -- a fault before the next line
+  pub watched_stops : (now old new : Option (List ℕ)) (after : T) (reader : ScriptLines) (from to : Progress) (number : ℕ) → WatchedSoFar hears watching known now old new before after reader from to number
+      → WatchedPart hears watching known old new before after from
+  watched_stops now old new after reader from to number so_far =
+      let first = first_given known now reader so_far.read in
+      record {
+        lines = so_far.lines;
+        texts = so_far.texts;
+        to = to.state;
+        rest = first.0;
+        run = so_far.run;
+        heard = inl so_far.heard;
+        formed = so_far.formed;
+        first = subst (λ bytes. IfSome known (λ script. bytes ++ first.0 ≡ script ++ 10 ∷ [])) so_far.bytes first.1;
+        out = some_out old new (shown_out watching 1 so_far.lines) so_far.out;
+      }
 
--- a line at which the run ends
-pub watched_ends : (watching : Watching) (known now next old mid new : Option (List ℕ)) (reader further : ScriptLines) (from c1 : Progress) (number : ℕ) (fault : WatchFault)
-    → WatchedSoFar watching known now old mid reader from c1 number → GivesLine reader further → IsReadFrom known next further
-    → LineFails watching number (line_in_hand further) mid new c1 fault → WatchedEnds watching known old new from fault
-watched_ends watching known now next old mid new reader further from c1 number (WatchFault.Script fault) so_far gives read (inl same) =
-    subst (λ out. WatchedPart watching known old out from) (sym same) (watched_stops watching known now old mid reader from c1 number so_far)
-watched_ends watching known now next old mid new reader further from c1 number (WatchFault.Script fault) so_far gives read (inr cut) =
-    let lines = so_far.lines in
-    let run : LineRun = record { line = line_in_hand further; said = cut.said; refused = cut.refused } in
-    let first = first_given known next further read in
-    record {
-      lines = lines ++ run ∷ [];
-      to = cut.to;
-      rest = first.0;
-      run = run_both lines (run ∷ []) from.state c1.state cut.to so_far.run (cut.to, record { one = gives.0; does = cut.does }, refl);
-      formed = formed_more watching lines run so_far.formed cut.formed;
-      first = subst (λ bytes. IfSome known (λ script. bytes ++ first.0 ≡ script ++ 10 ∷ [])) (more_bytes lines run reader further so_far.bytes gives.1) first.1;
-      out = subst (AppendsSome old new) (sym (shown_more watching lines 1 number run so_far.number)) (some_after old mid new (shown_out watching 1 lines) (shown watching number run) so_far.out cut.out);
-    }
-watched_ends watching known now next old mid new reader further from c1 number (WatchFault.NoForm told) so_far gives read (none, strict, why, same) =
-    let lines = so_far.lines in
-    let line = line_in_hand further in
-    let first = first_given known next further read in
-    let split : given further ++ first.0 ≡ lines_bytes lines ++ (line ++ 10 ∷ first.0) =
-    ap (λ b. b ++ first.0) (gives.1 ∙ ap (λ b. b ++ (line ++ 10 ∷ [])) so_far.bytes) ∙ append_assoc (lines_bytes lines) (line ++ 10 ∷ []) first.0 ∙ ap (λ b. lines_bytes lines ++ b) (append_assoc line (10 ∷ []) first.0) in
-    record {
-      lines = lines;
-      to = c1.state;
-      line = line;
-      rest = first.0;
-      strict = strict;
-      none = none;
-      why = subst (λ n. IsLastReason n line told) so_far.number why;
-      run = so_far.run;
-      formed = so_far.formed;
-      first = known_split known (given further ++ first.0) (lines_bytes lines ++ (line ++ 10 ∷ first.0)) split first.1;
-      out = subst (λ out. Appends old out (shown_out watching 1 lines)) (sym same) so_far.out;
-    }
+  -- a line at which the run ends
+  pub watched_ends : (now next old mid new : Option (List ℕ)) (told after : T) (reader further : ScriptLines) (from c1 : Progress) (number : ℕ) (waited : CutList) (fault : WatchFault)
+      → WatchedSoFar hears watching known now old mid before told reader from c1 number → GivesLine reader further → IsReadFrom known next further → KnowsCuts watching waited c1.state.script.stage → after ≡ told
+      → LineFails watching number (line_in_hand further) waited mid new c1 fault → WatchedEnds hears watching known old new before after from fault
+  watched_ends now next old mid new told after reader further from c1 number waited (WatchFault.Script fault) so_far gives read knows untold (inl same) =
+      subst (λ out. WatchedPart hears watching known old out before after from) (sym same) (subst (λ v. WatchedPart hears watching known old mid before v from) (sym untold) (watched_stops now old mid told reader from c1 number so_far))
+  watched_ends now next old mid new told after reader further from c1 number waited (WatchFault.Script fault) so_far gives read knows untold (inr cut) =
+      let lines = so_far.lines in
+      let run : LineRun = record { line = line_in_hand further; said = cut.said; refused = cut.refused } in
+      let first = first_given known next further read in
+      record {
+        lines = lines ++ run ∷ [];
+        texts = so_far.texts ++ cut.told ∷ [];
+        to = cut.to;
+        rest = first.0;
+        run = tell_more watching 1 number from.state c1.state cut.to lines run so_far.texts cut.told so_far.number so_far.run (record { one = gives.0; does = cut.does })
+            (told_of watching number run.line run.refused waited c1.state.script.stage cut.to.script cut.told knows cut.tells);
+        heard = inr (so_far.texts, cut.told, refl, subst (λ v. HeardIf hears watching.explain before so_far.texts v) (sym untold) so_far.heard);
+        formed = formed_more watching lines run so_far.formed cut.formed;
+        first = subst (λ bytes. IfSome known (λ script. bytes ++ first.0 ≡ script ++ 10 ∷ [])) (more_bytes lines run reader further so_far.bytes gives.1) first.1;
+        out = subst (AppendsSome old new) (sym (shown_more watching lines 1 number run so_far.number)) (some_after old mid new (shown_out watching 1 lines) (shown watching number run) so_far.out cut.out);
+      }
+  watched_ends now next old mid new told after reader further from c1 number waited (WatchFault.NoForm reason) so_far gives read knows untold (none, strict, why, same) =
+      let lines = so_far.lines in
+      let line = line_in_hand further in
+      let first = first_given known next further read in
+      let split : given further ++ first.0 ≡ lines_bytes lines ++ (line ++ 10 ∷ first.0) =
+      ap (λ b. b ++ first.0) (gives.1 ∙ ap (λ b. b ++ (line ++ 10 ∷ [])) so_far.bytes) ∙ append_assoc (lines_bytes lines) (line ++ 10 ∷ []) first.0 ∙ ap (λ b. lines_bytes lines ++ b) (append_assoc line (10 ∷ []) first.0) in
+      record {
+        lines = lines;
+        texts = so_far.texts;
+        to = c1.state;
+        line = line;
+        rest = first.0;
+        strict = strict;
+        none = none;
+        why = subst (λ n. IsLastReason n line reason) so_far.number why;
+        run = so_far.run;
+        heard = subst (λ v. HeardIf hears watching.explain before so_far.texts v) (sym untold) so_far.heard;
+        formed = so_far.formed;
+        first = subst (λ bytes. IfSome known (λ script. bytes ≡ script ++ 10 ∷ [])) split first.1;
+        out = subst (λ out. Appends old out (shown_out watching 1 lines)) (sym same) so_far.out;
+      }
 
--- no line was run
-pub none_ran : (watching : Watching) (known old : Option (List ℕ)) (from : Progress) → WatchedPart watching known old old from
-none_ran watching known old from = record {
-  lines = [];
-  to = from.state;
-  rest = unread known ++ 10 ∷ [];
-  run = refl;
-  formed = tt;
-  first = script_is known known [] [] [] (none_read known [] refl) refl;
-  out = some_out old old [] (nothing_out old);
-}
+  -- no line was run
+  pub none_ran : (old : Option (List ℕ)) (from : Progress) → WatchedPart hears watching known old old before before from
+  none_ran old from = record {
+    lines = [];
+    texts = [];
+    to = from.state;
+    rest = unread known ++ 10 ∷ [];
+    run = refl;
+    heard = inl (heard_none hears watching.explain before);
+    formed = tt;
+    first = script_is known known [] [] [] (none_read known [] refl) refl;
+    out = some_out old old [] (nothing_out old);
+  }
 
--- a line that was run, as it is shown
-pub line_ran : (watching : Watching) (number : ℕ) (line said text : List ℕ) (outcome : Result (Unit {0}) (Stop Refusal)) (from to : Progress) → LineRuns from.state line said (refusal_in outcome) to.state
-    → text ≡ numbered_by watching number (echoed watching line ++ (said ++ end_text outcome)) → to.refused ≡ min (from.refused + refusals outcome) 18446744073709551615 → LineRan watching number line text from to
-line_ran watching number line said text outcome from to does shows count = record {
+-- a refusal that is noted changes nothing on the bus
+pub stays_there : (now : Standing) (outcome : Result (Unit {0}) (Stop Refusal)) → (noted now outcome).script ≡ now.script
+stays_there now (Ok done) = refl
+stays_there now (Err (Stop.Refused why)) = refl
+stays_there now (Err Stop.Memory) = refl
+
+-- what is told of a line that isn't short of memory
+told_in : (watching : Watching) (number : ℕ) (line : List ℕ) (outcome : Result (Unit {0}) (Stop Refusal)) (waited : CutList) (after : ScriptState) (told : List ℕ) → outcome ≢ Err Stop.Memory
+    → IsExplainedIf watching number line outcome waited after told → IsTold watching number line (refusal_in outcome) waited after told
+unfolding refusal_in
+told_in watching number line (Ok done) waited after told alive tells on = tells on
+told_in watching number line (Err (Stop.Refused why)) waited after told alive tells on = tells on
+told_in watching number line (Err Stop.Memory) waited after told alive tells on = absurd (alive refl)
+
+-- a line that was run, as it is shown and told
+pub line_ran : (watching : Watching) (number : ℕ) (line said text told : List ℕ) (outcome : Result (Unit {0}) (Stop Refusal)) (waited : CutList) (from to : Progress) → LineRuns from.state line said (refusal_in outcome) to.state → outcome ≢ Err Stop.Memory
+    → IsExplainedIf watching number line outcome waited to.state.script told → text ≡ numbered_by watching number (echoed watching line ++ (said ++ end_text outcome)) → to.refused ≡ min (from.refused + refusals outcome) 18446744073709551615
+    → LineRan watching number line waited text told from to
+line_ran watching number line said text told outcome waited from to does alive tells shows count = record {
   said = said;
   refused = refusal_in outcome;
   does = does;
+  tells = told_in watching number line outcome waited to.state.script told alive tells;
   text = shows ∙ ap (λ t. numbered_by watching number (echoed watching line ++ (said ++ t))) (its_text outcome);
   count = count ∙ ap (λ n. min (from.refused + n) 18446744073709551615) (its_refusals outcome);
 }

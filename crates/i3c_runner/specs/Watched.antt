@@ -1,15 +1,20 @@
--- What goes out of a script that is watched.
+-- What goes out of a script that is watched, and what its witness is told.
 use Rattle.std.specs.Prelude.{◌≡◌, ◌⊎◌, ℕ, ◌+◌, ◌==◌, Bool, true, false, List, [], ◌∷◌, ◌++◌, codes, length, min, Option, IfSome, Result, if◌then◌else◌, MatchResult}
 use Rattle.std.specs.Fmt.{decimal}
 use Rattle.std.specs.Io.KnownBytes.{Appends}
+use Rattle.i3c_base.specs.Cutting.{CutList}
 use Rattle.i3c_lines.specs.declared.refusals.Refusal.{Refusal}
 use Rattle.i3c_lines.specs.Faults.{IsReason}
+use Rattle.i3c_text.specs.declared.stop.Stop.{Stop}
+use Rattle.i3c_script.specs.declared.stage.Stage.{Stage}
+use Rattle.i3c_script.specs.Obeying.{ScriptState}
 use Rattle.i3c_streams.specs.declared.tally.Tally.{Tally}
 use Rattle.i3c_streams.specs.declared.watching.Watching.{Watching}
 use Rattle.i3c_runner.specs.declared.watched.WatchFault.{WatchFault}
 use Rattle.i3c_runner.specs.Expecting.{HasBegun, IsBad, Standing}
 use Rattle.i3c_streams.specs.Outcomes.{AppendsSome}
-use Rattle.i3c_runner.specs.Scripts.{LineRun, LineRuns, LinesLead, lines_bytes, lines_out, lines_refused, refusals_of, run_text}
+use Rattle.i3c_runner.specs.Reasons.{IsExplained, IsOutcomeTold, cuts_on}
+use Rattle.i3c_runner.specs.Scripts.{IsLineRun, LineRun, LineRuns, lines_bytes, lines_out, lines_refused, refusals_of, run_text}
 use Rattle.i3c_runner.specs.ScriptSteps.{Progress}
 
 -- a text with this start in front of each of its lines; the second argument says whether a line begins here
@@ -58,89 +63,141 @@ abbrev pub AreFormed : Watching → List LineRun → Type 0
 AreFormed watching [] = Unit {0}
 AreFormed watching (run ∷ rest) = IsFormed watching run.line × AreFormed watching rest
 
--- a line was run and shown
-pub record LineWatched (watching : Watching) (number : ℕ) (line : List ℕ) (old new : Option (List ℕ)) (from to : Progress) : Type 0 where
+-- what a witness may be after it was told a text
+abbrev pub Hears : Type 0 → Type 1
+Hears T = T → List ℕ → T → Type 0
+
+-- a witness was told these texts, in their order
+abbrev pub AreHeard : {T : Type 0} → Hears T → T → List (List ℕ) → T → Type 0
+AreHeard hears old [] new = new ≡ old
+AreHeard {T} hears old (told ∷ rest) new = (mid : T) × hears old told mid × AreHeard hears mid rest new
+
+-- the same if explanations are asked for; otherwise a witness is told nothing
+abbrev pub HeardIf : {T : Type 0} → Hears T → Bool → T → List (List ℕ) → T → Type 0
+HeardIf hears true old texts new = AreHeard hears old texts new
+HeardIf hears false old texts new = new ≡ old
+
+-- a witness was told the texts of these lines, or of all but the last
+abbrev pub HeardFirst : {T : Type 0} → Hears T → Bool → T → List (List ℕ) → T → Type 0
+HeardFirst hears explain old texts new =
+    HeardIf hears explain old texts new ⊎ ((first : List (List ℕ)) × (last : List ℕ) × (texts ≡ first ++ last ∷ []) × HeardIf hears explain old first new)
+
+-- what there is to tell of a line, before which these cuts waited, if explanations are asked for
+abbrev pub IsTold : Watching → ℕ → List ℕ → Option Refusal → CutList → ScriptState → List ℕ → Type 0
+IsTold watching number line refused waited after told = watching.explain ≡ true → IsExplained number line refused waited after told
+
+-- the same of a line with this result
+abbrev pub IsExplainedIf : Watching → ℕ → List ℕ → Result (Unit {0}) (Stop Refusal) → CutList → ScriptState → List ℕ → Type 0
+IsExplainedIf watching number line outcome waited after told = watching.explain ≡ true → IsOutcomeTold number line outcome waited after told
+
+-- if explanations are asked for, the cuts that wait on a stage are known
+abbrev pub KnowsCuts : Watching → CutList → Stage → Type 0
+KnowsCuts watching known stage = watching.explain ≡ true → known ≡ cuts_on stage
+
+-- a line was run, shown and told. The cuts that waited before it are given
+pub record LineWatched {T : Type 0} (hears : Hears T) (watching : Watching) (number : ℕ) (line : List ℕ) (waited : CutList) (old new : Option (List ℕ)) (before after : T) (from to : Progress) : Type 0 where
   pub said : List ℕ
   pub refused : Option Refusal
+  pub told : List ℕ
   pub formed : IsFormed watching line
   pub does : LineRuns from.state line said refused to.state
+  pub tells : IsTold watching number line refused waited to.state.script told
+  pub heard : HeardIf hears watching.explain before (told ∷ []) after
   pub out : Appends old new (shown watching number (record { line = line; said = said; refused = refused }))
   pub count : to.refused ≡ min (from.refused + refusals_of refused) 18446744073709551615
 
--- a line was run, and this is to be shown of it
-pub record LineRan (watching : Watching) (number : ℕ) (line shows : List ℕ) (from to : Progress) : Type 0 where
+-- a line was run; this is to be shown of it, and that is to be told
+pub record LineRan (watching : Watching) (number : ℕ) (line : List ℕ) (waited : CutList) (shows told : List ℕ) (from to : Progress) : Type 0 where
   pub said : List ℕ
   pub refused : Option Refusal
   pub does : LineRuns from.state line said refused to.state
+  pub tells : IsTold watching number line refused waited to.state.script told
   pub text : shows ≡ shown watching number (record { line = line; said = said; refused = refused })
   pub count : to.refused ≡ min (from.refused + refusals_of refused) 18446744073709551615
 
 -- a line was run, and a prefix of its output was written out
-pub record LineCut (watching : Watching) (number : ℕ) (line : List ℕ) (old new : Option (List ℕ)) (from : Progress) : Type 0 where
+pub record LineCut (watching : Watching) (number : ℕ) (line : List ℕ) (waited : CutList) (old new : Option (List ℕ)) (from : Progress) : Type 0 where
   pub said : List ℕ
   pub refused : Option Refusal
+  pub told : List ℕ
   pub to : Standing
   pub formed : IsFormed watching line
   pub does : LineRuns from.state line said refused to
+  pub tells : IsTold watching number line refused waited to.script told
   pub out : AppendsSome old new (shown watching number (record { line = line; said = said; refused = refused }))
 
 -- what ends the run at a line: a fault, before which a prefix of the line's output was written out, or nothing; or that the
 -- line has no form
-abbrev pub LineFails : Watching → ℕ → List ℕ → Option (List ℕ) → Option (List ℕ) → Progress → WatchFault → Type 0
-LineFails watching number line old new from (WatchFault.Script fault) = (new ≡ old) ⊎ LineCut watching number line old new from
-LineFails watching number line old new from (WatchFault.NoForm told) = IsBad line × (watching.strict ≡ true) × IsLastReason number line told × (new ≡ old)
+abbrev pub LineFails : Watching → ℕ → List ℕ → CutList → Option (List ℕ) → Option (List ℕ) → Progress → WatchFault → Type 0
+LineFails watching number line waited old new from (WatchFault.Script fault) = (new ≡ old) ⊎ LineCut watching number line waited old new from
+LineFails watching number line waited old new from (WatchFault.NoForm told) = IsBad line × (watching.strict ≡ true) × IsLastReason number line told × (new ≡ old)
 
--- the result of a line
-abbrev pub LineEndsWatched : Watching → ℕ → List ℕ → Option (List ℕ) → Option (List ℕ) → Progress → Progress → Result (Unit {0}) WatchFault → Type 0
-LineEndsWatched watching number line old new from to result =
-    MatchResult result (λ _. LineWatched watching number line old new from to) (LineFails watching number line old new from)
+-- the result of a line: with a fault the witness isn't told of it
+abbrev pub LineEndsWatched : {T : Type 0} → Hears T → Watching → ℕ → List ℕ → CutList → Option (List ℕ) → Option (List ℕ) → T → T → Progress → Progress → Result (Unit {0}) WatchFault → Type 0
+LineEndsWatched hears watching number line waited old new before after from to result =
+    MatchResult result (λ _. LineWatched hears watching number line waited old new before after from to) (λ fault. (after ≡ before) × LineFails watching number line waited old new from fault)
 
--- lines were run from one state on, and shown
-pub record WatchedWhole (watching : Watching) (known old new : Option (List ℕ)) (from to : Progress) : Type 0 where
+-- lines, counted from this number on, lead from one state to another, and these texts tell of them
+abbrev pub LinesTell : Watching → ℕ → Standing → List LineRun → List (List ℕ) → Standing → Type 0
+LinesTell watching number old [] [] new = new ≡ old
+LinesTell watching number old [] (told ∷ texts) new = ⊥
+LinesTell watching number old (run ∷ rest) [] new = ⊥
+LinesTell watching number old (run ∷ rest) (told ∷ texts) new =
+    (mid : Standing) × IsLineRun old run mid × IsTold watching number run.line run.refused (cuts_on old.script.stage) mid.script told × LinesTell watching (number + 1) mid rest texts new
+
+-- lines were run from one state on, shown and told
+pub record WatchedWhole {T : Type 0} (hears : Hears T) (watching : Watching) (known old new : Option (List ℕ)) (before after : T) (from to : Progress) : Type 0 where
   pub lines : List LineRun
-  pub run : LinesLead from.state lines to.state
+  pub texts : List (List ℕ)
+  pub run : LinesTell watching 1 from.state lines texts to.state
+  pub heard : HeardIf hears watching.explain before texts after
   pub formed : AreFormed watching lines
   pub all : IfSome known (λ script. lines_bytes lines ≡ script ++ 10 ∷ [])
   pub out : Appends old new (shown_out watching 1 lines)
   pub count : min to.refused 18446744073709551615 ≡ min (from.refused + lines_refused lines) 18446744073709551615
 
 -- the first lines of a script were run, and then a fault ended the run: a prefix of their output was written out
-pub record WatchedPart (watching : Watching) (known old new : Option (List ℕ)) (from : Progress) : Type 0 where
+pub record WatchedPart {T : Type 0} (hears : Hears T) (watching : Watching) (known old new : Option (List ℕ)) (before after : T) (from : Progress) : Type 0 where
   pub lines : List LineRun
+  pub texts : List (List ℕ)
   pub to : Standing
   pub rest : List ℕ
-  pub run : LinesLead from.state lines to
+  pub run : LinesTell watching 1 from.state lines texts to
+  pub heard : HeardFirst hears watching.explain before texts after
   pub formed : AreFormed watching lines
   pub first : IfSome known (λ script. lines_bytes lines ++ rest ≡ script ++ 10 ∷ [])
   pub out : AppendsSome old new (shown_out watching 1 lines)
 
--- the lines before one without a form were run, and all that is shown of them went out; the fault tells this line
-pub record WatchedTo (watching : Watching) (known old new : Option (List ℕ)) (from : Progress) (told : List ℕ) : Type 0 where
+-- the lines before one without a form were run, and all that is shown and told of them went out; the fault tells this line
+pub record WatchedTo {T : Type 0} (hears : Hears T) (watching : Watching) (known old new : Option (List ℕ)) (before after : T) (from : Progress) (told : List ℕ) : Type 0 where
   pub lines : List LineRun
+  pub texts : List (List ℕ)
   pub to : Standing
   pub line : List ℕ
   pub rest : List ℕ
   pub strict : watching.strict ≡ true
   pub none : IsBad line
   pub why : IsLastReason (1 + length lines) line told
-  pub run : LinesLead from.state lines to
+  pub run : LinesTell watching 1 from.state lines texts to
+  pub heard : HeardIf hears watching.explain before texts after
   pub formed : AreFormed watching lines
   pub first : IfSome known (λ script. lines_bytes lines ++ (line ++ 10 ∷ rest) ≡ script ++ 10 ∷ [])
   pub out : Appends old new (shown_out watching 1 lines)
 
 -- what ends a run early
-abbrev pub WatchedEnds : Watching → Option (List ℕ) → Option (List ℕ) → Option (List ℕ) → Progress → WatchFault → Type 0
-WatchedEnds watching known old new from (WatchFault.Script fault) = WatchedPart watching known old new from
-WatchedEnds watching known old new from (WatchFault.NoForm told) = WatchedTo watching known old new from told
+abbrev pub WatchedEnds : {T : Type 0} → Hears T → Watching → Option (List ℕ) → Option (List ℕ) → Option (List ℕ) → T → T → Progress → WatchFault → Type 0
+WatchedEnds hears watching known old new before after from (WatchFault.Script fault) = WatchedPart hears watching known old new before after from
+WatchedEnds hears watching known old new before after from (WatchFault.NoForm told) = WatchedTo hears watching known old new before after from told
 
 -- the result of a run
-abbrev pub RunsWatched : Watching → Option (List ℕ) → Option (List ℕ) → Option (List ℕ) → Progress → Progress → Result (Unit {0}) WatchFault → Type 0
-RunsWatched watching known old new from to result = MatchResult result (λ _. WatchedWhole watching known old new from to) (WatchedEnds watching known old new from)
+abbrev pub RunsWatched : {T : Type 0} → Hears T → Watching → Option (List ℕ) → Option (List ℕ) → Option (List ℕ) → T → T → Progress → Progress → Result (Unit {0}) WatchFault → Type 0
+RunsWatched hears watching known old new before after from to result =
+    MatchResult result (λ _. WatchedWhole hears watching known old new before after from to) (WatchedEnds hears watching known old new before after from)
 
 -- the same from a script's start, with no line refused; the tally counts the refused ones, and the expectations that weren't met
-abbrev pub WatchedGoesOut : Watching → Option (List ℕ) → Option (List ℕ) → Option (List ℕ) → Result Tally WatchFault → Type 0
-WatchedGoesOut watching known old new result = (from : Progress) × HasBegun from.state × (from.refused ≡ 0)
-    × MatchResult result (λ tally. (to : Progress) × (to.refused ≡ tally.refused) × (to.state.unmet ≡ tally.unmet) × WatchedWhole watching known old new from to) (WatchedEnds watching known old new from)
+abbrev pub WatchedGoesOut : {T : Type 0} → Hears T → Watching → Option (List ℕ) → Option (List ℕ) → Option (List ℕ) → T → T → Result Tally WatchFault → Type 0
+WatchedGoesOut hears watching known old new before after result = (from : Progress) × HasBegun from.state × (from.refused ≡ 0)
+    × MatchResult result (λ tally. (to : Progress) × (to.refused ≡ tally.refused) × (to.state.unmet ≡ tally.unmet) × WatchedWhole hears watching known old new before after from to) (WatchedEnds hears watching known old new before after from)
 
 -- Without numbers and without the lines themselves, what goes out of lines is what they put out
 abbrev pub WatchedLinesPrintTheSame : Type 0

@@ -8,6 +8,7 @@ ghost use Rattle.i3c_text.specs.declared.stop.Stop.{Stop as StopValue};
 ghost use Rattle.i3c_runner.specs.Scripts.{LinesGoOut, refused_text};
 ghost use Rattle.i3c_lines.specs.Forms.{HasNoForm};
 ghost use Rattle.i3c_runner.specs.Expecting.{AlwaysAt, HasBegun, MarkDoes, TestsAt};
+ghost use Rattle.i3c_runner.specs.Reasons.{IsReadOf};
 ghost use Rattle.i3c_script.specs.Telling.{Prints};
 ghost use Rattle.i3c_runner.specs.ScriptSteps.{HaveLasted, LineEnds, Outlasts, Reads, ReadsAll, ReadsCounted, Runs, Takes, noted, progress, state};
 ghost use Rattle.i3c_streams.specs.Faults.{IsLineFault};
@@ -232,6 +233,7 @@ impl Script {
         ensures gathered { self.new.gathered ≡ self.old.gathered }
         ensures refused { self.new.refused ≡ self.old.refused }
         ensures reads { Reads (state self.old) line.now self.old.text self.new.text result (noted (state self.new) result) }
+        ensures meant { IsReadOf line.now result self.new.command }
     {
         self.lines = self.lines.saturating_add(1);
         match is_skipped(line) {
@@ -323,6 +325,7 @@ impl Script {
         ensures held { self.new.line ≡ self.old.line }
         ensures gathered { self.new.gathered ≡ self.old.gathered }
         ensures refused { self.new.refused ≡ self.old.refused }
+        ensures command { self.new.command ≡ self.old.command }
         ensures lasts { Outlasts (state self.old) self.old.text self.new.text outcome result (state self.new) }
     {
         match outcome {
@@ -340,6 +343,7 @@ impl Script {
         ensures held { self.new.line ≡ self.old.line }
         ensures gathered { self.new.gathered ≡ self.old.gathered }
         ensures refused { self.new.refused ≡ self.old.refused }
+        ensures command { self.new.command ≡ self.old.command }
         ensures lasts { Outlasts (state self.old) self.old.text self.new.text (Err (StopValue.Refused why.now)) result (state self.new) }
     {
         self.before = Before::Refused(*why);
@@ -352,6 +356,7 @@ impl Script {
         ensures held { self.new.line ≡ self.old.line }
         ensures gathered { self.new.gathered ≡ self.old.gathered }
         ensures refused { self.new.refused ≡ self.old.refused }
+        ensures command { self.new.command ≡ self.old.command }
         ensures lasts { OnOk result (HaveLasted (state self.old) self.old.text self.new.text (state self.new)) }
     {
         let Stage::Running(running) = &self.stage else {

@@ -2,7 +2,8 @@ ghost use Rattle.std.specs.Prelude.{◌≡◌, ◌+◌, ◌<◌, ◌≤◌, ◌+
 ghost use Rattle.std.specs.Fmt.{decimal};
 ghost use Rattle.std.specs.Io.KnownBytes.{Appends, IsAtEnd};
 ghost use Rattle.i3c_lines.specs.Faults.{IsFaultText};
-ghost use Rattle.i3c_runner.specs.Watched.{WatchedGoesOut, numbered};
+ghost use Rattle.i3c_runner.specs.Reasons.{IsReadOf};
+ghost use Rattle.i3c_runner.specs.Watched.{HeardIf, IsExplainedIf, KnowsCuts, WatchedGoesOut, numbered};
 
 use crate::expecting::line_fault;
 use crate::reasons::Known;
@@ -18,8 +19,12 @@ const LINE_FEED: u8 = b'\n';
 
 /// A witness is told why lines are refused.
 pub trait Witness {
-    /// Is told this line, with its line feed.
-    fn tell(&mut self, line: &[u8]);
+    /// What a witness may be after it was told this.
+    ghost hears: { Self → List ℕ → Self → Type 0 };
+
+    /// Is told all that there is to tell of a line that was run: lines with their line feeds, or nothing.
+    fn tell(&mut self, told: &[u8])
+        ensures { hears self.old told.now self.new };
 }
 
 /// Why a watched run ended early.
@@ -43,7 +48,8 @@ pub fn run_watched<R: Read, W: Write, T: Witness>(
 ) -> Result<Tally, WatchFault>
     ensures whole { OnOk result (IsAtEnd (R.remaining reader.new)) }
     ensures fits { OnOk result (IfSome (R.remaining reader.old) (λ bytes. length bytes ≤ MOST_BYTES)) }
-    ensures lines { WatchedGoesOut watching (R.remaining reader.old) (W.contents writer.old) (W.contents writer.new) result }
+    // what its lines print goes out, and the witness is told of them in their order, if explanations are asked for
+    ensures lines { WatchedGoesOut T.hears watching (R.remaining reader.old) (W.contents writer.old) (W.contents writer.new) witness.old witness.new result }
 {
     let mut run = WatchedRun::new(alloc, watching);
     let Ok(mut chunk) = vec![in alloc; 0u8; CHUNK] else {
@@ -82,6 +88,7 @@ impl WatchedRun {
         ensures begun { HasBegun (state result.script) }
         ensures refused { result.script.refused ≡ 0 }
         ensures watching { result.watching ≡ watching }
+        ensures knows { KnowsCuts watching result.known.cuts result.script.stage }
     {
         WatchedRun {
             script: Script::new(alloc),
@@ -101,10 +108,11 @@ impl WatchedRun {
         out: &mut W,
         witness: &mut T,
     ) -> Result<(), WatchFault>
-        requires { 0 < length chunk.old }
+        requires room { 0 < length chunk.old }
+        requires knows { KnowsCuts self.old.watching self.old.known.cuts self.old.script.stage }
         ensures whole { OnOk result (IsAtEnd (R.remaining reader.new)) }
         ensures fits { OnOk result (IfSome (R.remaining reader.old) (λ bytes. length bytes ≤ MOST_BYTES)) }
-        ensures runs { RunsWatched self.old.watching (R.remaining reader.old) (W.contents out.old) (W.contents out.new) (progress self.old.script) (progress self.new.script) result }
+        ensures runs { RunsWatched T.hears self.old.watching (R.remaining reader.old) (W.contents out.old) (W.contents out.new) witness.old witness.new (progress self.old.script) (progress self.new.script) result }
     {
         let mut lines = ScriptLines::new(self.script.alloc);
         for number in 1..u64::MAX {
@@ -130,7 +138,8 @@ impl WatchedRun {
         out: &mut W,
         witness: &mut T,
     ) -> Result<(), WatchFault>
-        ensures ends { LineEndsWatched self.old.watching number line.now (W.contents out.old) (W.contents out.new) (progress self.old.script) (progress self.new.script) result }
+        ensures ends { LineEndsWatched T.hears self.old.watching number line.now self.old.known.cuts (W.contents out.old) (W.contents out.new) witness.old witness.new (progress self.old.script) (progress self.new.script) result }
+        ensures knows { OnOk result (KnowsCuts self.old.watching self.new.known.cuts self.new.script.stage) }
         ensures watching { self.new.watching ≡ self.old.watching }
     {
         match self.formless(number, line) {
@@ -145,10 +154,17 @@ impl WatchedRun {
             Ok(()) => {}
             Err(fault) => return Err(WatchFault::Script(fault)),
         }
+        self.tell(witness);
+        Ok(())
+    }
+
+    /// Tells the witness of the line, if that is asked for.
+    fn tell<T: Witness>(&self, witness: &mut T)
+        ensures { HeardIf T.hears self.now.watching.explain witness.old (self.now.told ∷ []) witness.new }
+    {
         if self.watching.explain {
             witness.tell(self.told.as_bytes());
         }
-        Ok(())
     }
 
     /// Why a strict run ends at a line, if the line has no form: its number, and why.
@@ -171,7 +187,8 @@ impl WatchedRun {
 
     /// Obeys a line. What is to be shown and told of it waits.
     fn obey(&mut self, number: u64, line: &[u8]) -> Result<(), ScriptFault>
-        ensures ran { OnOk result (LineRan self.old.watching number line.now self.new.shown (progress self.old.script) (progress self.new.script)) }
+        ensures ran { OnOk result (LineRan self.old.watching number line.now self.old.known.cuts self.new.shown self.new.told (progress self.old.script) (progress self.new.script)) }
+        ensures knows { OnOk result (KnowsCuts self.old.watching self.new.known.cuts self.new.script.stage) }
         ensures watching { self.new.watching ≡ self.old.watching }
     {
         self.script.text.clear();
@@ -197,6 +214,9 @@ impl WatchedRun {
         line: &[u8],
         outcome: &Result<(), Stop<Refusal>>,
     ) -> Result<(), AllocError>
+        requires { IsReadOf line.now outcome.now self.old.script.command }
+        ensures told { OnOk result (IsExplainedIf self.old.watching number line.now outcome.now self.old.known.cuts (state self.old.script).script self.new.told) }
+        ensures knows { OnOk result (KnowsCuts self.old.watching self.new.known.cuts self.old.script.stage) }
         ensures script { self.new.script ≡ self.old.script }
         ensures watching { self.new.watching ≡ self.old.watching }
     {
@@ -213,6 +233,8 @@ impl WatchedRun {
     fn show(&mut self, number: u64, line: &[u8]) -> Result<(), AllocError>
         ensures shown { OnOk result (self.new.shown ≡ numbered_by self.old.watching number (echoed self.old.watching line.now ++ self.old.script.text)) }
         ensures script { self.new.script ≡ self.old.script }
+        ensures told { self.new.told ≡ self.old.told }
+        ensures known { self.new.known ≡ self.old.known }
         ensures watching { self.new.watching ≡ self.old.watching }
     {
         self.echo(line)?;
@@ -224,6 +246,8 @@ impl WatchedRun {
     fn echo(&mut self, line: &[u8]) -> Result<(), AllocError>
         ensures plain { OnOk result (self.new.plain ≡ echoed self.old.watching line.now) }
         ensures script { self.new.script ≡ self.old.script }
+        ensures told { self.new.told ≡ self.old.told }
+        ensures known { self.new.known ≡ self.old.known }
         ensures watching { self.new.watching ≡ self.old.watching }
     {
         self.plain.clear();
@@ -240,6 +264,8 @@ impl WatchedRun {
     fn number(&mut self, number: u64) -> Result<(), AllocError>
         ensures shown { OnOk result (self.new.shown ≡ numbered_by self.old.watching number self.old.plain) }
         ensures script { self.new.script ≡ self.old.script }
+        ensures told { self.new.told ≡ self.old.told }
+        ensures known { self.new.known ≡ self.old.known }
         ensures watching { self.new.watching ≡ self.old.watching }
     {
         self.shown.clear();

@@ -7,7 +7,7 @@ use Rattle.i3c_runner.proofs.watched.run_watched.Goals as goal
 pub returns-in_default-clause-lines : goal.returns-in_default-clause-lines
 returns-in_default-clause-lines g c =
     let from = progress c.new-run.result.script in
-    (from, c.new-run.ensures.begun, c.new-run.ensures.refused, none_ran c.args.watching (g.R.Read.remaining c.args.reader.now) (g.W.Write.contents c.args.writer.now) from)
+    (from, c.new-run.ensures.begun, c.new-run.ensures.refused, none_ran g.T.Witness.hears c.args.watching (g.R.Read.remaining c.args.reader.now) c.args.witness.now (g.W.Write.contents c.args.writer.now) from)
 
 pub returns-clause-lines : goal.returns-clause-lines
 returns-clause-lines g c =
@@ -15,4 +15,6 @@ returns-clause-lines g c =
     let known = g.R.Read.remaining c.args.reader.now in
     let old = g.W.Write.contents c.args.writer.now in
     let new = g.W.Write.contents c.run_all-outcome.new.out in
-    (from, c.new-run.ensures.begun, c.new-run.ensures.refused, subst (λ w. WatchedEnds w known old new from c.in-Err.fault) c.new-run.ensures.watching c.in-Err.ensures.runs)
+    let before = c.args.witness.now in
+    let after = c.run_all-outcome.new.witness in
+    (from, c.new-run.ensures.begun, c.new-run.ensures.refused, subst (λ w. WatchedEnds g.T.Witness.hears w known old new before after from c.in-Err.fault) c.new-run.ensures.watching c.in-Err.ensures.runs)

@@ -4,9 +4,10 @@ use Rattle.i3c_script.specs.Printed.{end_text}
 use Rattle.i3c_script.specs.Stops.{refusals}
 use Rattle.i3c_runner.specs.Scripts.{LineRuns}
 use Rattle.i3c_runner.specs.ScriptSteps.{noted, progress, state}
-use Rattle.i3c_runner.specs.Watched.{echoed, numbered_by}
+use Rattle.i3c_runner.specs.Reasons.{cuts_on}
+use Rattle.i3c_runner.specs.Watched.{IsExplainedIf, echoed, numbered_by}
 use Rattle.i3c_runner.proofs.ScriptRuns.{does_in, passes, refusal_in}
-use Rattle.i3c_runner.proofs.WatchRuns.{line_ran}
+use Rattle.i3c_runner.proofs.WatchRuns.{line_ran, stays_there}
 use Rattle.i3c_runner.proofs.watched.WatchedRun.obey.Goals as goal
 
 pub returns-in-Ok-show-clause-ran : goal.returns-in-Ok-show-clause-ran
@@ -14,10 +15,12 @@ returns-in-Ok-show-clause-ran c =
     let old = c.args.self.now.script in
     let obeyed = c.obey-outcome.new.self in
     let outcome = c.obey-outcome.result in
+    let explained = c.explain.new.self in
     let settled = c.settle.new.self in
     let new = c.show.new.self.script in
     let line = c.args.line.now in
     let watching = c.args.self.now.watching in
+    let waited = c.args.self.now.known.cuts in
     let number = c.args.number in
     let same = c.explain.ensures.script in
     let alive : outcome ≢ Err Stop.Memory = λ short. passes c.settle.result _ c.in-Ok-settle.is (c.settle.ensures.memory short) in
@@ -28,4 +31,13 @@ returns-in-Ok-show-clause-ran c =
     let count : new.refused ≡ min (old.refused + refusals outcome) 18446744073709551615 =
     ap (λ s. s.refused) c.show.ensures.script ∙ c.settle.ensures.counted ∙ ap (λ s. min (s.refused + refusals outcome) 18446744073709551615) same
     ∙ ap (λ n. min (n + refusals outcome) 18446744073709551615) c.obey-outcome.ensures.refused in
-    line_ran watching number line obeyed.text c.show.new.self.shown outcome (progress old) (progress new) (subst (LineRuns (state old) line obeyed.text (refusal_in outcome)) stays does) shows count
+    let there : (state obeyed).script ≡ (state new).script = sym (stays_there (state obeyed) outcome) ∙ ap (λ s. s.script) stays in
+    let tells = subst (λ t. IsExplainedIf watching number line outcome waited (state new).script t) (sym c.show.ensures.told) (subst (λ st. IsExplainedIf watching number line outcome waited st explained.told) there c.in-Ok.ensures.told) in
+    line_ran watching number line obeyed.text c.show.new.self.shown c.show.new.self.told outcome waited (progress old) (progress new) (subst (LineRuns (state old) line obeyed.text (refusal_in outcome)) stays does) alive tells shows count
+
+pub returns-in-Ok-show-clause-knows : goal.returns-in-Ok-show-clause-knows
+returns-in-Ok-show-clause-knows c on =
+    let obeyed = c.obey-outcome.new.self in
+    let outcome = c.obey-outcome.result in
+    let stays : noted (state obeyed) outcome ≡ state c.show.new.self.script = ap (λ s. noted (state s) outcome) (sym c.explain.ensures.script) ∙ sym c.settle.ensures.state ∙ ap (λ s. state s) (sym c.show.ensures.script) in
+    ap (λ k. k.cuts) c.show.ensures.known ∙ c.in-Ok.ensures.knows on ∙ ap (λ s. cuts_on s.stage) (sym (stays_there (state obeyed) outcome)) ∙ ap (λ s. cuts_on s.script.stage) stays
