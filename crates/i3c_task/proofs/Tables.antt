@@ -42,6 +42,7 @@ each_verb P usages are held = go
   where
     all : All P verbs
     all = subst (All P) are (All-map P (λ usage. usage.verb) usages held)
+
     go : (verb : Verb) → P verb
     go Verb.Run = all 0 Verb.Run (omega arith)
     go Verb.Drive = all 1 Verb.Run (omega arith)

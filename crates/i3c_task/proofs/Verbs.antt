@@ -57,10 +57,10 @@ other_passes : (s : Shape) (met : Option Text) (waiting : Waiting) (position : �
 unfolding Passes
 other_passes s (Some name) waiting position word h on none =
     λ is.
-      let same : other_fault s (Some name) word h ≡ other_fault (record s { disable_help_subcommand = false }) (Some (codes "help")) word h =
-          ap (λ (b : Bool). other_fault (record s { disable_help_subcommand = b }) (Some name) word h) on
-          ∙ ap (λ (n : Text). other_fault (record s { disable_help_subcommand = false }) (Some n) word h) is in
-      absurd (omega (arith, ap length (sym same ∙ none)))
+    let same : other_fault s (Some name) word h ≡ other_fault (record s { disable_help_subcommand = false }) (Some (codes "help")) word h =
+    ap (λ (b : Bool). other_fault (record s { disable_help_subcommand = b }) (Some name) word h) on
+    ∙ ap (λ (n : Text). other_fault (record s { disable_help_subcommand = false }) (Some n) word h) is in
+    absurd (omega (arith, ap length (sym same ∙ none)))
 other_passes s None waiting position word h on none = go (bytes_eq word (45 ∷ 45 ∷ []))
   where
     go : (b : Bool) → Passes (if b then (h, trailing position) else long_or_other s.rules waiting word (long_of word) h).1
@@ -158,6 +158,7 @@ verb_entered app rows (Some p) wants all goes none = go (find (λ s. answers_to 
     verb : (s : Shape) → ((v : Verb) × (s.name ≡ name_of v)) ⊎ (s.name ≡ codes "help") → s.name ≡ p.0 → (v : Verb) × (s.name ≡ name_of v)
     verb s (inl is) met = is
     verb s (inr is) met = absurd (goes (sym met ∙ is))
+
     go : (o : Option Shape) → find (λ s. answers_to p.0 (label_of s)) app.subs ≡ o → (v : Verb) × (found : List Row) × (entered app (Some p) ≡ Some (name_of v, found))
     go None is = absurd (missing app.top rows wants (ap (λ (o : Option Shape). check_fault app.top rows (is_some (option_map (λ s. rows_at s p.1) o))) (sym is) ∙ none))
     go (Some s) is =

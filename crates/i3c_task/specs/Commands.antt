@@ -2,10 +2,9 @@
 use Rattle.std.specs.Prelude.{pos, true, false, List, [], ◌∷◌, codes, map, Some}
 use Rattle.clap.specs.Words.{App, Rule, Shape, Text, new_rule}
 use Rattle.clap.specs.Simple.{new_shape}
-use Rattle.clap.specs.declared.builder.action.ArgAction.{ArgAction}
 use Rattle.clap.specs.declared.builder.action.ArgAction.TheVariants.{Append, SetTrue}
-use Rattle.clap.specs.declared.builder.value_parser.ValueParser.{ValueParser}
 use Rattle.clap.specs.declared.builder.value_parser.ValueParser.TheVariants.{Signed, Unsigned}
+use Rattle.i3c_task.specs.Options.{NumberOption, devices, jobs, most_lines, posts}
 use Rattle.i3c_task.specs.declared.verb.Verb.{Verb}
 
 -- the file, which has to be given
@@ -20,17 +19,17 @@ flag name = record (new_rule name) { long = Some name; action = Some SetTrue }
 abbrev pub text : Text → Rule
 text name = record (new_rule name) { long = Some name; value_names = 1 }
 
--- the same, as often as one likes
+-- the same, each time that it is given
 abbrev pub texts : Text → Rule
 texts name = record (text name) { action = Some Append }
 
--- the option --name with a number behind it
-abbrev pub number : Text → ValueParser → Rule
-number name read = record (text name) { parser = Some read }
+-- an option with a number behind it, within its bounds
+abbrev pub number : NumberOption → Rule
+number option = record (text option.name) { parser = Some (Unsigned option.least option.most) }
 
 -- the same, which has to be given
-abbrev pub needed : Text → ValueParser → Rule
-needed name read = record (number name read) { required = true }
+abbrev pub needed : NumberOption → Rule
+needed option = record (text option.name) { parser = Some (Signed (pos option.least) (pos option.most)); required = true }
 
 -- the name of a command
 abbrev pub name_of : Verb → Text
@@ -49,16 +48,14 @@ arguments_of Verb.Run = file ∷ flag (codes "strict") ∷ flag (codes "numbers"
 arguments_of Verb.Drive = flag (codes "json") ∷ []
 arguments_of Verb.Check = file ∷ []
 arguments_of Verb.Draw = file ∷ []
-arguments_of Verb.Explore =
-    number (codes "most") (Unsigned 0 18446744073709551615) ∷ text (codes "part") ∷ number (codes "jobs") (Unsigned 1 4294967295) ∷ file ∷ []
+arguments_of Verb.Explore = number most_lines ∷ text (codes "part") ∷ number jobs ∷ file ∷ []
 arguments_of Verb.Trace =
     flag (codes "all") ∷ flag (codes "lint") ∷ flag (codes "explain") ∷ texts (codes "legacy") ∷ flag (codes "vcd") ∷ text (codes "scl")
     ∷ text (codes "sda") ∷ flag (codes "numbers") ∷ file ∷ []
 arguments_of Verb.Wave = flag (codes "trace") ∷ texts (codes "legacy") ∷ file ∷ []
-arguments_of Verb.Stress =
-    needed (codes "devices") (Signed (pos 1) (pos 63)) ∷ needed (codes "posts") (Signed (pos 1) (pos 100000)) ∷ flag (codes "totals") ∷ []
+arguments_of Verb.Stress = needed devices ∷ needed posts ∷ flag (codes "totals") ∷ []
 
--- the commands
+-- all commands
 abbrev pub verbs : List Verb
 verbs = Verb.Run ∷ Verb.Drive ∷ Verb.Check ∷ Verb.Draw ∷ Verb.Explore ∷ Verb.Trace ∷ Verb.Wave ∷ Verb.Stress ∷ []
 
@@ -66,10 +63,10 @@ verbs = Verb.Run ∷ Verb.Drive ∷ Verb.Check ∷ Verb.Draw ∷ Verb.Explore �
 abbrev pub command_of : Verb → Shape
 command_of verb = record (new_shape (name_of verb)) { rules = arguments_of verb }
 
--- the program without its commands: the words begin with a command's name
+-- the program without its commands: its own name is none of the words, and a command has to be
 abbrev pub bare : Shape
 bare = record (new_shape (codes "i3cbus")) { no_binary_name = true; subcommand_required = true }
 
--- the program, as its words are read
+-- the program with its commands
 abbrev pub program : App
 program = record { top = record bare { is_leaf = false }; subs = map command_of verbs }

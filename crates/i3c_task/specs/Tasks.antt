@@ -101,7 +101,7 @@ IsTaskOf Verb.Wave found task = IsWave found task
 IsTaskOf Verb.Stress found (Task.Stress asked) = IsStress found asked
 IsTaskOf verb found task = ⊥
 
--- the task that words ask for: they name a command, its options are as clap finds them, and clap finds no fault in the words
+-- the task that words ask for: clap finds a command with its options in them, and no fault, and the task is that command's with these options
 pub record IsAskedFor (words : List Text) (task : Task) : Type 0 where
   pub verb : Verb
   pub given : ArgMatches

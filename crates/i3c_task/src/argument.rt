@@ -44,10 +44,10 @@ pub(crate) enum Bond {
     Needs(&'static str),
 }
 
-/// Whether a parser knows what arguments have to do with each other.
+/// Whether a parser knows which arguments go together.
 #[derive(Clone, Copy)]
 pub(crate) enum Bonds {
-    /// It does.
+    /// It refuses an argument without the one that it needs.
     Kept,
     /// It takes each argument with or without the others.
     Left,

@@ -127,8 +127,9 @@ fn is_version(words: &[String]) -> bool
     }
 }
 
-/// The words, as the parser reads them that takes each option with or without the others. The one that knows which
-/// options go together has to take them too.
+/// What the parser finds in the words. They are read twice. The parser that knows which options go together has to
+/// accept them, and writes all errors. Clap's contract says where each word goes only for a parser without groups, and
+/// the matches are that one's.
 fn parsed<'a>(alloc: Global, words: &'a [String]) -> Result<ArgMatches<'a>, WordsFault>
     ensures { IfOk result (IsReadFrom (map string_bytes words.now)) }
 {
@@ -136,7 +137,7 @@ fn parsed<'a>(alloc: Global, words: &'a [String]) -> Result<ArgMatches<'a>, Word
     accepted(alloc, words, Bonds::Left)
 }
 
-/// The words, as this parser reads them.
+/// What this parser finds in the words.
 fn accepted<'a>(
     alloc: Global,
     words: &'a [String],

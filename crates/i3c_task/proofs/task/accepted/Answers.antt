@@ -1,7 +1,6 @@
-use Rattle.std.proofs.Common.{◌≡◌, ◌∙◌, ap, sym, map}
+use Rattle.std.proofs.Common.{◌∙◌, ap, sym, map}
 use Rattle.std.specs.String.{string_bytes}
-use Rattle.clap.specs.Words.{app_of, fault_of, is_simple, is_simple_and_free, subcommand_of}
-use Rattle.i3c_task.specs.Commands.{program}
+use Rattle.clap.specs.Words.{fault_of, is_simple, is_simple_and_free, subcommand_of}
 use Rattle.i3c_task.proofs.Verbs.{free, simple}
 use Rattle.i3c_task.proofs.task.accepted.Goals as goal
 

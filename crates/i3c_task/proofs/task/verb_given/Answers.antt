@@ -4,7 +4,6 @@ use Rattle.std.proofs.lemmas.List.Elements.{All-more}
 use Rattle.clap.specs.Words.{subcommand_name_of}
 use Rattle.i3c_task.specs.Commands.{name_of}
 use Rattle.i3c_task.specs.declared.verb.Usage.{Usage}
-use Rattle.i3c_task.specs.declared.verb.Verb.{Verb}
 use Rattle.i3c_task.proofs.Tables.{each_verb, given_as, named_so}
 use Rattle.i3c_task.proofs.task.verb_given.Goals as goal
 
@@ -29,5 +28,5 @@ loop-usage-preserved c =
     let i = c.loop-usage.usage-index in
     let below : i < length usages = omega arith in
     let names = named_so usages c.usages-usage-items.ensures.verbs c.usages-usage-items.ensures.names in
-    All-more (λ (usage : Usage). subcommand_name_of c.args.matches.now ≡ Some (name_of usage.verb) → ⊥) usages i _ below c.loop-usage.invariant 
+    All-more (λ (usage : Usage). subcommand_name_of c.args.matches.now ≡ Some (name_of usage.verb) → ⊥) usages i _ below c.loop-usage.invariant
     (λ named. absurd (true≢false (sym (c.in_default.ensures.found.1 (named ∙ sym (ap Some (names i _ below)))))))

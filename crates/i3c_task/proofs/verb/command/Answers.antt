@@ -1,4 +1,4 @@
-use Rattle.std.proofs.Common.{◌∙◌, ◌||◌, ap, ap₂, sym, arith, map}
+use Rattle.std.proofs.Common.{◌∙◌, ◌||◌, ap, ap₂, sym, arith}
 use Rattle.std.proofs.lemmas.List.{map_more}
 use Rattle.clap.specs.Words.{with_rule}
 use Rattle.i3c_task.specs.Table.{rule_of_argument}
