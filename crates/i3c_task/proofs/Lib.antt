@@ -1,1 +1,3 @@
 pub mod LegacyLaws
+pub mod Tables
+pub mod Verbs

@@ -1,6 +1,6 @@
 -- Which options of a command give which task.
-use Rattle.std.specs.Prelude.{◌≡◌, ◌⊎◌, ℕ, true, false, List, codes, Some, None}
-use Rattle.clap.specs.Words.{first_value, found_of}
+use Rattle.std.specs.Prelude.{◌≡◌, ◌⊎◌, ℕ, true, false, List, [], ◌∷◌, codes, Some, None}
+use Rattle.clap.specs.Words.{Text, fault_of, first_value, found_of, rows_of, subcommand_of}
 use Rattle.clap.specs.declared.parser.matches.ArgMatches.{ArgMatches}
 use Rattle.clap.specs.declared.parser.matches.Found.{Found}
 use Rattle.i3c_ccc.specs.declared.codes.CodeSet.{CodeSet}
@@ -13,6 +13,7 @@ use Rattle.i3c_task.specs.declared.task.Task.{Task}
 use Rattle.i3c_task.specs.declared.task.Telling.{Telling}
 use Rattle.i3c_task.specs.declared.task.Work.{Work}
 use Rattle.i3c_task.specs.declared.verb.Verb.{Verb}
+use Rattle.i3c_task.specs.Commands.{name_of, program}
 use Rattle.i3c_task.specs.Options.{AreLegacies, IsFlag, IsNumberOf, IsPartOf, devices, jobs, legacy_texts, most_lines, posts, text_or}
 use Rattle.i3c_task.specs.Words.{RunsInput}
 
@@ -100,12 +101,15 @@ IsTaskOf Verb.Wave found task = IsWave found task
 IsTaskOf Verb.Stress found (Task.Stress asked) = IsStress found asked
 IsTaskOf verb found task = ⊥
 
--- the task that a command line asks for: that of its command's options, as the parser found them
-pub record IsAskedFor (task : Task) : Type 0 where
+-- the task that words ask for: clap finds a command with its options in them, and no fault, and the task is that command's with these options
+pub record IsAskedFor (words : List Text) (task : Task) : Type 0 where
   pub verb : Verb
   pub given : ArgMatches
+  pub named : subcommand_of program words ≡ Some (name_of verb, rows_of (found_of given))
+  pub faultless : fault_of program words ≡ []
   pub same : IsTaskOf verb (found_of given) task
 
--- the task of a command line: without words it runs standard input
-abbrev pub IsNamed : Task → Type 0
-IsNamed task = RunsInput task ⊎ ((task ≡ Task.Version) ⊎ IsAskedFor task)
+-- the task of a command line: without words it runs standard input, and `--version` alone prints which program this is
+abbrev pub IsNamed : List Text → Task → Type 0
+IsNamed words task =
+    ((words ≡ []) × RunsInput task) ⊎ (((words ≡ codes "--version" ∷ []) × (task ≡ Task.Version)) ⊎ IsAskedFor words task)

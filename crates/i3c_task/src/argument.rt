@@ -1,3 +1,8 @@
+ghost use Rattle.std.specs.Prelude.{◌≡◌, false, IfOk};
+ghost use Rattle.clap.specs.Words.{rule_of};
+ghost use Rattle.clap.specs.Simple.{new_rule};
+ghost use Rattle.i3c_task.specs.Table.{rule_of_argument, rule_taking};
+
 use clap::builder::ValueParser;
 use clap::{Arg, ArgAction};
 use std::alloc::{AllocError, Global};
@@ -39,17 +44,36 @@ pub(crate) enum Bond {
     Needs(&'static str),
 }
 
+/// Whether a parser knows which arguments go together.
+#[derive(Clone, Copy)]
+pub(crate) enum Bonds {
+    /// It refuses an argument without the one that it needs.
+    Kept,
+    /// It takes each argument with or without the others.
+    Left,
+}
+
 /// The argument, as the parser takes it.
 pub(crate) fn parsed_argument<'a>(
     alloc: Global,
     argument: &Argument,
-) -> Result<Arg<'a>, AllocError> {
+    bonds: Bonds,
+) -> Result<Arg<'a>, AllocError>
+    ensures { bonds ≡ Bonds.Left → IfOk result (λ r. (rule_of r ≡ rule_of_argument argument.now) × (r.global ≡ false)) }
+{
     let named = Arg::new(alloc, argument.name).help(argument.help);
-    bound(taking(named, argument.name, argument.takes), argument.bond)
+    let taking = taking(named, argument.name, argument.takes);
+    match bonds {
+        Bonds::Kept => bound(taking, argument.bond),
+        Bonds::Left => Ok(taking),
+    }
 }
 
 /// The same argument, with what it takes.
-fn taking<'a>(named: Arg<'a>, name: &'static str, takes: Takes) -> Arg<'a> {
+fn taking<'a>(named: Arg<'a>, name: &'static str, takes: Takes) -> Arg<'a>
+    ensures rule { rule_of named.entry ≡ new_rule name.now → rule_of result ≡ rule_taking name.now takes }
+    ensures local { result.global ≡ named.entry.global }
+{
     match takes {
         Takes::File => named.required(true),
         Takes::Nothing => named.long(name).action(ArgAction::SetTrue),

@@ -1,8 +1,11 @@
-ghost use Rattle.std.specs.Prelude.{◌≡◌, IfOk, IsOkAnd, length};
+ghost use Rattle.std.specs.Prelude.{◌≡◌, ◌∷◌, ◌↔◌, [], IfOk, IsOkAnd, IsTrue, MatchOption, codes, length, map};
+ghost use Rattle.std.specs.String.{string_bytes};
 ghost use Rattle.clap.specs.Words.{found_of};
-ghost use Rattle.i3c_task.specs.Tasks.{HasCodes, IsCapturing, IsDrive, IsExplore, IsNamed, IsRun, IsStress, IsTaskOf, IsTelling, IsTrace, IsWave, file_of};
+ghost use Rattle.i3c_task.specs.Tasks.{HasCodes, IsAskedFor, IsCapturing, IsDrive, IsExplore, IsNamed, IsRun, IsStress, IsTaskOf, IsTelling, IsTrace, IsWave, file_of};
+ghost use Rattle.i3c_task.specs.Parsed.{IsGiven, IsReadFrom, NamesNone};
 ghost use Rattle.i3c_task.specs.Words.{RunsInput};
 
+use crate::argument::Bonds;
 use crate::options::{flag_given, legacies_given, number_given, part_given, text_given};
 use crate::verb::{
     ALL, DEVICES, ECHO, EXPLAIN, FILE, FROM_TRACE, JOBS, JSON, LEGACY, LINT, MOST, MOST_DEVICES,
@@ -101,8 +104,9 @@ pub struct Stress {
 /// What the command line's words ask for, which come without the program's. No words at all mean `run -`.
 pub fn task_named<'a>(alloc: Global, words: &'a [String]) -> Result<Task<'a>, WordsFault>
     ensures none { length words.now ≡ 0 → IsOkAnd result RunsInput }
-    // the options of the command have their places in the task, as the parser found them
-    ensures named { IfOk result IsNamed }
+    ensures version { map string_bytes words.now ≡ codes "--version" ∷ [] → IsOkAnd result (λ task. task ≡ Task.Version) }
+    // the words name a command, and its options have their places in the task
+    ensures named { IfOk result (IsNamed (map string_bytes words.now)) }
 {
     if words.is_empty() {
         return Ok(Task::File(Work::Run, STANDARD_INPUT));
@@ -110,24 +114,44 @@ pub fn task_named<'a>(alloc: Global, words: &'a [String]) -> Result<Task<'a>, Wo
     if is_version(words) {
         return Ok(Task::Version);
     }
-    task_given(&parsed(alloc, words)?)
+    task_given(words, &parsed(alloc, words)?)
 }
 
 /// Whether the words ask only which program this is.
-fn is_version(words: &[String]) -> bool {
+fn is_version(words: &[String]) -> bool
+    ensures { IsTrue result ↔ (map string_bytes words.now ≡ codes "--version" ∷ []) }
+{
     match words {
         [only] => only.as_str() == VERSION,
         _ => false,
     }
 }
 
-/// The words, as the parser reads them.
-fn parsed<'a>(alloc: Global, words: &'a [String]) -> Result<ArgMatches<'a>, WordsFault> {
-    Ok(parser(alloc)?.try_get_matches_from(words)?)
+/// What the parser finds in the words. They are read twice. The parser that knows which options go together has to
+/// accept them, and writes all errors. Clap's contract says where each word goes only for a parser without groups, and
+/// the matches are that one's.
+fn parsed<'a>(alloc: Global, words: &'a [String]) -> Result<ArgMatches<'a>, WordsFault>
+    ensures { IfOk result (IsReadFrom (map string_bytes words.now)) }
+{
+    accepted(alloc, words, Bonds::Kept)?;
+    accepted(alloc, words, Bonds::Left)
+}
+
+/// What this parser finds in the words.
+fn accepted<'a>(
+    alloc: Global,
+    words: &'a [String],
+    bonds: Bonds,
+) -> Result<ArgMatches<'a>, WordsFault>
+    ensures { bonds ≡ Bonds.Left → IfOk result (IsReadFrom (map string_bytes words.now)) }
+{
+    Ok(parser(alloc, bonds)?.try_get_matches_from(words)?)
 }
 
 /// The verb that was given, with its arguments.
-fn verb_given<'m, 'a>(matches: &'m ArgMatches<'a>) -> Option<(Verb, &'m ArgMatches<'a>)> {
+fn verb_given<'m, 'a>(matches: &'m ArgMatches<'a>) -> Option<(Verb, &'m ArgMatches<'a>)>
+    ensures { MatchOption result (NamesNone matches.now) (λ r. IsGiven matches.now r.0 r.1.now) }
+{
     for usage in usages() {
         if let Some(given) = matches.subcommand_matches(usage.name) {
             return Some((usage.verb, given));
@@ -136,13 +160,14 @@ fn verb_given<'m, 'a>(matches: &'m ArgMatches<'a>) -> Option<(Verb, &'m ArgMatch
     None
 }
 
-/// The task that was given. The parser requires a verb, and its arguments.
-fn task_given<'a>(matches: &ArgMatches<'a>) -> Result<Task<'a>, WordsFault>
-    ensures { IfOk result IsNamed }
+/// The task that was given by these words. The parser requires a verb, and its arguments.
+fn task_given<'a>(words: &[String], matches: &ArgMatches<'a>) -> Result<Task<'a>, WordsFault>
+    requires { IsReadFrom (map string_bytes words.now) matches.now }
+    ensures { IfOk result (IsAskedFor (map string_bytes words.now)) }
 {
     match verb_given(matches) {
         Some((verb, given)) => task_of(verb, given),
-        None => Ok(Task::File(Work::Run, STANDARD_INPUT)),
+        None => unreachable!(),
     }
 }
 

@@ -1,4 +1,10 @@
-use crate::argument::{Argument, Bond, Takes, parsed_argument};
+ghost use Rattle.std.specs.Prelude.{◌≡◌, [], false, IfOk, map};
+ghost use Rattle.clap.specs.Words.{app_of, new_app, shape_of};
+ghost use Rattle.clap.specs.declared.builder.command.Command.TheViews.{out-Command};
+ghost use Rattle.i3c_task.specs.Commands.{bare, command_of, name_of, program, verbs};
+ghost use Rattle.i3c_task.specs.Table.{shape_of_usage};
+
+use crate::argument::{Argument, Bond, Bonds, Takes, parsed_argument};
 use crate::help::{Help, text_of};
 use clap::builder::ValueParser;
 use clap::{ArgGroup, Command};
@@ -350,21 +356,29 @@ static USAGES: [Usage; 8] = [
 ];
 
 /// The verbs, in the order of the help.
-pub(crate) fn usages() -> &'static [Usage] {
+pub(crate) fn usages() -> &'static [Usage]
+    ensures verbs { map (λ usage. usage.verb) result.now ≡ verbs }
+    ensures names { map (λ usage. usage.name.now) result.now ≡ map name_of verbs }
+    ensures shapes { map shape_of_usage result.now ≡ map command_of verbs }
+{
     &USAGES
 }
 
 /// The parser of the command line.
-pub(crate) fn parser<'a>(alloc: Global) -> Result<Command<'a>, AllocError> {
+pub(crate) fn parser<'a>(alloc: Global, bonds: Bonds) -> Result<Command<'a>, AllocError>
+    ensures { bonds ≡ Bonds.Left → IfOk result (λ r. app_of r ≡ program) }
+{
     let mut parser = program(alloc)?;
     for usage in usages() {
-        parser = parser.subcommand(command(alloc, usage)?)?;
+        parser = parser.subcommand(command(alloc, usage, bonds)?)?;
     }
     Ok(parser)
 }
 
 /// The program, without its commands.
-fn program<'a>(alloc: Global) -> Result<Command<'a>, AllocError> {
+fn program<'a>(alloc: Global) -> Result<Command<'a>, AllocError>
+    ensures { IfOk result (λ r. (app_of r ≡ record { top = bare; subs = [] }) × ((out-Command r).has_globals ≡ false)) }
+{
     let program = Command::new(alloc, PROGRAM)
         .about("Runs scripts over an I3C bus, and reads traces of one")
         .after_help(text_of(Help::Script))
@@ -374,16 +388,20 @@ fn program<'a>(alloc: Global) -> Result<Command<'a>, AllocError> {
 }
 
 /// A verb, as the parser takes it.
-fn command<'a>(alloc: Global, usage: &Usage) -> Result<Command<'a>, AllocError> {
+fn command<'a>(alloc: Global, usage: &Usage, bonds: Bonds) -> Result<Command<'a>, AllocError>
+    ensures { bonds ≡ Bonds.Left → IfOk result (λ r. (shape_of r ≡ shape_of_usage usage.now) × ((out-Command r).has_globals ≡ false)) }
+{
     let mut command = described(alloc, usage);
     for argument in usage.arguments {
-        command = command.arg(parsed_argument(alloc, argument)?)?;
+        command = command.arg(parsed_argument(alloc, argument, bonds)?)?;
     }
-    grouped(alloc, command, usage.group)
+    grouped(alloc, command, usage.group, bonds)
 }
 
 /// A verb with its help, without its arguments.
-fn described<'a>(alloc: Global, usage: &Usage) -> Command<'a> {
+fn described<'a>(alloc: Global, usage: &Usage) -> Command<'a>
+    ensures { (app_of result ≡ new_app usage.now.name.now) × ((out-Command result).has_globals ≡ false) }
+{
     let command = Command::new(alloc, usage.name).about(usage.about);
     match usage.more {
         Some(help) => command.after_help(text_of(help)),
@@ -396,9 +414,12 @@ fn grouped<'a>(
     alloc: Global,
     command: Command<'a>,
     group: Option<&'static str>,
-) -> Result<Command<'a>, AllocError> {
-    match group {
-        Some(group) => command.group(ArgGroup::new(alloc, group).multiple(true)),
-        None => Ok(command),
+    bonds: Bonds,
+) -> Result<Command<'a>, AllocError>
+    ensures { bonds ≡ Bonds.Left → IfOk result (λ r. r ≡ command.entry) }
+{
+    match (bonds, group) {
+        (Bonds::Kept, Some(group)) => command.group(ArgGroup::new(alloc, group).multiple(true)),
+        _ => Ok(command),
     }
 }
