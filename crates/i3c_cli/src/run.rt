@@ -1,13 +1,14 @@
 use crate::drawing::draw_script;
 use crate::ending::{flushed_tally, tally_of, wave_ending};
 use crate::fault::Fault;
+use crate::output::Output;
 use crate::standard_error::StandardError;
 use crate::telling::{tell_capture, tell_trace};
 use crate::waving::wave_script;
 use i3c_base::Addresses;
 use i3c_drive::run_driven;
 use i3c_runner::{WatchFault, check_script, run_script, run_watched};
-use i3c_streams::{Tally, Watching};
+use i3c_streams::{Form, Tally, Watching};
 use i3c_task::{Capturing, STANDARD_INPUT, Telling, Work};
 use i3c_wave::{Source, run_wave};
 use std::alloc::Global;
@@ -69,34 +70,65 @@ pub fn reading_fault(error: &io::Error) -> Fault {
 
 /// Runs, checks or drives the script, or reads the trace, of a reader. What was printed is written out on a fault too, and the
 /// first fault is told.
-fn run_from<R: Print + Eprint + AllocGlobal, S: Read>(
+fn run_from<R: Files + Print + Eprint + AllocGlobal, S: Read>(
     rt: &R,
     work: Work,
     input: &mut S,
 ) -> Result<Tally, Fault> {
-    let mut printed = io::writer(rt);
-    let outcome = match work {
-        Work::Watch(watching) => return watch_from(rt, watching, input),
-        Work::Wave(legacies) => return wave_from(rt, legacies, input),
-        Work::Tell(telling) => return trace_from(rt, telling, input),
-        Work::Draw => return draw_from(rt, input),
-        Work::WaveScript(legacies) => return wave_script_from(rt, legacies, input),
-        Work::Run => run_script(rt.alloc(), input, &mut printed),
-        Work::Drive(form) => run_driven(rt.alloc(), form, input, &mut printed),
-        Work::Check => check_script(rt.alloc(), input, &mut printed),
-    };
+    match work {
+        Work::Run => script_from(rt, input),
+        Work::Watch(watching) => watch_from(rt, watching, input),
+        Work::Drive(form) => drive_from(rt, form, input),
+        Work::Check => check_from(rt, input),
+        Work::Draw => draw_from(rt, input),
+        Work::Tell(telling) => trace_from(rt, telling, input),
+        Work::Wave(legacies) => wave_from(rt, legacies, input),
+        Work::WaveScript(legacies) => wave_script_from(rt, legacies, input),
+    }
+}
+
+/// Runs the script of a reader.
+fn script_from<R: Files + Print + AllocGlobal, S: Read>(
+    rt: &R,
+    input: &mut S,
+) -> Result<Tally, Fault> {
+    let mut printed = Output::new(rt)?;
+    let outcome = run_script(rt.alloc(), input, &mut printed);
+    let flushed = printed.flush().is_ok();
+    tally_of(outcome, flushed)
+}
+
+/// Answers the lines of a reader, each before the next is read.
+fn drive_from<R: Files + Print + AllocGlobal, S: Read>(
+    rt: &R,
+    form: Form,
+    input: &mut S,
+) -> Result<Tally, Fault> {
+    let mut printed = Output::new(rt)?;
+    let outcome = run_driven(rt.alloc(), form, input, &mut printed);
+    let flushed = printed.flush().is_ok();
+    tally_of(outcome, flushed)
+}
+
+/// Checks the script of a reader.
+fn check_from<R: Files + Print + AllocGlobal, S: Read>(
+    rt: &R,
+    input: &mut S,
+) -> Result<Tally, Fault> {
+    let mut printed = Output::new(rt)?;
+    let outcome = check_script(rt.alloc(), input, &mut printed);
     let flushed = printed.flush().is_ok();
     tally_of(outcome, flushed)
 }
 
 /// Tells the trace of a reader, and standard error why its lines are refused that are.
 #[inline(never)]
-fn trace_from<R: Print + Eprint + AllocGlobal, S: Read>(
+fn trace_from<R: Files + Print + Eprint + AllocGlobal, S: Read>(
     rt: &R,
     telling: Telling,
     input: &mut S,
 ) -> Result<Tally, Fault> {
-    let mut printed = io::writer(rt);
+    let mut printed = Output::new(rt)?;
     let mut notes = String::new(rt.alloc());
     let outcome = tell_trace(rt.alloc(), telling, input, &mut printed, &mut notes);
     // what can't be told isn't missed
@@ -106,13 +138,13 @@ fn trace_from<R: Print + Eprint + AllocGlobal, S: Read>(
 }
 
 /// Tells the symbols of a reader's capture, and standard error the same.
-fn capture_from<R: Print + Eprint + AllocGlobal, S: Read>(
+fn capture_from<R: Files + Print + Eprint + AllocGlobal, S: Read>(
     rt: &R,
     capturing: Capturing<'_>,
     telling: Telling,
     input: &mut S,
 ) -> Result<Tally, Fault> {
-    let mut printed = io::writer(rt);
+    let mut printed = Output::new(rt)?;
     let mut notes = String::new(rt.alloc());
     let outcome = tell_capture(
         rt.alloc(),
@@ -130,12 +162,12 @@ fn capture_from<R: Print + Eprint + AllocGlobal, S: Read>(
 
 /// Prints the waveform of a reader's trace.
 #[inline(never)]
-fn wave_from<R: Print + AllocGlobal, S: Read>(
+fn wave_from<R: Files + Print + AllocGlobal, S: Read>(
     rt: &R,
     legacies: Addresses,
     input: &mut S,
 ) -> Result<Tally, Fault> {
-    let mut printed = io::writer(rt);
+    let mut printed = Output::new(rt)?;
     let outcome = run_wave(rt.alloc(), legacies, &mut Source::new(input), &mut printed);
     let flushed = printed.flush().is_ok();
     wave_ending(outcome, flushed)
@@ -143,20 +175,23 @@ fn wave_from<R: Print + AllocGlobal, S: Read>(
 
 /// Prints the waveform of a reader's script. What was printed is written out on a fault too.
 #[inline(never)]
-fn wave_script_from<R: Print + AllocGlobal, S: Read>(
+fn wave_script_from<R: Files + Print + AllocGlobal, S: Read>(
     rt: &R,
     legacies: Addresses,
     input: &mut S,
 ) -> Result<Tally, Fault> {
-    let (outcome, mut printed) = wave_script(rt.alloc(), legacies, input, io::writer(rt));
+    let (outcome, mut printed) = wave_script(rt.alloc(), legacies, input, Output::new(rt)?);
     let flushed = printed.flush().is_ok();
     tally_of(outcome, flushed)
 }
 
 /// Prints the picture of a reader's script.
 #[inline(never)]
-fn draw_from<R: Print + AllocGlobal, S: Read>(rt: &R, input: &mut S) -> Result<Tally, Fault> {
-    let mut printed = io::writer(rt);
+fn draw_from<R: Files + Print + AllocGlobal, S: Read>(
+    rt: &R,
+    input: &mut S,
+) -> Result<Tally, Fault> {
+    let mut printed = Output::new(rt)?;
     let outcome = draw_script(rt.alloc(), input, &mut printed);
     let flushed = printed.flush().is_ok();
     tally_of(outcome, flushed)
@@ -164,12 +199,12 @@ fn draw_from<R: Print + AllocGlobal, S: Read>(rt: &R, input: &mut S) -> Result<T
 
 /// Runs the script of a reader, and shows more of it.
 #[inline(never)]
-fn watch_from<R: Print + Eprint + AllocGlobal, S: Read>(
+fn watch_from<R: Files + Print + Eprint + AllocGlobal, S: Read>(
     rt: &R,
     watching: Watching,
     input: &mut S,
 ) -> Result<Tally, Fault> {
-    let mut printed = io::writer(rt);
+    let mut printed = Output::new(rt)?;
     let mut errors = StandardError::new(rt);
     let outcome = run_watched(rt.alloc(), input, &mut printed, &mut errors, watching);
     let flushed = printed.flush().is_ok();

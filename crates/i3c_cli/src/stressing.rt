@@ -1,9 +1,11 @@
 use crate::fault::Fault;
+use crate::output::Output;
 use i3c_base::{Fixed, Slot, Verdict};
 use i3c_streams::Tally;
 use i3c_stress::{Gate, MOST_DEVICES, MOST_POSTS, StressFault, StressReport, stress};
 use i3c_task::Stress;
-use std::io;
+use std::io::{self, Write};
+use std::rt::Files;
 use std::sync::Wait;
 use std::thread::Threads;
 
@@ -33,7 +35,7 @@ impl<R: Eprint> Gate for Progress<'_, R> {
 
 /// Lets devices post from threads of their own, and prints that each post is accounted for. Tells its progress if standard
 /// error is a terminal.
-pub fn run_stress<R: Threads + Wait + Sync + Print + Eprint + AllocGlobal>(
+pub fn run_stress<R: Files + Threads + Wait + Sync + Print + Eprint + AllocGlobal>(
     rt: &R,
     asked: &Stress,
     is_watched: bool,
@@ -58,7 +60,7 @@ pub fn run_stress<R: Threads + Wait + Sync + Print + Eprint + AllocGlobal>(
         posts,
     };
     let report = stress(rt, rt.alloc(), devices, posts, &mut policy, &gate)?;
-    match print_report(rt, devices, &report, totals) {
+    match print_report(&mut Output::new(rt)?, devices, &report, totals) {
         Ok(()) => Ok(Tally {
             refused: 0,
             unmet: 0,
@@ -68,19 +70,22 @@ pub fn run_stress<R: Threads + Wait + Sync + Print + Eprint + AllocGlobal>(
 }
 
 /// Prints a report, and the totals of the posts if they are asked for.
-fn print_report<R: Print>(
-    rt: &R,
+fn print_report<W: Write>(
+    printed: &mut W,
     devices: u8,
     report: &StressReport,
     totals: bool,
 ) -> io::Result<()> {
     let tried = report.tried;
-    println!(rt; "devices {devices}\ntried {tried}\nbalanced")?;
+    writeln!(printed, "devices {devices}\ntried {tried}\nbalanced")?;
     if totals {
         let turned_away = report.turned_away;
         let recorded = report.recorded;
         let waiting = report.waiting;
-        println!(rt; "turned away {turned_away}\nrecorded {recorded}\nwaiting {waiting}")?;
+        writeln!(
+            printed,
+            "turned away {turned_away}\nrecorded {recorded}\nwaiting {waiting}"
+        )?;
     }
     Ok(())
 }

@@ -1,5 +1,8 @@
 use crate::fault::Fault;
+use crate::output::Output;
 use i3c_streams::Tally;
+use std::io::Write;
+use std::rt::Files;
 
 /// The version, as CHANGELOG.md calls it.
 const VERSION: &str = "0.1.0, not yet released";
@@ -12,8 +15,12 @@ const COMMIT: &str = "0863153";
 const KIT: &str = "rattle-kit-13f logic dac8208d650f15bf";
 
 /// Prints which program this is.
-pub fn print_version<R: Print>(rt: &R) -> Result<Tally, Fault> {
-    match println!(rt; "i3cbus {VERSION}\ncommit {COMMIT} or later\nkit {KIT}") {
+pub fn print_version<R: Files + Print + AllocGlobal>(rt: &R) -> Result<Tally, Fault> {
+    let mut printed = Output::new(rt)?;
+    match writeln!(
+        printed,
+        "i3cbus {VERSION}\ncommit {COMMIT} or later\nkit {KIT}"
+    ) {
         Ok(()) => Ok(Tally {
             refused: 0,
             unmet: 0,

@@ -1,7 +1,9 @@
 use crate::ending::{Ending, explore_ending, lines_ending, status_of};
 use crate::stack::make_stack;
 use crate::watcher::Watcher;
-use i3c_cli::{Fault, print_version, reading_fault, run_capture, run_file, run_stress};
+use i3c_cli::{
+    Fault, Output, print_version, reading_fault, run_capture, run_file, run_stress, tell_fault,
+};
 use i3c_explore::{Limits, Part};
 use i3c_task::{STANDARD_INPUT, Task, task_named};
 use i3c_tracks::run_explore;
@@ -9,7 +11,7 @@ use std::io::{Read, Write};
 use std::rt::{Env, Files};
 use std::sync::Wait;
 use std::thread::Threads;
-use std::{env, fs, io};
+use std::{env, fs};
 
 /// Runs the program, tells standard error why it gave up, if it did, and gives its exit status. Somebody may watch
 /// standard error on a terminal. Before anything else there is room for its stack.
@@ -22,7 +24,7 @@ where
         Err(_) => Err(Fault::Memory),
     };
     if let Err(fault) = &outcome {
-        let _ = rt.eprint(fault);
+        tell_fault(rt, fault);
     }
     status_of(&outcome)
 }
@@ -80,7 +82,7 @@ fn words_given<R: Env + AllocGlobal>(rt: &R) -> Result<Vec<String>, Fault> {
 }
 
 /// Explores the file of a reader.
-fn explore_from<R: Print + Eprint + AllocGlobal + Threads + Sync, S: Read>(
+fn explore_from<R: Files + Print + Eprint + AllocGlobal + Threads + Sync, S: Read>(
     rt: &R,
     limits: Limits,
     part: Part,
@@ -88,7 +90,7 @@ fn explore_from<R: Print + Eprint + AllocGlobal + Threads + Sync, S: Read>(
     watcher: &Watcher<'_, R>,
     input: &mut S,
 ) -> Result<Ending, Fault> {
-    let mut printed = io::writer(rt);
+    let mut printed = Output::new(rt)?;
     let alloc = rt.alloc();
     let outcome = run_explore(rt, alloc, input, &mut printed, limits, part, jobs, watcher);
     let flushed = printed.flush().is_ok();
