@@ -77,12 +77,12 @@ abbrev pub HeardIf : {T : Type 0} → Hears T → Bool → T → List (List ℕ)
 HeardIf hears true old texts new = AreHeard hears old texts new
 HeardIf hears false old texts new = new ≡ old
 
--- a witness was told the texts of these lines, or of all but the last
+-- a witness was told these texts, or all but the last
 abbrev pub HeardFirst : {T : Type 0} → Hears T → Bool → T → List (List ℕ) → T → Type 0
 HeardFirst hears explain old texts new =
     HeardIf hears explain old texts new ⊎ ((first : List (List ℕ)) × (last : List ℕ) × (texts ≡ first ++ last ∷ []) × HeardIf hears explain old first new)
 
--- what there is to tell of a line, before which these cuts waited, if explanations are asked for
+-- what is told of a line before which these cuts waited, if explanations are asked for
 abbrev pub IsTold : Watching → ℕ → List ℕ → Option Refusal → CutList → ScriptState → List ℕ → Type 0
 IsTold watching number line refused waited after told = watching.explain ≡ true → IsExplained number line refused waited after told
 
@@ -94,7 +94,7 @@ IsExplainedIf watching number line outcome waited after told = watching.explain 
 abbrev pub KnowsCuts : Watching → CutList → Stage → Type 0
 KnowsCuts watching known stage = watching.explain ≡ true → known ≡ cuts_on stage
 
--- a line was run, shown and told. The cuts that waited before it are given
+-- a line before which these cuts waited was run, shown and told
 pub record LineWatched {T : Type 0} (hears : Hears T) (watching : Watching) (number : ℕ) (line : List ℕ) (waited : CutList) (old new : Option (List ℕ)) (before after : T) (from to : Progress) : Type 0 where
   pub said : List ℕ
   pub refused : Option Refusal
@@ -106,7 +106,7 @@ pub record LineWatched {T : Type 0} (hears : Hears T) (watching : Watching) (num
   pub out : Appends old new (shown watching number (record { line = line; said = said; refused = refused }))
   pub count : to.refused ≡ min (from.refused + refusals_of refused) 18446744073709551615
 
--- a line was run; this is to be shown of it, and that is to be told
+-- the same of a line that is still to be shown and told, by these texts
 pub record LineRan (watching : Watching) (number : ℕ) (line : List ℕ) (waited : CutList) (shows told : List ℕ) (from to : Progress) : Type 0 where
   pub said : List ℕ
   pub refused : Option Refusal
