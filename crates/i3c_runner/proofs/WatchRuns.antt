@@ -9,6 +9,7 @@ use Rattle.i3c_script.specs.declared.stage.Stage.{Stage}
 use Rattle.i3c_script.specs.Obeying.{ScriptState}
 use Rattle.i3c_script.specs.Printed.{end_text}
 use Rattle.i3c_script.specs.Stops.{refusals}
+use Rattle.i3c_streams.specs.declared.faults.ScriptFault.{ScriptFault}
 use Rattle.i3c_streams.specs.declared.script_lines.ScriptLines.{ScriptLines}
 use Rattle.i3c_streams.specs.declared.watching.Watching.{Watching}
 use Rattle.i3c_runner.specs.declared.watched.WatchFault.{WatchFault}
@@ -19,7 +20,7 @@ use Rattle.i3c_runner.specs.Expecting.{Standing}
 use Rattle.i3c_runner.specs.Reasons.{IsExplained, cuts_on}
 use Rattle.i3c_runner.specs.Scripts.{IsLineRun, LineRuns, LineRun, lines_bytes, lines_out, lines_refused, run_text}
 use Rattle.i3c_runner.specs.ScriptSteps.{Progress, noted}
-use Rattle.i3c_runner.specs.Watched.{AreFormed, HeardIf, Hears, IsExplainedIf, IsFormed, IsLastReason, IsTold, KnowsCuts, LineFails, LineRan, LineWatched, LinesTell, WatchedEnds, WatchedPart, WatchedWhole, echo_text, echoed, numbered, numbered_by, shown, shown_out}
+use Rattle.i3c_runner.specs.Watched.{AreFormed, HeardBefore, HeardIf, Hears, IsExplainedIf, IsFormed, IsLastReason, IsTold, KnowsCuts, LineFails, LineRan, LineWatched, LinesTell, WatchedEnds, WatchedPart, WatchedWhole, echo_text, echoed, numbered, numbered_by, shown, shown_out}
 use Rattle.i3c_streams.proofs.BytesRead.{none_read, script_is, unread}
 use Rattle.i3c_runner.proofs.CheckRuns.{nothing_out, some_out}
 use Rattle.i3c_runner.proofs.Gathered.{some_after}
@@ -62,6 +63,13 @@ heard_more hears true old mid new (text ∷ texts) told one two = (one.0, one.1,
 heard_none : {T : Type 0} (hears : Hears T) (explain : Bool) (old : T) → HeardIf hears explain old [] old
 heard_none hears false old = refl
 heard_none hears true old = refl
+
+-- a witness was told all texts before a fault
+heard_all : {T : Type 0} (fault : ScriptFault) (hears : Hears T) (explain : Bool) (old : T) (texts : List (List ℕ)) (new : T) → HeardIf hears explain old texts new → HeardBefore fault hears explain old texts new
+heard_all ScriptFault.Memory hears explain old texts new heard = heard
+heard_all ScriptFault.Write hears explain old texts new heard = inl heard
+heard_all ScriptFault.Read hears explain old texts new heard = heard
+heard_all ScriptFault.TooLarge hears explain old texts new heard = heard
 
 -- the cuts that waited are those on the stage
 told_of : (watching : Watching) (number : ℕ) (line : List ℕ) (refused : Option Refusal) (waited : CutList) (stage : Stage) (after : ScriptState) (told : List ℕ) → KnowsCuts watching waited stage
@@ -137,9 +145,9 @@ module _ {T : Type 0} (hears : Hears T) (watching : Watching) (known : Option (L
   }
 
   -- a fault before the next line
-  pub watched_stops : (now old new : Option (List ℕ)) (after : T) (reader : ScriptLines) (from to : Progress) (number : ℕ) → WatchedSoFar hears watching known now old new before after reader from to number
-      → WatchedPart hears watching known old new before after from
-  watched_stops now old new after reader from to number so_far =
+  pub watched_stops : (now old new : Option (List ℕ)) (after : T) (reader : ScriptLines) (from to : Progress) (number : ℕ) (fault : ScriptFault) → WatchedSoFar hears watching known now old new before after reader from to number
+      → WatchedPart hears watching known old new before after from fault
+  watched_stops now old new after reader from to number fault so_far =
       let first = first_given known now reader so_far.read in
       record {
         lines = so_far.lines;
@@ -147,7 +155,7 @@ module _ {T : Type 0} (hears : Hears T) (watching : Watching) (known : Option (L
         to = to.state;
         rest = first.0;
         run = so_far.run;
-        heard = inl so_far.heard;
+        heard = heard_all fault hears watching.explain before so_far.texts after so_far.heard;
         formed = so_far.formed;
         first = subst (λ bytes. IfSome known (λ script. bytes ++ first.0 ≡ script ++ 10 ∷ [])) so_far.bytes first.1;
         out = some_out old new (shown_out watching 1 so_far.lines) so_far.out;
@@ -158,12 +166,12 @@ module _ {T : Type 0} (hears : Hears T) (watching : Watching) (known : Option (L
       → WatchedSoFar hears watching known now old mid before told reader from c1 number → GivesLine reader further → IsReadFrom known next further → KnowsCuts watching waited c1.state.script.stage → after ≡ told
       → LineFails watching number (line_in_hand further) waited mid new c1 fault → WatchedEnds hears watching known old new before after from fault
   watched_ends now next old mid new told after reader further from c1 number waited (WatchFault.Script fault) so_far gives read knows untold (inl same) =
-      subst (λ out. WatchedPart hears watching known old out before after from) (sym same) (subst (λ v. WatchedPart hears watching known old mid before v from) (sym untold) (watched_stops now old mid told reader from c1 number so_far))
-  watched_ends now next old mid new told after reader further from c1 number waited (WatchFault.Script fault) so_far gives read knows untold (inr cut) =
+      subst (λ out. WatchedPart hears watching known old out before after from fault) (sym same) (subst (λ v. WatchedPart hears watching known old mid before v from fault) (sym untold) (watched_stops now old mid told reader from c1 number fault so_far))
+  watched_ends now next old mid new told after reader further from c1 number waited (WatchFault.Script fault) so_far gives read knows untold (inr (failed, cut)) =
       let lines = so_far.lines in
       let run : LineRun = record { line = line_in_hand further; said = cut.said; refused = cut.refused } in
       let first = first_given known next further read in
-      record {
+      let part : WatchedPart hears watching known old new before after from ScriptFault.Write = record {
         lines = lines ++ run ∷ [];
         texts = so_far.texts ++ cut.told ∷ [];
         to = cut.to;
@@ -174,7 +182,8 @@ module _ {T : Type 0} (hears : Hears T) (watching : Watching) (known : Option (L
         formed = formed_more watching lines run so_far.formed cut.formed;
         first = subst (λ bytes. IfSome known (λ script. bytes ++ first.0 ≡ script ++ 10 ∷ [])) (more_bytes lines run reader further so_far.bytes gives.1) first.1;
         out = subst (AppendsSome old new) (sym (shown_more watching lines 1 number run so_far.number)) (some_after old mid new (shown_out watching 1 lines) (shown watching number run) so_far.out cut.out);
-      }
+      } in
+      subst (WatchedPart hears watching known old new before after from) (sym failed) part
   watched_ends now next old mid new told after reader further from c1 number waited (WatchFault.NoForm reason) so_far gives read knows untold (none, strict, why, same) =
       let lines = so_far.lines in
       let line = line_in_hand further in
@@ -198,14 +207,14 @@ module _ {T : Type 0} (hears : Hears T) (watching : Watching) (known : Option (L
       }
 
   -- no line was run
-  pub none_ran : (old : Option (List ℕ)) (from : Progress) → WatchedPart hears watching known old old before before from
-  none_ran old from = record {
+  pub none_ran : (old : Option (List ℕ)) (from : Progress) (fault : ScriptFault) → WatchedPart hears watching known old old before before from fault
+  none_ran old from fault = record {
     lines = [];
     texts = [];
     to = from.state;
     rest = unread known ++ 10 ∷ [];
     run = refl;
-    heard = inl (heard_none hears watching.explain before);
+    heard = heard_all fault hears watching.explain before [] before (heard_none hears watching.explain before);
     formed = tt;
     first = script_is known known [] [] [] (none_read known [] refl) refl;
     out = some_out old old [] (nothing_out old);

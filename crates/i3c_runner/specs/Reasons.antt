@@ -107,7 +107,7 @@ formless_note number reason = line_start number ++ (reason ++ 10 ∷ [])
 abbrev pub refusal_note : ℕ → Refusal → List ℕ → List ℕ
 refusal_note number why reason = line_start number ++ (codes "refused " ++ (refusal_text why ++ (codes ": " ++ (reason ++ (codes " (docs/FORMATS.md, Refusals of lines)" ++ 10 ∷ [])))))
 
--- the line that tells of a device that wasn't cut, since its frame ended before that bit
+-- the line that tells of a cut at a bit that no frame reached
 abbrev pub cut_note : ℕ → Name → ℕ → List ℕ
 cut_note number name bit =
     line_start number ++ (codes "no frame reached bit " ++ (decimal bit ++ (codes ", and the cut of " ++ (letters name ++ (codes " is used up (docs/FORMATS.md, Cuts)" ++ 10 ∷ [])))))
@@ -117,21 +117,21 @@ abbrev pub twin_note : ℕ → Name → Name → List ℕ
 twin_note number name other =
     line_start number ++ (letters name ++ (codes " has the identity of " ++ (letters other ++ (codes ", which is there; the promises leave such devices out (docs/PROMISES.md)" ++ 10 ∷ []))))
 
--- the command by which a line's refusal is explained: its own. A mark has none, and is refused by `NoBus` alone, whose reason
+-- the command by which a line's refusal is explained is its own. A mark has none: it is refused by `NoBus` alone, whose reason
 -- is the same for each command
 abbrev pub IsRefusedAs : List ℕ → Command → Type 0
 IsRefusedAs line command = HasNoForm line ⊎ IsCommand line command
 
--- what is told of a line that is refused since it has no form; a line with a form isn't refused so
+-- why a line has no form, as it is told; a line with a form isn't refused so
 abbrev pub IsFormNote : ℕ → List ℕ → List ℕ → Type 0
 IsFormNote number line note = (HasNoForm line × ((reason : List ℕ) × IsReason line reason × (note ≡ formless_note number reason))) ⊎ ((HasNoForm line → ⊥) × (note ≡ []))
 
--- what is told first of a line that is refused
+-- why a line is refused, as it is told
 abbrev pub IsRefusalNote : ℕ → List ℕ → Refusal → List ℕ → Type 0
 IsRefusalNote number line Refusal.BadLine note = IsFormNote number line note
 IsRefusalNote number line why note = (command : Command) × IsRefusedAs line command × (note ≡ refusal_note number why (reason_text command why))
 
--- the same, if it is refused
+-- what is told first of a line: nothing, unless it is refused
 abbrev pub IsWhy : ℕ → List ℕ → Option Refusal → List ℕ → Type 0
 IsWhy number line None note = note ≡ []
 IsWhy number line (Some why) note = IsRefusalNote number line why note
@@ -171,38 +171,38 @@ abbrev pub IsFirstTwin : Stage → ℕ → Identity → Option ℕ → Type 0
 IsFirstTwin stage slot identity None = (other : ℕ) → other < SLOTS → IsTwin stage slot identity other → ⊥
 IsFirstTwin stage slot identity (Some twin) = IsTwin stage slot identity twin × ((other : ℕ) → other < twin → IsTwin stage slot identity other → ⊥)
 
--- what is told of a device with this name whose twin has that name
+-- what is told of a device with this name, by the name of its twin
 abbrev pub named_twin : ℕ → Name → Option Name → List ℕ
 named_twin number name None = []
 named_twin number name (Some other) = twin_note number name other
 
--- the same by the twin's slot
+-- the same by the slot of its twin
 abbrev pub twin_told : ℕ → Name → Names → Option ℕ → List ℕ
 twin_told number name names None = []
 twin_told number name names (Some twin) = named_twin number name (name_in_slot names twin)
 
--- what is told of a device that came with this name and identity: its first twin
+-- what is told of a new device with this name and identity: its first twin
 abbrev pub IsTwinNote : ℕ → Name → Identity → ScriptState → List ℕ → Type 0
 IsTwinNote number name identity after note = MatchResult (slot_named (place_named after.names name))
     (λ slot. (twin : Option ℕ) × IsFirstTwin after.stage slot identity twin × (note ≡ twin_told number name after.names twin))
     (λ why. note ≡ [])
 
--- what is told last of a command that was done: `main` and `attach` bring a device
+-- what a command that was done tells of its new device: only `main` and `attach` have one
 abbrev pub IsEntryNote : ℕ → Command → ScriptState → List ℕ → Type 0
 IsEntryNote number (Command.Main name setup) after note = IsTwinNote number name setup.identity after note
 IsEntryNote number (Command.Attach name setup) after note = IsTwinNote number name setup.identity after note
 IsEntryNote number _ after note = note ≡ []
 
--- the same of a line
+-- the same of a line that was done: a mark and a line that is passed over have no command
 abbrev pub IsDoneNote : ℕ → List ℕ → ScriptState → List ℕ → Type 0
 IsDoneNote number line after note = (HasNoForm line × (note ≡ [])) ⊎ (IsSkipped line × (note ≡ [])) ⊎ ((command : Command) × IsCommand line command × IsEntryNote number command after note)
 
--- the same, unless it is refused
+-- what is told last of a line: nothing, if it is refused
 abbrev pub IsLastNote : ℕ → List ℕ → Option Refusal → ScriptState → List ℕ → Type 0
 IsLastNote number line None after note = IsDoneNote number line after note
 IsLastNote number line (Some why) after note = note ≡ []
 
--- all that is told of a line, before which these cuts waited: why it was refused, the cuts, and the twin
+-- all that is told of a line before which these cuts waited: why it was refused, the cuts, and the twin
 pub record IsExplained (number : ℕ) (line : List ℕ) (refused : Option Refusal) (waited : CutList) (after : ScriptState) (told : List ℕ) : Type 0 where
   pub why : List ℕ
   pub cuts : List ℕ
@@ -216,7 +216,7 @@ pub record IsExplained (number : ℕ) (line : List ℕ) (refused : Option Refusa
 abbrev pub Adds : (List ℕ → Type 0) → List ℕ → List ℕ → Type 0
 Adds Is old new = (note : List ℕ) × Is note × (new ≡ old ++ note)
 
--- the last command that a script read is the command of a line that was done, unless that one is a mark or passed over
+-- the last command that a script read is that of a line that was done, unless the line is a mark or passed over
 abbrev pub IsDoneAs : List ℕ → Command → Type 0
 IsDoneAs line command = HasNoForm line ⊎ IsSkipped line ⊎ IsCommand line command
 

@@ -8,6 +8,7 @@ use Rattle.i3c_lines.specs.Faults.{IsReason}
 use Rattle.i3c_text.specs.declared.stop.Stop.{Stop}
 use Rattle.i3c_script.specs.declared.stage.Stage.{Stage}
 use Rattle.i3c_script.specs.Obeying.{ScriptState}
+use Rattle.i3c_streams.specs.declared.faults.ScriptFault.{ScriptFault}
 use Rattle.i3c_streams.specs.declared.tally.Tally.{Tally}
 use Rattle.i3c_streams.specs.declared.watching.Watching.{Watching}
 use Rattle.i3c_runner.specs.declared.watched.WatchFault.{WatchFault}
@@ -77,12 +78,16 @@ abbrev pub HeardIf : {T : Type 0} → Hears T → Bool → T → List (List ℕ)
 HeardIf hears true old texts new = AreHeard hears old texts new
 HeardIf hears false old texts new = new ≡ old
 
--- a witness was told the texts of these lines, or of all but the last
-abbrev pub HeardFirst : {T : Type 0} → Hears T → Bool → T → List (List ℕ) → T → Type 0
-HeardFirst hears explain old texts new =
-    HeardIf hears explain old texts new ⊎ ((first : List (List ℕ)) × (last : List ℕ) × (texts ≡ first ++ last ∷ []) × HeardIf hears explain old first new)
+-- a witness was told all of these texts but the last
+abbrev pub HeardButLast : {T : Type 0} → Hears T → Bool → T → List (List ℕ) → T → Type 0
+HeardButLast hears explain old texts new = (first : List (List ℕ)) × (last : List ℕ) × (texts ≡ first ++ last ∷ []) × HeardIf hears explain old first new
 
--- what there is to tell of a line, before which these cuts waited, if explanations are asked for
+-- a witness was told these texts before a fault: a line whose output can't be written isn't told
+abbrev pub HeardBefore : {T : Type 0} → ScriptFault → Hears T → Bool → T → List (List ℕ) → T → Type 0
+HeardBefore ScriptFault.Write hears explain old texts new = HeardIf hears explain old texts new ⊎ HeardButLast hears explain old texts new
+HeardBefore fault hears explain old texts new = HeardIf hears explain old texts new
+
+-- what is told of a line before which these cuts waited, if explanations are asked for
 abbrev pub IsTold : Watching → ℕ → List ℕ → Option Refusal → CutList → ScriptState → List ℕ → Type 0
 IsTold watching number line refused waited after told = watching.explain ≡ true → IsExplained number line refused waited after told
 
@@ -94,7 +99,7 @@ IsExplainedIf watching number line outcome waited after told = watching.explain 
 abbrev pub KnowsCuts : Watching → CutList → Stage → Type 0
 KnowsCuts watching known stage = watching.explain ≡ true → known ≡ cuts_on stage
 
--- a line was run, shown and told. The cuts that waited before it are given
+-- a line before which these cuts waited was run, shown and told
 pub record LineWatched {T : Type 0} (hears : Hears T) (watching : Watching) (number : ℕ) (line : List ℕ) (waited : CutList) (old new : Option (List ℕ)) (before after : T) (from to : Progress) : Type 0 where
   pub said : List ℕ
   pub refused : Option Refusal
@@ -106,7 +111,7 @@ pub record LineWatched {T : Type 0} (hears : Hears T) (watching : Watching) (num
   pub out : Appends old new (shown watching number (record { line = line; said = said; refused = refused }))
   pub count : to.refused ≡ min (from.refused + refusals_of refused) 18446744073709551615
 
--- a line was run; this is to be shown of it, and that is to be told
+-- the same of a line that is still to be shown and told, by these texts
 pub record LineRan (watching : Watching) (number : ℕ) (line : List ℕ) (waited : CutList) (shows told : List ℕ) (from to : Progress) : Type 0 where
   pub said : List ℕ
   pub refused : Option Refusal
@@ -126,10 +131,10 @@ pub record LineCut (watching : Watching) (number : ℕ) (line : List ℕ) (waite
   pub tells : IsTold watching number line refused waited to.script told
   pub out : AppendsSome old new (shown watching number (record { line = line; said = said; refused = refused }))
 
--- what ends the run at a line: a fault, before which a prefix of the line's output was written out, or nothing; or that the
--- line has no form
+-- what ends the run at a line: a fault, before which nothing of the line was written out, or a prefix of its output where the
+-- write failed; or that the line has no form
 abbrev pub LineFails : Watching → ℕ → List ℕ → CutList → Option (List ℕ) → Option (List ℕ) → Progress → WatchFault → Type 0
-LineFails watching number line waited old new from (WatchFault.Script fault) = (new ≡ old) ⊎ LineCut watching number line waited old new from
+LineFails watching number line waited old new from (WatchFault.Script fault) = (new ≡ old) ⊎ ((fault ≡ ScriptFault.Write) × LineCut watching number line waited old new from)
 LineFails watching number line waited old new from (WatchFault.NoForm told) = IsBad line × (watching.strict ≡ true) × IsLastReason number line told × (new ≡ old)
 
 -- the result of a line: with a fault the witness isn't told of it
@@ -157,13 +162,13 @@ pub record WatchedWhole {T : Type 0} (hears : Hears T) (watching : Watching) (kn
   pub count : min to.refused 18446744073709551615 ≡ min (from.refused + lines_refused lines) 18446744073709551615
 
 -- the first lines of a script were run, and then a fault ended the run: a prefix of their output was written out
-pub record WatchedPart {T : Type 0} (hears : Hears T) (watching : Watching) (known old new : Option (List ℕ)) (before after : T) (from : Progress) : Type 0 where
+pub record WatchedPart {T : Type 0} (hears : Hears T) (watching : Watching) (known old new : Option (List ℕ)) (before after : T) (from : Progress) (fault : ScriptFault) : Type 0 where
   pub lines : List LineRun
   pub texts : List (List ℕ)
   pub to : Standing
   pub rest : List ℕ
   pub run : LinesTell watching 1 from.state lines texts to
-  pub heard : HeardFirst hears watching.explain before texts after
+  pub heard : HeardBefore fault hears watching.explain before texts after
   pub formed : AreFormed watching lines
   pub first : IfSome known (λ script. lines_bytes lines ++ rest ≡ script ++ 10 ∷ [])
   pub out : AppendsSome old new (shown_out watching 1 lines)
@@ -186,7 +191,7 @@ pub record WatchedTo {T : Type 0} (hears : Hears T) (watching : Watching) (known
 
 -- what ends a run early
 abbrev pub WatchedEnds : {T : Type 0} → Hears T → Watching → Option (List ℕ) → Option (List ℕ) → Option (List ℕ) → T → T → Progress → WatchFault → Type 0
-WatchedEnds hears watching known old new before after from (WatchFault.Script fault) = WatchedPart hears watching known old new before after from
+WatchedEnds hears watching known old new before after from (WatchFault.Script fault) = WatchedPart hears watching known old new before after from fault
 WatchedEnds hears watching known old new before after from (WatchFault.NoForm told) = WatchedTo hears watching known old new before after from told
 
 -- the result of a run

@@ -1,4 +1,5 @@
 use Rattle.std.proofs.Common.{subst}
+use Rattle.i3c_streams.specs.declared.faults.ScriptFault.{ScriptFault}
 use Rattle.i3c_runner.specs.ScriptSteps.{progress}
 use Rattle.i3c_runner.specs.Watched.{WatchedEnds}
 use Rattle.i3c_runner.proofs.WatchRuns.{none_ran}
@@ -7,7 +8,7 @@ use Rattle.i3c_runner.proofs.watched.run_watched.Goals as goal
 pub returns-in_default-clause-lines : goal.returns-in_default-clause-lines
 returns-in_default-clause-lines g c =
     let from = progress c.new-run.result.script in
-    (from, c.new-run.ensures.begun, c.new-run.ensures.refused, none_ran g.T.Witness.hears c.args.watching (g.R.Read.remaining c.args.reader.now) c.args.witness.now (g.W.Write.contents c.args.writer.now) from)
+    (from, c.new-run.ensures.begun, c.new-run.ensures.refused, none_ran g.T.Witness.hears c.args.watching (g.R.Read.remaining c.args.reader.now) c.args.witness.now (g.W.Write.contents c.args.writer.now) from ScriptFault.Memory)
 
 pub returns-clause-lines : goal.returns-clause-lines
 returns-clause-lines g c =

@@ -1,4 +1,5 @@
 use Rattle.std.proofs.Common.{◌∙◌, Ok, ap, refl, subst}
+use Rattle.i3c_streams.specs.declared.faults.ScriptFault.{ScriptFault}
 use Rattle.i3c_runner.specs.ScriptSteps.{progress}
 use Rattle.i3c_runner.specs.Watched.{KnowsCuts, LineFails, LineWatched}
 use Rattle.i3c_runner.proofs.WatchRuns.{all_watched, none_watched, one_watched, watched_ends, watched_stops}
@@ -23,12 +24,12 @@ returns-in-Ok-false-clause-runs g c =
 pub returns-in-Err-clause-runs : goal.returns-in-Err-clause-runs
 returns-in-Err-clause-runs g c =
     watched_stops g.T.Witness.hears c.args.self.now.watching (g.R.Read.remaining c.args.reader.now) c.args.witness.now (g.R.Read.remaining c.loop-number.reader) (g.W.Write.contents c.args.out.now) (g.W.Write.contents c.loop-number.out)
-    c.loop-number.witness c.loop-number.lines (progress c.args.self.now.script) (progress c.loop-number.self.script) c.loop-number.number c.loop-number.invariant.so_far
+    c.loop-number.witness c.loop-number.lines (progress c.args.self.now.script) (progress c.loop-number.self.script) c.loop-number.number c.in-Err.fault c.loop-number.invariant.so_far
 
 pub returns-clause-runs : goal.returns-clause-runs
 returns-clause-runs g c =
     watched_stops g.T.Witness.hears c.args.self.now.watching (g.R.Read.remaining c.args.reader.now) c.args.witness.now (g.R.Read.remaining c.loop-number.reader) (g.W.Write.contents c.args.out.now) (g.W.Write.contents c.loop-number.out)
-    c.loop-number.witness c.loop-number.lines (progress c.args.self.now.script) (progress c.loop-number.self.script) c.loop-number.number c.loop-number.invariant.so_far
+    c.loop-number.witness c.loop-number.lines (progress c.args.self.now.script) (progress c.loop-number.self.script) c.loop-number.number ScriptFault.Memory c.loop-number.invariant.so_far
 
 pub returns-in-Err-run_line-clause-runs : goal.returns-in-Err-run_line-clause-runs
 returns-in-Err-run_line-clause-runs g c =
