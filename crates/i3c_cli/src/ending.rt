@@ -14,7 +14,7 @@ pub const DONE: u8 = 0;
 /// refused.
 pub const REFUSED: u8 = 1;
 
-/// The exit status if a file wasn't done with to its end.
+/// The exit status if a file wasn't read to its end, or what came of it wasn't written whole.
 pub const FAULT: u8 = 2;
 
 /// The exit status if an expectation wasn't met, or an order of lines breaks one.

@@ -413,8 +413,8 @@ impl Attached {
         }
     }
 
-    /// It takes this address, which it won in a round or was set by SETDASA: it hears no more and has lost its join wish.
-    /// No dynamic address is below `08`.
+    /// It has this address from now on, which a round gave it or SETDASA. It doesn't hear the session any more, and no longer
+    /// wishes to join. No dynamic address is below `08`.
     pub fn take_address(&mut self, address: Addr7)
         requires { 8 ≤ address }
         ensures { self.new ≡ winner address self.old }

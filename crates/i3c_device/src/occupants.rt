@@ -69,7 +69,7 @@ impl Occupants {
         }
     }
 
-    /// Slots that hold a device in one of both alone come to what was kept for them.
+    /// A slot that is empty now, but was kept with a device, gets that device; one whose device came later becomes empty.
     #[tactic(auto, using(crate::proofs::KeepLaws::alone_none))]
     fn wake_alone(&mut self, kept: &Kept)
         ensures woken { (s : ℕ) → s < SLOT_COUNT → (slice_index_or self.new s None ≡ slice_index_or kept.now s None) ⊎ IsHeld kept.now self.new s }

@@ -110,7 +110,8 @@ impl Resting {
     }
 }
 
-/// Whether both are the same device, with kinds of events enabled for the two that differ or don't, or nobody.
+/// Whether both slots are empty, or both devices are the same. `differ` says whether their enabled kinds of events differ,
+/// which are kept apart.
 fn are_same(one: Option<&Attached>, other: Option<&Attached>, differ: bool) -> bool
     ensures { (kinds others : KindSet) → (differ ≡ false) ↔ (kinds ≡ others) → IsTrue result ↔ (option_map (under kinds) (option_copied one.entry) ≡ option_map (under others) (option_copied other.entry)) }
 {

@@ -39,7 +39,7 @@ fn take_steps(limits: &mut Limits, begun: Limits, left: Limits) -> Result<(), St
 }
 
 impl<M: Machine> Apart<M> {
-    /// Adds what a job found that began with these limits.
+    /// Adds the layer that a job made. The job began with these limits.
     fn add(&mut self, layer: Layer<M>, limits: Limits) -> Result<(), Stop>
         ensures nodes { OnOk result (nodes_left self.new.fronts.items ≡ nodes_left self.old.fronts.items ++ layer.nodes.items) }
         ensures steps { OnOk result (self.new.limits.steps + (limits.steps - layer.limits.steps) ≡ self.old.limits.steps) }

@@ -45,7 +45,7 @@ impl Bundles {
         Ok(())
     }
 
-    /// Adds the lines that run from the nodes at a place, each as the first of these nodes runs it.
+    /// Adds the lines that run at a place. The first node there stands for the others.
     fn add_place<M: Machine>(
         &mut self,
         alloc: Global,

@@ -90,7 +90,7 @@ fn twin_before<M: Machine>(nodes: &[Node<M>], spans: &[JobSpan], later: usize) -
     twin_of(nodes, earlier, key, later)
 }
 
-/// The nodes from one index up to the one before another that other jobs found before, each with the first of them.
+/// Of the nodes in `from..to`, those that an earlier job has found too, each with the first such node.
 pub(crate) fn twins_of<M: Machine>(
     alloc: Global,
     nodes: &[Node<M>],

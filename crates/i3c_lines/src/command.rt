@@ -122,7 +122,8 @@ pub enum Command {
     },
     /// A line that sends a frame under the role: `serve`, `enec BYTE [ADDR]`, `disec BYTE [ADDR]`, `reset`, `list`,
     /// `read ADDR`, `write ADDR [BYTES]`, `setdasa ADDR NEW`, `setnewda OLD NEW`, `getpid ADDR` and its like,
-    /// `setmwl N [ADDR]` or `setmrl N [ADDR]`. Of more bytes than may be written one more is kept.
+    /// `setmwl N [ADDR]` or `setmrl N [ADDR]`. A write of too many bytes has one more
+    /// than it may have.
     Frame(Frame),
     /// `handover ADDR`: the role is offered to the device at an address.
     HandOver {

@@ -164,7 +164,7 @@ impl ViewedRun {
         if are_same(&self.behind, last_of(&self.before)) {
             Ok(())
         } else {
-            // not reached, since a line sends fewer symbols than are kept; no clause says how many it sends
+            // not reached: no line sends more than the 4,096 symbols that are copied, but no clause says so
             Err(ScriptFault::TooLarge)
         }
     }
