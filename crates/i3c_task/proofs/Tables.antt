@@ -1,7 +1,7 @@
 -- The parser as it is made of the table, command by command and argument by argument.
-use Rattle.std.proofs.Common.{◌≡◌, ◌∙◌, ◌<◌, ◌+◌, ◌∷◌, [], ℕ, zero, suc, List, All, Option, Some, None, is_some, option_map, unwrap_or, true≢false, length, map, ap, sym, subst, refl, drop, get_or, arith}
+use Rattle.std.proofs.Common.{◌≡◌, ◌∙◌, ◌<◌, ◌≤◌, ◌+◌, ◌∷◌, [], ℕ, zero, suc, List, All, Option, Some, None, is_some, option_map, unwrap_or, true≢false, length, map, ap, sym, subst, refl, drop, get_or, arith}
 use Rattle.std.proofs.Math.ListN.{take}
-use Rattle.std.proofs.lemmas.List.{map_more}
+use Rattle.std.proofs.lemmas.List.{map_more, take_all}
 use Rattle.std.proofs.lemmas.List.Sums.{fold-append}
 use Rattle.std.proofs.lemmas.List.Elements.{All-map}
 use Rattle.std.proofs.lemmas.Simd.{map-map}
@@ -11,7 +11,7 @@ use Rattle.clap.specs.Words.{App, Row, Rule, Shape, Text, found_of, rows_of, sub
 use Rattle.clap.specs.declared.parser.matches.ArgMatches.{ArgMatches}
 use Rattle.clap.specs.declared.parser.matches.ArgMatches.TheViews.{out-ArgMatches, out-SubCommand}
 use Rattle.clap.specs.Simple.{new_shape}
-use Rattle.i3c_task.specs.Commands.{bare, name_of, verbs}
+use Rattle.i3c_task.specs.Commands.{bare, command_of, name_of, program, verbs}
 use Rattle.i3c_task.specs.Table.{shape_of_usage}
 use Rattle.i3c_task.specs.declared.verb.Usage.{Usage}
 use Rattle.i3c_task.specs.declared.verb.Verb.{Verb}
@@ -85,3 +85,7 @@ pub name_of_rows : (matches : ArgMatches) (name : Text) (rows : List Row) → su
 name_of_rows matches name rows is =
     sym (firsts (λ b. (out-SubCommand (box_value b)).name.now) (λ b. rows_of (found_of (out-SubCommand (box_value b)).matches)) (out-ArgMatches matches).subcommand)
     ∙ ap (option_map (λ (p : Text × List Row). p.0)) is
+
+-- it with all of them
+pub with_all : (usages : List Usage) (i : ℕ) → length usages ≤ i → map shape_of_usage usages ≡ map command_of verbs → with_first i usages ≡ program
+with_all usages i end shapes = ap (fold with_subcommand without) (ap (map shape_of_usage) (take_all i usages end) ∙ shapes)
