@@ -156,7 +156,8 @@ show_pieces forgotten st names = show_behind_pieces 0 forgotten st names
 
 -- what a present device is: its identity, the enabled kinds of its events, and its wish
 abbrev pub description_pieces : Option Name → Option Device → List Piece
-description_pieces (Some name) (Some d) = Piece.Description name d.identity d.kinds.interrupt d.kinds.role d.kinds.join (choice_of d.address d) ∷ []
+description_pieces (Some name) (Some d) =
+    Piece.Description (record { name = name; identity = d.identity; interrupt = d.kinds.interrupt; role = d.kinds.role; join = d.kinds.join; wish = choice_of d.address d }) ∷ []
 description_pieces None device = []
 description_pieces (Some name) None = []
 

@@ -19,6 +19,7 @@ use Rattle.i3c_lines.specs.Naming.{letters, slot_names}
 use Rattle.i3c_lines.specs.Refusing.{refusal_text}
 use Rattle.i3c_lines.specs.declared.refusals.Refusal.{Refusal}
 use Rattle.i3c_text.specs.declared.stop.Stop.{Stop}
+use Rattle.i3c_script.specs.declared.piece.Description.{Description}
 use Rattle.i3c_script.specs.declared.piece.Piece.{Piece}
 use Rattle.i3c_script.specs.Pieces.{numbered_pieces, show_pieces}
 
@@ -97,8 +98,12 @@ wish_token (Some (Role a)) = codes "role"
 wish_token (Some (Interrupt a)) = codes "none"
 
 -- a device by these parts
-abbrev pub described_text : Name → Identity → List ℕ → List ℕ → List ℕ
-described_text name identity kinds wish = codes "device " ++ (letters name ++ (registers_text identity ++ (codes " enabled " ++ (kinds ++ (codes " wishes " ++ (wish ++ 10 ∷ []))))))
+abbrev pub described_parts : Name → Identity → List ℕ → List ℕ → List ℕ
+described_parts name identity kinds wish = codes "device " ++ (letters name ++ (registers_text identity ++ (codes " enabled " ++ (kinds ++ (codes " wishes " ++ (wish ++ 10 ∷ []))))))
+
+-- what a device is
+abbrev pub described_text : Description → List ℕ
+described_text device = described_parts device.name device.identity (kinds_tokens device.interrupt device.role device.join) (wish_token device.wish)
 
 -- whether the list of devices is current
 abbrev pub list_text : Bool → List ℕ
@@ -156,7 +161,7 @@ piece_text (Piece.Device name address waiting) = device_text name address waitin
 piece_text (Piece.Target name a) = target_text name a
 piece_text (Piece.Records count) = number_text (codes "records ") count
 piece_text (Piece.Entry number r) = codes "record " ++ (decimal number ++ record_text r)
-piece_text (Piece.Description name identity interrupt role join wish) = described_text name identity (kinds_tokens interrupt role join) (wish_token wish)
+piece_text (Piece.Description device) = described_text device
 piece_text (Piece.Listed is_current) = list_text is_current
 piece_text (Piece.Session is_open) = session_text is_open
 piece_text (Piece.Tenure slot from to) = tenure_text slot from to

@@ -5,7 +5,7 @@ ghost use Rattle.i3c_lines.specs.Naming.{slot_names};
 ghost use Rattle.i3c_script.specs.Hearing.{all_heard};
 ghost use Rattle.i3c_script.specs.Pieces.{description_pieces, descriptions_pieces, show_all_pieces, tenures_pieces};
 
-use crate::piece::{Listener, Piece};
+use crate::piece::{Description, Listener, Piece};
 use crate::settings::Settings;
 use crate::show::hear_bus;
 use crate::tenures::{Tenure, hear_tenures};
@@ -70,14 +70,14 @@ fn hear_slot<L: Listener>(
     ensures { OnOk result (listener.new ≡ all_heard L.heard listener.old (description_pieces (slice_index_or (slot_names names.now) slot None) (device_at bus.now.state slot))) }
 {
     match (names.in_slot(slot), bus.identity(slot)) {
-        (Some(name), Some(identity)) => listener.hear(Piece::Description {
+        (Some(name), Some(identity)) => listener.hear(Piece::Description(Description {
             name: *name,
             identity,
             interrupt: bus.may_interrupt(slot),
             role: bus.may_ask_role(slot),
             join: bus.may_join(slot),
             wish: bus.wish(slot),
-        }),
+        })),
         _ => Ok(()),
     }
 }

@@ -32,7 +32,7 @@ mod wires;
 
 pub use laws::scripts_are_legal_runs;
 pub use outcomes::outcome_of;
-pub use piece::{Listener, Piece};
+pub use piece::{Description, Listener, Piece};
 pub use running::Running;
 pub use settings::{Settings, sum_of};
 pub use show::{show_askers, show_bus, show_records_behind};

@@ -50,29 +50,29 @@ pub enum Piece {
     Records(usize),
     /// A record, with its number from 1.
     Entry(usize, Record),
-    /// What a present device is: its identity, the enabled kinds of its events, and its wish.
-    Description {
-        name: Name,
-        identity: Identity,
-        interrupt: bool,
-        role: bool,
-        join: bool,
-        wish: Option<Request>,
-    },
+    /// What a present device is.
+    Description(Description),
     /// Whether the list of devices is current.
     Listed(bool),
     /// Whether a session is open.
     Session(bool),
     /// The device of this slot was active while the records with these numbers were made.
-    Tenure {
-        slot: Slot,
-        from: usize,
-        to: usize,
-    },
+    Tenure { slot: Slot, from: usize, to: usize },
     /// The first symbol of a line of symbols, a further one, and the end of this line.
     FirstSymbol(Symbol),
     Symbol(Symbol),
     SymbolsEnd,
+}
+
+/// What a present device is: its name and identity, which kinds of its events are enabled, and its wish.
+#[derive(Clone, Copy)]
+pub struct Description {
+    pub name: Name,
+    pub identity: Identity,
+    pub interrupt: bool,
+    pub role: bool,
+    pub join: bool,
+    pub wish: Option<Request>,
 }
 
 /// Listens to what a line comes to.

@@ -1,10 +1,10 @@
 ghost use Rattle.std.specs.Prelude.{◌≡◌, ◌∷◌, ◌++◌, [], OnOk, codes};
 ghost use Rattle.std.specs.Fmt.{decimal};
 ghost use Rattle.i3c_frame.specs.Texts.{text_of};
-ghost use Rattle.i3c_script.specs.Printed.{added_text, assigned_text, byte_or_none, described_text, device_text, entered_text, field_text, identity_text, kinds_tokens, list_text, main_text, piece_text, read_text, record_text, recorded_text, registers_text, served_text, session_text, target_text, tenure_text, wish_token};
+ghost use Rattle.i3c_script.specs.Printed.{added_text, assigned_text, byte_or_none, described_parts, described_text, device_text, entered_text, field_text, identity_text, kinds_tokens, list_text, main_text, read_text, record_text, recorded_text, registers_text, served_text, session_text, target_text, tenure_text, wish_token};
 ghost use Rattle.i3c_text.specs.Hex.{byte_text};
 
-use crate::piece::{Listener, Piece};
+use crate::piece::{Description, Listener, Piece};
 use i3c_base::{Addr7, Bytes, Identity, Record, Served, Slot};
 use i3c_bus::Request;
 use i3c_frame::Symbol;
@@ -21,64 +21,38 @@ impl Listener for Text {
 
     ghost heard = { with_piece };
 
+    // in line, where it is known which piece is heard
     #[inline(always)]
     fn hear(&mut self, piece: Piece) -> Result<(), AllocError> {
         match piece {
-            Piece::Done => self.push(b"done\n"),
-            Piece::Served(served) => print_served(&served, self),
+            Piece::Legacy(name, address) => print_added(&name, address, self),
+            Piece::Declared(address) => print_place(b"declared ", Some(address), self),
+            Piece::Main(name, address) => print_main(&name, address, self),
+            Piece::Entered(name, slot) => print_entered(&name, slot, self),
+            Piece::Dropped => self.push(b"dropped\n"),
             Piece::Raised(number) => self.push_numbered(b"raised ", number),
-            _ => print(&piece, self),
+            Piece::Asked => self.push(b"asked\n"),
+            Piece::Served(served) => print_served(&served, self),
+            Piece::Done => self.push(b"done\n"),
+            Piece::Bytes(bytes) => print_read(b"bytes", &bytes, self),
+            Piece::Told(what, bytes) => print_read(told_token(what).as_bytes(), &bytes, self),
+            Piece::Opened => self.push(b"open\n"),
+            Piece::Assigned(address, identity) => print_assigned(address, &identity, self),
+            Piece::Nobody => self.push(b"nobody\n"),
+            Piece::Ended => self.push(b"ended\n"),
+            Piece::Active(address) => print_place(b"active ", address, self),
+            Piece::Device(name, address, waiting) => print_device(&name, address, waiting, self),
+            Piece::Target(name, address) => print_target(&name, address, self),
+            Piece::Records(count) => self.push_numbered(b"records ", count as u64),
+            Piece::Entry(number, kept) => print_entry(number, &kept, self),
+            Piece::Description(device) => print_description(&device, self),
+            Piece::Listed(is_current) => self.push(list_line(is_current).as_bytes()),
+            Piece::Session(is_open) => self.push(session_line(is_open).as_bytes()),
+            Piece::Tenure { slot, from, to } => print_tenure(slot, from, to, self),
+            Piece::FirstSymbol(symbol) => print_symbol(&symbol, self),
+            Piece::Symbol(symbol) => print_later(&symbol, self),
+            Piece::SymbolsEnd => self.end(),
         }
-    }
-}
-
-/// Prints a piece.
-// kept apart, so that the commonest pieces don't pay for the room that this takes on the stack
-#[inline(never)]
-fn print(piece: &Piece, text: &mut Text) -> Result<(), AllocError>
-    ensures { OnOk result (text.new ≡ text.old ++ piece_text piece.now) }
-{
-    match piece {
-        Piece::Legacy(name, address) => print_added(name, *address, text),
-        Piece::Declared(address) => print_place(b"declared ", Some(*address), text),
-        Piece::Main(name, address) => print_main(name, *address, text),
-        Piece::Entered(name, slot) => print_entered(name, *slot, text),
-        Piece::Dropped => text.push(b"dropped\n"),
-        Piece::Raised(number) => text.push_numbered(b"raised ", *number),
-        Piece::Asked => text.push(b"asked\n"),
-        Piece::Served(served) => print_served(served, text),
-        Piece::Done => text.push(b"done\n"),
-        Piece::Bytes(bytes) => print_read(b"bytes", bytes, text),
-        Piece::Told(what, bytes) => print_read(told_token(*what).as_bytes(), bytes, text),
-        Piece::Opened => text.push(b"open\n"),
-        Piece::Assigned(address, identity) => print_assigned(*address, identity, text),
-        Piece::Nobody => text.push(b"nobody\n"),
-        Piece::Ended => text.push(b"ended\n"),
-        Piece::Active(address) => print_place(b"active ", *address, text),
-        Piece::Device(name, address, waiting) => print_device(name, *address, *waiting, text),
-        Piece::Target(name, address) => print_target(name, *address, text),
-        Piece::Records(count) => text.push_numbered(b"records ", *count as u64),
-        Piece::Entry(number, kept) => print_entry(*number, kept, text),
-        Piece::Description {
-            name,
-            identity,
-            interrupt,
-            role,
-            join,
-            wish,
-        } => {
-            let kinds = kinds_tokens(*interrupt, *role, *join);
-            print_description(name, identity, kinds, wish_token(*wish), text)
-        }
-        Piece::Listed(is_current) => text.push(list_line(*is_current).as_bytes()),
-        Piece::Session(is_open) => text.push(session_line(*is_open).as_bytes()),
-        Piece::Tenure { slot, from, to } => print_tenure(*slot, *from, *to, text),
-        Piece::FirstSymbol(symbol) => print_symbol(symbol, text),
-        Piece::Symbol(symbol) => {
-            text.push(b" ")?;
-            print_symbol(symbol, text)
-        }
-        Piece::SymbolsEnd => text.end(),
     }
 }
 
@@ -259,15 +233,24 @@ fn print_last_byte(tokens: &[u8], byte: Option<u8>, text: &mut Text) -> Result<(
     text.end()
 }
 
+/// Prints what a device is.
+fn print_description(device: &Description, text: &mut Text) -> Result<(), AllocError>
+    ensures { OnOk result (text.new ≡ text.old ++ described_text device.now) }
+{
+    let kinds = kinds_tokens(device.interrupt, device.role, device.join);
+    let wish = wish_token(device.wish);
+    print_parts(&device.name, &device.identity, kinds, wish, text)
+}
+
 /// Prints a device by its name, what it is, the enabled kinds of its events, and its wish.
-fn print_description(
+fn print_parts(
     name: &Name,
     identity: &Identity,
     kinds: &str,
     wish: &str,
     text: &mut Text,
 ) -> Result<(), AllocError>
-    ensures { OnOk result (text.new ≡ text.old ++ described_text name.now identity.now kinds.now wish.now) }
+    ensures { OnOk result (text.new ≡ text.old ++ described_parts name.now identity.now kinds.now wish.now) }
 {
     text.push(b"device ")?;
     text.push(name.as_bytes())?;
@@ -370,4 +353,12 @@ fn print_symbol(symbol: &Symbol, text: &mut Text) -> Result<(), AllocError>
         Ok(()) => Ok(()),
         Err(_) => Err(AllocError),
     }
+}
+
+/// Prints a symbol, behind a space.
+fn print_later(symbol: &Symbol, text: &mut Text) -> Result<(), AllocError>
+    ensures { OnOk result (text.new ≡ text.old ++ 32 ∷ text_of symbol.now) }
+{
+    text.push(b" ")?;
+    print_symbol(symbol, text)
 }

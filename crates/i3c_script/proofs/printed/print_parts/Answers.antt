@@ -2,7 +2,7 @@ use Rattle.std.proofs.Common.{[], ◌∷◌, ◌++◌, ◌∙◌, ap, codes}
 use Rattle.i3c_lines.specs.Naming.{letters}
 use Rattle.i3c_script.specs.Printed.{registers_text}
 use Rattle.i3c_script.proofs.Showing.{told_behind, told_both, told_on}
-use Rattle.i3c_script.proofs.printed.print_description.Goals as goal
+use Rattle.i3c_script.proofs.printed.print_parts.Goals as goal
 
 pub returns : goal.returns
 returns c =
