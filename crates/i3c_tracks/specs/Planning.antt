@@ -133,8 +133,8 @@ any_at_risk [] = false
 any_at_risk ((number, FileLine.Marks (Mark.Anywhere name)) ∷ rest) = true
 any_at_risk (line ∷ rest) = any_at_risk rest
 
--- what a file asks for: the bus's main controller, what has a static address, the names that are given at its start, the numbers
--- of the commands up to `main`, the blocks, which of them a line opened, and whether a device may lose power in one
+-- what a file asks for. Up to `main`: the main controller, what has a static address, the names that are given, and the numbers
+-- of these commands. Behind it: the blocks, which of them a line opened, and whether a device may lose power in one
 pub record Outline : Type 0 where
   pub main : Setup
   pub board : Board
