@@ -17,8 +17,23 @@ pub struct Assignment {
     pub complete: bool,
 }
 
+impl Assignment {
+    ghost use Rattle.std.specs.Prelude.{◌≡◌, []};
+
+    /// What an assignment in which nobody hears comes to.
+    pub fn new() -> Assignment
+        ensures { result.given.items ≡ [] }
+    {
+        Assignment {
+            served: Served::Quiet,
+            given: ArrayVec::new(),
+            complete: true,
+        }
+    }
+}
+
 impl Bus {
-    ghost use Rattle.std.specs.Prelude.{◌≡◌, ◌≢◌, true, ℕ, ◌<◌, ◌++◌, ◌∷◌, [], map, IfErr, IfOk};
+    ghost use Rattle.std.specs.Prelude.{◌≡◌, ◌≢◌, true, ℕ, ◌<◌, ◌++◌, ◌∷◌, [], map, IfErr, IfOk, OnOk};
     ghost use Rattle.i3c_base.specs.Cutting.{no_cuts};
     ghost use Rattle.i3c_base.specs.declared.answers.RoundReply.{RoundReply as RoundReplyValue};
     ghost use Rattle.i3c_base.specs.declared.identity.Identity.{Identity as IdentityValue};
@@ -47,39 +62,61 @@ impl Bus {
         ensures fits { HandFits (Hand.Role result.0) self.new.state }
         ensures room { self.old.room ≡ true → self.new.room ≡ true }
     {
+        let mut all = Assignment::new();
+        let (role, assigned) = self.assign_into(role, tap, cuts, &mut all);
+        match assigned {
+            Ok(()) => (role, Ok(all)),
+            Err(why) => (role, Err(why)),
+        }
+    }
+
+    /// Plays a whole session as [`Bus::assign_all`] does, and writes into `all` what it came to. A call that is repeated
+    /// moves no assignment so.
+    pub fn assign_into<T: Tap>(
+        &mut self,
+        role: Role,
+        tap: &mut T,
+        cuts: &Cuts,
+        all: &mut Assignment,
+    ) -> (Role, Result<(), ActiveStays>)
+        requires fits { HandFits (Hand.Role role) self.old.state }
+        ensures assigned { OnOk result.1 (Tells T.note_gives tap.old tap.new (IsAssignment self.old.state cuts.now all.new.served all.new.given.items all.new.complete self.new.state)) }
+        ensures refused { IfErr result.1 (λ _. Carries self.old self.new (Event.OpenDaa cuts.now) (Reply.Refused Refusal.ActiveStays) (Hand.Role role) (Tells T.note_gives tap.old tap.new)) }
+        ensures fits { HandFits (Hand.Role result.0) self.new.state }
+        ensures room { self.old.room ≡ true → self.new.room ≡ true }
+    {
         let (session, served) = match self.open_daa(role, tap, cuts) {
             Ok(opened) => opened,
             Err((role, ActiveStays)) => return (role, Err(ActiveStays)),
         };
-        let (given, complete) = self.all_rounds(&session, tap);
+        all.served = served;
+        all.given.clear();
+        all.complete = self.all_rounds(&session, tap, &mut all.given);
         let role = session.end(self, tap);
-        let assignment = Assignment {
-            served,
-            given,
-            complete,
-        };
-        (role, Ok(assignment))
+        (role, Ok(()))
     }
 
-    /// All rounds of a session, in which nobody is cut: the addresses that they give, and whether each hearer has one.
+    /// All rounds of a session, in which nobody is cut: appends the addresses that they give, and answers whether each hearer
+    /// has one.
     fn all_rounds<T: Tap>(
         &mut self,
         session: &Session,
         tap: &mut T,
-    ) -> (ArrayVec<(Addr7, Identity), SLOTS>, bool)
+        given: &mut ArrayVec<(Addr7, Identity), SLOTS>,
+    ) -> bool
         requires fits { HandFits (Hand.Session session.now) self.old.state }
-        ensures gives { Tells T.note_gives tap.old tap.new (λ wire. AreRounds self.old.state (map given_reply result.0.items ++ last_reply result.1 ∷ []) wire self.new.state) }
+        requires none { given.old.items ≡ [] }
+        ensures gives { Tells T.note_gives tap.old tap.new (λ wire. AreRounds self.old.state (map given_reply given.new.items ++ last_reply result ∷ []) wire self.new.state) }
         ensures fits { HandFits (Hand.Session session.now) self.new.state }
         ensures room { self.old.room ≡ true → self.new.room ≡ true }
     {
         let cuts = Cuts::new();
-        let mut given = ArrayVec::new();
         // a round that gives an address leaves one hearer fewer
         for _ in 0..=self.devices.slots() {
             match self.uncut_round(session, tap, &cuts) {
                 RoundReply::Assigned(address, identity) => given.push((address, identity)),
-                RoundReply::Done => return (given, true),
-                RoundReply::NoAddress => return (given, false),
+                RoundReply::Done => return true,
+                RoundReply::NoAddress => return false,
                 RoundReply::Nobody => unreachable!(),
             }
         }

@@ -1,5 +1,6 @@
 pub mod Tokens
 pub mod Naming
+pub mod Keeping
 pub mod Policies
 pub mod Data
 pub mod Refusing

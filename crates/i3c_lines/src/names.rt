@@ -3,10 +3,8 @@ ghost use Rattle.std.specs.Prelude.{length as place_count};
 ghost use Rattle.i3c_lines.specs.Tokens.{IsNameLetter};
 ghost use Rattle.i3c_lines.specs.declared.names.TheConstants.{NAME_LENGTH};
 
-use crate::refusals::Refusal;
 use crate::tokens::behind_space;
 use i3c_base::{ADDRESSES, Addr7, SLOTS, Slot};
-use i3c_step::Refusal as BusRefusal;
 use indexmap::IndexMap;
 use std::alloc::{AllocError, Global};
 use std::hash::{Hash, Hasher};
@@ -204,7 +202,7 @@ pub struct Names {
 
 impl Names {
     ghost use Rattle.std.specs.Prelude.{MatchOption, None, OnOk, Some, false, option_copied, slice_index_or, slice_set};
-    ghost use Rattle.i3c_lines.specs.Naming.{Empties, GivesAlone, GivesSlot, is_same, legacy_names, place_named, slot_named, slot_names};
+    ghost use Rattle.i3c_lines.specs.Naming.{Empties, GivesAlone, GivesSlot, is_same, legacy_names, place_named, slot_names};
     ghost use Rattle.i3c_lines.specs.declared.names.Name.{Name};
 
     /// No names.
@@ -225,20 +223,6 @@ impl Names {
         ensures { result ≡ place_named self.now name.now }
     {
         self.places.get(name).copied()
-    }
-
-    /// The slot that a name stands for. Its device may be gone. It answers `NoName` where the name was not given, and
-    /// `NoDevice` where it is a legacy target's, or another device has taken the slot since.
-    pub fn slot_of(&self, name: &Name) -> Result<Slot, Refusal>
-        ensures { result ≡ slot_named (place_named self.now name.now) }
-    {
-        let Some(place) = self.place_of(name) else {
-            return Err(Refusal::NoName);
-        };
-        match place {
-            Place::Slot(slot) => Ok(slot),
-            Place::Legacy(_) | Place::Gone => Err(Refusal::Bus(BusRefusal::NoDevice)),
-        }
     }
 
     /// The name that was last given to a slot.

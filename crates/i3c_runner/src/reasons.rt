@@ -10,7 +10,7 @@ use crate::script::Script;
 use i3c_base::{Cuts, Identity, SLOTS, Slot};
 use i3c_bus::{Bus, Command as Frame, Refusal as BusRefusal};
 use i3c_legacy::{DeclareFault, LegacyFault};
-use i3c_lines::{Command, Name, Names, Refusal, form_fault, is_skipped};
+use i3c_lines::{Command, Name, Names, Refusal, form_fault, is_skipped, slot_meant};
 use i3c_script::Stage;
 use i3c_text::{Stop, Text};
 use std::alloc::{AllocError, Global};
@@ -398,7 +398,7 @@ fn explain_device(
 ) -> Result<(), AllocError>
     ensures { OnOk result (Adds (IsTwinNote number name.now identity (state_of script.now.stage script.now.names)) text.old text.new) }
 {
-    let Ok(slot) = script.names.slot_of(name) else {
+    let Ok(slot) = slot_meant(script.names, name) else {
         return Ok(());
     };
     let Some(twin) = twin_of(&script.stage, slot, &identity) else {

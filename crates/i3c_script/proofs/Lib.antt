@@ -1,6 +1,7 @@
 pub mod Hearing
 pub mod Texts
 pub mod Presence
+pub mod Kept
 pub mod Moving
 pub mod Showing
 pub mod Assigned

@@ -1,15 +1,14 @@
--- The symbols that are kept, and steps of a script with a bus.
-use Rattle.std.proofs.Common.{◌≡◌, ◌∙◌, ℕ, ◌+◌, ◌-◌, Bool, true, false, cond, List, [], ◌∷◌, ◌++◌, length, drop, Option, Some, None, Result, Ok, Err, ap, refl, sym, subst, arith, append_assoc, length-append, length-drop, drop-drop}
+-- Steps of a bus on which lines are obeyed.
+use Rattle.std.proofs.Common.{◌≡◌, ◌∙◌, ℕ, ◌+◌, Bool, true, false, cond, List, [], ◌++◌, length, Option, Some, None, Result, Ok, Err, ap, refl, sym, subst}
 use Rattle.std.proofs.lemmas.Bool.{false≢true}
-use Rattle.std.proofs.lemmas.List.{append-nil, drop-append-le}
 use Rattle.std.specs.Option.{is_some}
 use Rattle.std.specs.Prelude.{MatchResult}
-use Rattle.circular_buffer.specs.Buffer.{keep_last}
 use Rattle.i3c_base.specs.declared.requests.Fixed.{Fixed}
 use Rattle.i3c_base.specs.Cutting.{CutList, no_cuts}
 use Rattle.i3c_base.specs.State.{State}
 use Rattle.i3c_frame.specs.declared.symbols.Symbol.{Symbol}
-use Rattle.i3c_frame.specs.Taps.{NotesAll, Tells}
+use Rattle.i3c_frame.specs.Taps.{Tells}
+use Rattle.i3c_frame.proofs.TapLaws.{NotesAll-nil}
 use Rattle.i3c_step.specs.declared.events.Command.{Command as Frame}
 use Rattle.i3c_step.specs.declared.events.Event.{Event}
 use Rattle.i3c_step.specs.declared.replies.Reply.{Reply}
@@ -26,100 +25,59 @@ use Rattle.i3c_step.specs.Step.{Step, cuts_in}
 use Rattle.i3c_step.proofs.SlotLaws.{slots_kept}
 use Rattle.i3c_bus.specs.Wire.{IsWire}
 use Rattle.i3c_lines.specs.declared.names.Name.{Name}
-use Rattle.i3c_lines.specs.declared.names.Names.{Names}
 use Rattle.i3c_lines.specs.declared.refusals.Refusal.{Refusal}
+use Rattle.i3c_lines.specs.Keeping.{NamesKept, slot_meant}
 use Rattle.i3c_text.specs.declared.stop.Stop.{Stop}
 use Rattle.i3c_script.specs.declared.piece.Piece.{Piece}
 use Rattle.i3c_script.specs.declared.replies.Subject.{Subject}
 use Rattle.i3c_script.specs.declared.settings.Settings.{Settings}
-use Rattle.i3c_script.specs.declared.tenures.Tenure.{Tenure}
-use Rattle.i3c_script.specs.declared.wires.TheConstants.{SYMBOLS}
-use Rattle.i3c_script.specs.Asking.{slot_meant}
 use Rattle.i3c_script.specs.Hearing.{Hears}
 use Rattle.i3c_script.specs.Pieces.{frame_subject, subject_of}
-use Rattle.i3c_script.specs.Assigning.{Moves, cuts_left}
+use Rattle.i3c_script.specs.Assigning.{Moves, cuts_left, ended_by}
 use Rattle.i3c_script.specs.Accepting.{Accepts}
 use Rattle.i3c_script.specs.Obeying.{Answers, AnswersIn, AnswersOf, IsRefused, Sends}
-use Rattle.i3c_script.specs.Ran.{Ran, ran_of}
+use Rattle.i3c_script.specs.Situations.{PastKept, Situation, situation}
 use Rattle.i3c_script.specs.Telling.{IsTold, Prints}
-use Rattle.i3c_script.specs.Tenures.{ended_by}
 use Rattle.i3c_script.proofs.Hearing.{hears_by}
-
-module _ {X : Type 0} where
-  -- to keep the last ones twice is to keep them once
-  pub keep_twice : (n : ℕ) (a b : List X) → keep_last n (keep_last n a ++ b) ≡ keep_last n (a ++ b)
-  keep_twice n a b =
-      let k = length a - n in
-      let joined : drop k a ++ b ≡ drop k (a ++ b) = sym (drop-append-le k a b (omega arith)) in
-      let long = length-append a b in
-      let left : length (drop k (a ++ b)) ≡ length (a ++ b) - k = length-drop k (a ++ b) in
-      let at : k + (length (drop k (a ++ b)) - n) ≡ length (a ++ b) - n = omega (arith, long, left) in
-      ap (λ l. keep_last n l) joined ∙ drop-drop (length (drop k (a ++ b)) - n) k (a ++ b) ∙ ap (λ m. drop m (a ++ b)) at
-
-  -- and nothing more is kept of nothing
-  pub keep_still : (n : ℕ) (a : List X) → keep_last n a ≡ keep_last n (keep_last n a ++ [])
-  keep_still n a = sym (keep_twice n a [] ∙ ap (λ l. keep_last n l) (append-nil a))
-
--- what is kept of one more symbol
-abbrev pub note : List Symbol → Symbol → List Symbol → Type 0
-note old symbol new = new ≡ keep_last SYMBOLS (old ++ symbol ∷ [])
-
--- symbols that are noted one after another come behind those that were kept
-pub kept_by : (old wire new : List Symbol) → NotesAll note old wire new → keep_last SYMBOLS new ≡ keep_last SYMBOLS (keep_last SYMBOLS old ++ wire)
-kept_by old [] new e = sym (ap (λ l. keep_last SYMBOLS l) e) ∙ keep_still SYMBOLS old
-kept_by old (symbol ∷ wire) new (mid, noted, rest) =
-    kept_by mid wire new rest ∙ keep_twice SYMBOLS mid wire ∙ ap (λ l. keep_last SYMBOLS (l ++ wire)) noted ∙ keep_twice SYMBOLS (old ++ symbol ∷ []) wire
-    ∙ ap (λ l. keep_last SYMBOLS l) (append_assoc old (symbol ∷ []) wire) ∙ sym (keep_twice SYMBOLS old (symbol ∷ wire))
-
--- a step of the bus, whose wire the symbols were told
-pub moved : (old new : State) (settings : Settings) (cuts : CutList) (before after : List Symbol) (ended : List Tenure) (event : Event) (reply : Reply) → Step old event reply new → Tells note before after (IsWire old event reply new)
-    → Moves (ran_of old settings cuts before ended) event reply (ran_of new settings (cuts_left event cuts) after (ended_by reply old.active (settings.forgotten + length new.records) ended))
-moved old new settings cuts before after ended event reply step (wire, notes, is) = record { wire = wire; step = step; sent = is; kept = kept_by before wire after notes; settings = refl; cuts = refl; ended = refl }
-
--- where the role isn't handed over, nobody's time ends
-ended_still : (reply : Reply) (slot records : ℕ) (ended : List Tenure) → is_handed reply ≡ false → ended_by reply slot records ended ≡ ended
-ended_still reply slot records ended same = ap (λ b. cond b (ended ++ record { slot = slot; records = records } ∷ []) ended) same
-
--- a step that sends nothing
-pub unsent : (old new : State) (settings : Settings) (cuts : CutList) (symbols : List Symbol) (ended : List Tenure) (event : Event) (reply : Reply) → is_handed reply ≡ false → Step old event reply new → IsWire old event reply new []
-    → Moves (ran_of old settings cuts symbols ended) event reply (ran_of new settings (cuts_left event cuts) symbols ended)
-unsent old new settings cuts symbols ended event reply still step is = record {
-  wire = [];
-  step = step;
-  sent = is;
-  kept = keep_still SYMBOLS symbols;
-  settings = refl;
-  cuts = refl;
-  ended = sym (ended_still reply old.active (settings.forgotten + length new.records) ended still);
-}
 
 -- a frame takes all cuts that wait
 pub all_taken : (event : Event) (cuts : CutList) → is_some (cuts_in event) ≡ true → cuts_left event cuts ≡ no_cuts
 all_taken event cuts frame = ap (λ b. cond b no_cuts cuts) frame
 
--- so its cuts may be taken before
-pub framed : (old new : Ran) (event : Event) (reply : Reply) → is_some (cuts_in event) ≡ true → Moves (record old { cuts = no_cuts }) event reply new → Moves old event reply new
-framed old new event reply frame m = record { wire = m.wire; step = m.step; sent = m.sent; kept = m.kept; settings = m.settings; cuts = m.cuts ∙ all_taken event no_cuts frame ∙ sym (all_taken event old.cuts frame); ended = m.ended }
+module _ {P : Type 0} (past : PastKept P) where
+  -- a step of the bus, whose wire is kept
+  pub moved : (old new : State) (settings : Settings) (cuts : CutList) (before sent : P) (event : Event) (reply : Reply) → Step old event reply new → past.sends before (IsWire old event reply new) sent
+      → Moves past (situation old settings cuts before) event reply (situation new settings (cuts_left event cuts) (ended_by past reply old.active (settings.forgotten + length new.records) sent))
+  moved old new settings cuts before sent event reply step is = record { sent = sent; step = step; sends = is; settings = refl; cuts = refl; past = refl }
 
-module _ {L : Type 0} (heard : L → Piece → L) where
-  -- a frame whose cuts are taken before
-  pub answers_framed : (old mid new : Ran) (event : Event) (before after : L) (result : Result (Unit {0}) (Stop Refusal)) → is_some (cuts_in event) ≡ true → mid ≡ record old { cuts = no_cuts }
-      → Hears heard (λ pieces refused. Answers mid event pieces refused new) before after result → Hears heard (λ pieces refused. Answers old event pieces refused new) before after result
-  answers_framed old mid new event before after result frame same h =
-      hears_by heard (λ pieces refused. Answers mid event pieces refused new) (λ pieces refused. Answers old event pieces refused new)
-      (λ pieces refused a. (a.0, framed old new event a.0 frame (subst (λ r. Moves r event a.0 new) same a.1), subst (λ (r : Ran). IsTold (subject_of event) (reply_from r.settings.forgotten a.0) pieces refused) same a.2)) before after result h
+  -- where the role isn't handed over, nobody's tenure ends
+  pub ended_still : (reply : Reply) (slot records : ℕ) (now : P) → is_handed reply ≡ false → ended_by past reply slot records now ≡ now
+  ended_still reply slot records now same = ap (λ b. cond b (past.ends now slot records) now) same
 
-  -- a step whose reply is heard
-  pub answered : (subject : Subject) (old new : Ran) (event : Event) (reply : Reply) (before after : L) (result : Result (Unit {0}) (Stop Refusal)) → Moves old event reply new
-      → Hears heard (IsTold subject (reply_from old.settings.forgotten reply)) before after result → Hears heard (λ pieces refused. AnswersOf subject old event pieces refused new) before after result
-  answered subject old new event reply before after result move told =
-      hears_by heard (IsTold subject (reply_from old.settings.forgotten reply)) (λ pieces refused. AnswersOf subject old event pieces refused new) (λ pieces refused one. (reply, move, one)) before after result told
+  -- the cuts of a frame may be taken before
+  pub framed : (old new : Situation P) (event : Event) (reply : Reply) → is_some (cuts_in event) ≡ true → Moves past (record old { cuts = no_cuts }) event reply new → Moves past old event reply new
+  framed old new event reply frame m = record { sent = m.sent; step = m.step; sends = m.sends; settings = m.settings; cuts = m.cuts ∙ all_taken event no_cuts frame ∙ sym (all_taken event old.cuts frame); past = m.past }
 
-  -- a line whose name means this slot
-  pub in_slot : (old new : Ran) (names : Names) (name : Name) (event : ℕ → Event) (slot : ℕ) (before after : L) (result : Result (Unit {0}) (Stop Refusal)) → Ok slot ≡ slot_meant names name
-      → Hears heard (λ pieces refused. Answers old (event slot) pieces refused new) before after result → Hears heard (λ pieces refused. AnswersIn old names name event pieces refused new) before after result
-  in_slot old new names name event slot before after result is told =
-      subst (λ r. Hears heard (λ pieces refused. MatchResult r (λ s. Answers old (event s) pieces refused new) (λ why. (new ≡ old) × IsRefused why pieces refused)) before after result) is told
+  module _ {L : Type 0} (heard : L → Piece → L) where
+    -- a frame whose cuts are taken before
+    pub answers_framed : (old mid new : Situation P) (event : Event) (before after : L) (result : Result (Unit {0}) (Stop Refusal)) → is_some (cuts_in event) ≡ true → mid ≡ record old { cuts = no_cuts }
+        → Hears heard (λ pieces refused. Answers past mid event pieces refused new) before after result → Hears heard (λ pieces refused. Answers past old event pieces refused new) before after result
+    answers_framed old mid new event before after result frame same h =
+        hears_by heard (λ pieces refused. Answers past mid event pieces refused new) (λ pieces refused. Answers past old event pieces refused new)
+        (λ pieces refused a.
+            (a.0, framed old new event a.0 frame (subst (λ r. Moves past r event a.0 new) same a.1), subst (λ (r : Situation P). IsTold (subject_of event) (reply_from r.settings.forgotten a.0) pieces refused) same a.2)) before after result h
+
+    -- a step whose reply is heard
+    pub answered : (subject : Subject) (old new : Situation P) (event : Event) (reply : Reply) (before after : L) (result : Result (Unit {0}) (Stop Refusal)) → Moves past old event reply new
+        → Hears heard (IsTold subject (reply_from old.settings.forgotten reply)) before after result → Hears heard (λ pieces refused. AnswersOf past subject old event pieces refused new) before after result
+    answered subject old new event reply before after result move told =
+        hears_by heard (IsTold subject (reply_from old.settings.forgotten reply)) (λ pieces refused. AnswersOf past subject old event pieces refused new) (λ pieces refused one. (reply, move, one)) before after result told
+
+    -- a line whose name means this slot
+    pub in_slot : {N : Type 0} (kept : NamesKept N) (old new : Situation P) (names : N) (name : Name) (event : ℕ → Event) (slot : ℕ) (before after : L) (result : Result (Unit {0}) (Stop Refusal)) → Ok slot ≡ slot_meant kept names name
+        → Hears heard (λ pieces refused. Answers past old (event slot) pieces refused new) before after result → Hears heard (λ pieces refused. AnswersIn past kept old names name event pieces refused new) before after result
+    in_slot kept old new names name event slot before after result is told =
+        subst (λ r. Hears heard (λ pieces refused. MatchResult r (λ s. Answers past old (event s) pieces refused new) (λ why. (new ≡ old) × IsRefused why pieces refused)) before after result) is told
 
 -- a weaker property of output holds too
 pub prints_by : (Is Of : List ℕ → Option Refusal → Type 0) → ((said : List ℕ) (refused : Option Refusal) → Is said refused → Of said refused)
@@ -182,35 +140,49 @@ unhanded old new frame policy cuts reply step = go (is_handed reply) refl
         let (to, others, is, there) = (slots_kept old (event_of frame policy cuts) reply new step).moved e in
         absurd (false≢true (sym (no_handover frame policy cuts) ∙ ap is_handover is))
 
-module _ {L : Type 0} (heard : L → Piece → L) where
+module _ {P L : Type 0} (past : PastKept P) (heard : L → Piece → L) where
   -- a frame under the role
-  pub sent : (old new : State) (settings : Settings) (fixed : Fixed) (cuts left : CutList) (symbols later : List Symbol) (ended : List Tenure) (frame : Frame) (reply : Reply) (before after : L) (result : Result (Unit {0}) (Stop Refusal))
-      → Accepts settings old fixed → left ≡ no_cuts → Step old (event_of frame fixed cuts) reply new → Tells note symbols later (IsWire old (event_of frame fixed cuts) reply new)
+  pub sent : (old new : State) (settings : Settings) (fixed : Fixed) (cuts left : CutList) (was now : P) (frame : Frame) (reply : Reply) (before after : L) (result : Result (Unit {0}) (Stop Refusal))
+      → Accepts settings old fixed → left ≡ no_cuts → Step old (event_of frame fixed cuts) reply new → past.sends was (IsWire old (event_of frame fixed cuts) reply new) now
       → Hears heard (IsTold (frame_subject frame) (reply_from settings.forgotten reply)) before after result
-      → Hears heard (λ pieces refused. Sends (ran_of old settings cuts symbols ended) frame pieces refused (ran_of new settings left later ended)) before after result
-  sent old new settings fixed cuts left symbols later ended frame reply before after result accepts none step wire told =
+      → Hears heard (λ pieces refused. Sends past (situation old settings cuts was) frame pieces refused (situation new settings left now)) before after result
+  sent old new settings fixed cuts left was now frame reply before after result accepts none step wire told =
       let event = event_of frame fixed cuts in
-      let from = ran_of old settings cuts symbols ended in
-      let to = ran_of new settings left later ended in
-      hears_by heard (λ pieces refused. Answers from event pieces refused to) (λ pieces refused. Sends from frame pieces refused to) (λ pieces refused answers. (fixed, accepts, answers)) before after result
-      (answered heard (subject_of event) from to event reply before after result
-      (subst (λ times. Moves from event reply (ran_of new settings left later times)) (ended_still reply old.active (settings.forgotten + length new.records) ended (unhanded old new frame fixed cuts reply step))
-      (subst (λ rest. Moves from event reply (ran_of new settings rest later (ended_by reply old.active (settings.forgotten + length new.records) ended)))
+      let from = situation old settings cuts was in
+      let to = situation new settings left now in
+      hears_by heard (λ pieces refused. Answers past from event pieces refused to) (λ pieces refused. Sends past from frame pieces refused to) (λ pieces refused answers. (fixed, accepts, answers)) before after result
+      (answered past heard (subject_of event) from to event reply before after result
+      (subst (λ kept. Moves past from event reply (situation new settings left kept)) (ended_still past reply old.active (settings.forgotten + length new.records) now (unhanded old new frame fixed cuts reply step))
+      (subst (λ rest. Moves past from event reply (situation new settings rest (ended_by past reply old.active (settings.forgotten + length new.records) now)))
       (all_taken event cuts (carries_cuts frame fixed cuts) ∙ sym none)
-      (moved old new settings cuts symbols later ended event reply step wire)))
+      (moved past old new settings cuts was now event reply step wire)))
       (subst (λ subject. Hears heard (IsTold subject (reply_from settings.forgotten reply)) before after result) (one_subject frame fixed cuts) told))
 
-  -- a line that sends nothing and takes no cuts, in the slot that its name means
-  pub quietly : (old new : State) (settings : Settings) (cuts : CutList) (symbols : List Symbol) (ended : List Tenure) (names : Names) (name : Name) (event : ℕ → Event) (slot : ℕ) (reply : Reply) (before after : L) (result : Result (Unit {0}) (Stop Refusal))
-      → Ok slot ≡ slot_meant names name → is_some (cuts_in (event slot)) ≡ false → is_handed reply ≡ false → reply_from settings.forgotten reply ≡ reply → Step old (event slot) reply new → IsWire old (event slot) reply new []
-      → Hears heard (IsTold (subject_of (event slot)) reply) before after result
-      → Hears heard (λ pieces refused. AnswersIn (ran_of old settings cuts symbols ended) names name event pieces refused (ran_of new settings cuts symbols ended)) before after result
-  quietly old new settings cuts symbols ended names name event slot reply before after result is uncut still same step wire told =
-      in_slot heard (ran_of old settings cuts symbols ended) (ran_of new settings cuts symbols ended) names name event slot before after result is
-      (answered heard (subject_of (event slot)) (ran_of old settings cuts symbols ended) (ran_of new settings cuts symbols ended) (event slot) reply before after result
-      (subst (λ left. Moves (ran_of old settings cuts symbols ended) (event slot) reply (ran_of new settings left symbols ended)) (ap (λ b. cond b no_cuts cuts) uncut)
-      (unsent old new settings cuts symbols ended (event slot) reply still step wire))
-      (subst (λ r. Hears heard (IsTold (subject_of (event slot)) r) before after result) (sym same) told))
+-- a past that is kept of noted symbols
+module _ {P : Type 0} (past : PastKept P) (note : P → Symbol → P → Type 0) (noted : (old new : P) (Is : List Symbol → Type 0) → Tells note old new Is → past.sends old Is new) where
+  -- a step that sends nothing
+  pub unsent : (old new : State) (settings : Settings) (cuts : CutList) (was : P) (event : Event) (reply : Reply) → is_handed reply ≡ false → Step old event reply new → IsWire old event reply new []
+      → Moves past (situation old settings cuts was) event reply (situation new settings (cuts_left event cuts) was)
+  unsent old new settings cuts was event reply still step is = record {
+    sent = was;
+    step = step;
+    sends = noted was was (IsWire old event reply new) ([], NotesAll-nil note was, is);
+    settings = refl;
+    cuts = refl;
+    past = sym (ended_still past reply old.active (settings.forgotten + length new.records) was still);
+  }
+
+  module _ {L : Type 0} (heard : L → Piece → L) where
+    -- a line that sends nothing and takes no cuts, whose reply is heard
+    pub quietly : (old new : State) (settings : Settings) (cuts : CutList) (was : P) (event : Event) (reply : Reply) (before after : L) (result : Result (Unit {0}) (Stop Refusal))
+        → is_some (cuts_in event) ≡ false → is_handed reply ≡ false → reply_from settings.forgotten reply ≡ reply → Step old event reply new → IsWire old event reply new []
+        → Hears heard (IsTold (subject_of event) reply) before after result
+        → Hears heard (λ pieces refused. Answers past (situation old settings cuts was) event pieces refused (situation new settings cuts was)) before after result
+    quietly old new settings cuts was event reply before after result uncut still same step wire told =
+        answered past heard (subject_of event) (situation old settings cuts was) (situation new settings cuts was) event reply before after result
+        (subst (λ left. Moves past (situation old settings cuts was) event reply (situation new settings left was)) (ap (λ b. cond b no_cuts cuts) uncut)
+        (unsent old new settings cuts was event reply still step wire))
+        (subst (λ r. Hears heard (IsTold (subject_of event) r) before after result) (sym same) told)
 
 -- what a device does by itself sends nothing
 pub attached_still : (old new : State) (event : Event) (attached : Result (Unit {0}) SlotTaken) → IsWire old event (attached_reply attached) new []

@@ -1,11 +1,10 @@
 -- What `show` tells, slot by slot and record by record.
 use Rattle.std.proofs.Common.{◌≡◌, ◌∙◌, ℕ, zero, suc, ◌+◌, ◌<◌, List, [], ◌∷◌, ◌++◌, drop, get_or, length, Some, None, ap, refl, sym, arith, append_assoc}
 use Rattle.std.proofs.lemmas.List.{at_drop_more}
-use Rattle.std.specs.Prelude.{Result, Ok, Err, OnOk, slice_get, slice_index_or}
+use Rattle.std.specs.Prelude.{Result, Ok, Err, OnOk, slice_get}
 use Rattle.i3c_base.specs.declared.requests.Record.{Record}
 use Rattle.i3c_base.specs.State.{State, device_at}
-use Rattle.i3c_lines.specs.declared.names.Names.{Names}
-use Rattle.i3c_lines.specs.Naming.{legacy_names, slot_names}
+use Rattle.i3c_lines.specs.Keeping.{NamesKept}
 use Rattle.i3c_script.specs.declared.piece.Piece.{Piece}
 use Rattle.i3c_script.specs.declared.tenures.Tenure.{Tenure}
 use Rattle.i3c_script.specs.Pieces.{description_pieces, descriptions_pieces, device_pieces, devices_pieces, numbered_pieces, past_pieces, pasts_pieces, target_pieces, targets_pieces, tenure_pieces}
@@ -15,23 +14,23 @@ after : (n : ℕ) → n + 1 ≡ suc n
 after n = omega arith
 
 -- one more slot
-pub devices_more : (st : State) (names : Names) (slot : ℕ) → devices_pieces st names (slot + 1) ≡ devices_pieces st names slot ++ device_pieces (slice_index_or (slot_names names) slot None) (device_at st slot)
+pub devices_more : {N : Type 0} (kept : NamesKept N) (st : State) (names : N) (slot : ℕ) → devices_pieces kept st names (slot + 1) ≡ devices_pieces kept st names slot ++ device_pieces (kept.in_slot names slot) (device_at st slot)
 unfolding devices_pieces
-devices_more st names slot = ap (devices_pieces st names) (after slot)
+devices_more kept st names slot = ap (devices_pieces kept st names) (after slot)
 
-pub devices_none : (st : State) (names : Names) → devices_pieces st names 0 ≡ []
+pub devices_none : {N : Type 0} (kept : NamesKept N) (st : State) (names : N) → devices_pieces kept st names 0 ≡ []
 unfolding devices_pieces
-devices_none st names = refl
+devices_none kept st names = refl
 
 -- the same of `show all`
-pub descriptions_more : (st : State) (names : Names) (slot : ℕ)
-    → descriptions_pieces st names (slot + 1) ≡ descriptions_pieces st names slot ++ description_pieces (slice_index_or (slot_names names) slot None) (device_at st slot)
+pub descriptions_more : {N : Type 0} (kept : NamesKept N) (st : State) (names : N) (slot : ℕ)
+    → descriptions_pieces kept st names (slot + 1) ≡ descriptions_pieces kept st names slot ++ description_pieces (kept.in_slot names slot) (device_at st slot)
 unfolding descriptions_pieces
-descriptions_more st names slot = ap (descriptions_pieces st names) (after slot)
+descriptions_more kept st names slot = ap (descriptions_pieces kept st names) (after slot)
 
-pub descriptions_none : (st : State) (names : Names) → descriptions_pieces st names 0 ≡ []
+pub descriptions_none : {N : Type 0} (kept : NamesKept N) (st : State) (names : N) → descriptions_pieces kept st names 0 ≡ []
 unfolding descriptions_pieces
-descriptions_none st names = refl
+descriptions_none kept st names = refl
 
 -- an element by its index
 pub at_get : {X : Type 0} (xs : List X) (k : ℕ) (x : X) → k < length xs → x ≡ get_or xs k x → slice_get xs k ≡ Some x
@@ -52,13 +51,13 @@ pub began_next : (ended : List Tenure) (k : ℕ) (tenure : Tenure) → slice_get
 began_next ended k tenure is = sym (ap (began_at ended) (after k) ∙ ap records_at is)
 
 -- one more static address
-pub targets_more : (names : Names) (a : ℕ) → targets_pieces names (a + 1) ≡ targets_pieces names a ++ target_pieces (slice_index_or (legacy_names names) a None) a
+pub targets_more : {N : Type 0} (kept : NamesKept N) (names : N) (a : ℕ) → targets_pieces kept names (a + 1) ≡ targets_pieces kept names a ++ target_pieces (kept.at_address names a) a
 unfolding targets_pieces
-targets_more names a = ap (targets_pieces names) (after a)
+targets_more kept names a = ap (targets_pieces kept names) (after a)
 
-pub targets_none : (names : Names) → targets_pieces names 0 ≡ []
+pub targets_none : {N : Type 0} (kept : NamesKept N) (names : N) → targets_pieces kept names 0 ≡ []
 unfolding targets_pieces
-targets_none names = refl
+targets_none kept names = refl
 
 -- a text that is printed behind another one in parts, and one more part
 pub printed_more : (before now new parts part : List ℕ) → now ≡ before ++ parts → new ≡ now ++ part → new ≡ before ++ (parts ++ part)

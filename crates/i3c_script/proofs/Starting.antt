@@ -10,17 +10,17 @@ use Rattle.i3c_script.specs.declared.piece.Piece.{Piece}
 use Rattle.i3c_script.specs.declared.stage.Stage.{Stage}
 use Rattle.i3c_script.specs.Hearing.{all_heard}
 use Rattle.i3c_script.specs.Obeying.{ComesTo, IsDone, IsRefused, Starts, main_refusal, script}
-use Rattle.i3c_script.specs.Ran.{Ran}
+use Rattle.i3c_script.specs.Situations.{Situation, Told}
 
 -- a bus is made, and its main controller is heard of
-pub began : {L : Type 0} (heard : L → Piece → L) (stage : Stage) (board : Board) (names named : Names) (name : Name) (setup : Setup) (new : Stage) (ran : Ran) (before after : L) → stage ≡ Stage.Before board → main_refusal names name setup.identity.bcr ≡ None
-    → Starts board names name setup ran (script new named) → after ≡ heard before (Piece.Main name (address_of (device_at ran.state 0)))
+pub began : {L : Type 0} (heard : L → Piece → L) (stage : Stage) (board : Board) (names named : Names) (name : Name) (setup : Setup) (new : Stage) (begun : Situation Told) (before after : L) → stage ≡ Stage.Before board → main_refusal names name setup.identity.bcr ≡ None
+    → Starts board names name setup begun (script new named) → after ≡ heard before (Piece.Main name (address_of (device_at begun.state 0)))
     → (pieces : List Piece) × (after ≡ all_heard heard before pieces) × ComesTo stage names (Command.Main name setup) pieces None (script new named)
-began heard stage board names named name setup new ran before after is unrefused starts told =
-    let pieces = Piece.Main name (address_of (device_at ran.state 0)) ∷ [] in (
+began heard stage board names named name setup new begun before after is unrefused starts told =
+    let pieces = Piece.Main name (address_of (device_at begun.state 0)) ∷ [] in (
       pieces,
       told,
       subst (λ at. ComesTo at names (Command.Main name setup) pieces None (script new named)) (sym is)
-          (subst (λ why. MatchOption why ((r : Ran) × Starts board names name setup r (script new named) × IsDone (Piece.Main name (address_of (device_at r.state 0)) ∷ []) pieces None)
-          (λ one. (script new named ≡ script (Stage.Before board) names) × IsRefused one pieces None)) (sym unrefused) (ran, starts, (refl, refl))),
+          (subst (λ why. MatchOption why ((r : Situation Told) × Starts board names name setup r (script new named) × IsDone (Piece.Main name (address_of (device_at r.state 0)) ∷ []) pieces None)
+          (λ one. (script new named ≡ script (Stage.Before board) names) × IsRefused one pieces None)) (sym unrefused) (begun, starts, (refl, refl))),
     )

@@ -4,15 +4,10 @@ use Rattle.i3c_base.specs.declared.range.TheConstants.{SLOTS}
 use Rattle.i3c_base.specs.State.{State, IsPresent, device_at}
 use Rattle.i3c_step.specs.declared.replies.Refusal.{Refusal as BusRefusal}
 use Rattle.i3c_lines.specs.declared.names.Name.{Name}
-use Rattle.i3c_lines.specs.declared.names.Names.{Names}
 use Rattle.i3c_lines.specs.declared.names.Place.{Place}
 use Rattle.i3c_lines.specs.declared.refusals.Refusal.{Refusal}
-use Rattle.i3c_lines.specs.Naming.{place_named, slot_named}
+use Rattle.i3c_lines.specs.Keeping.{NamesKept, slot_meant}
 use Rattle.i3c_script.specs.Slots.{AllPresentBelow}
-
--- the slot of the device that a name means; the device may be gone
-abbrev pub slot_meant : Names → Name → Result ℕ Refusal
-slot_meant names name = slot_named (place_named names name)
 
 -- this slot, if it holds a device
 abbrev pub present_in : State → Result ℕ Refusal → Result ℕ Refusal
@@ -20,8 +15,8 @@ present_in st (Ok slot) = if is_some (device_at st slot) then Ok slot else Err (
 present_in st (Err why) = Err why
 
 -- the slot of the present device that a name means
-abbrev pub slot_of_device : State → Names → Name → Result ℕ Refusal
-slot_of_device st names name = present_in st (slot_meant names name)
+abbrev pub slot_of_device : {N : Type 0} → NamesKept N → State → N → Name → Result ℕ Refusal
+slot_of_device kept st names name = present_in st (slot_meant kept names name)
 
 -- a slot and those of other names, unless one is refused
 abbrev pub with_others : Result ℕ Refusal → Result (List ℕ) Refusal → Result (List ℕ) Refusal

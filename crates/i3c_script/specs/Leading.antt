@@ -10,7 +10,7 @@ use Rattle.i3c_lines.specs.declared.refusals.Refusal.{Refusal}
 use Rattle.i3c_script.specs.declared.stage.Stage.{Stage}
 use Rattle.i3c_script.specs.Obeying.{IsBegun, Obeys, ScriptState}
 use Rattle.i3c_script.specs.Making.{Made, command_made, events_of, replies_of}
-use Rattle.i3c_script.specs.Ran.{Ran}
+use Rattle.i3c_script.specs.Situations.{Situation, Told}
 
 -- a command that was obeyed: what it printed, and why it was refused, if it was
 pub record Obeyed : Type 0 where
@@ -33,9 +33,9 @@ abbrev pub AreLegal : List Made → State → Type 0
 AreLegal steps st = (main : Setup) × (board : Board) × IsLegalRun main board (events_of steps) (replies_of steps) st
 
 -- these steps are a legal run to a bus whose log has the records that left it still, in front of its own
-abbrev pub AreLegalBehind : List Made → Ran → Type 0
-AreLegalBehind steps ran = (gone : List Record) × (length gone ≡ ran.settings.forgotten) × AreLegal steps (behind gone ran.state)
+abbrev pub AreLegalBehind : List Made → Situation Told → Type 0
+AreLegalBehind steps now = (gone : List Record) × (length gone ≡ now.settings.forgotten) × AreLegal steps (behind gone now.state)
 
 -- Wherever commands lead from a script's start to a bus, their steps are a legal run to that bus with its whole log.
 abbrev pub ScriptsAreLegalRuns : Type 0
-ScriptsAreLegalRuns = (old : ScriptState) (commands : List Obeyed) (new : ScriptState) (ran : Ran) → IsBegun old → (lead : Lead old commands new) → new.stage ≡ Stage.Running ran → AreLegalBehind (made old commands new lead) ran
+ScriptsAreLegalRuns = (old : ScriptState) (commands : List Obeyed) (new : ScriptState) (on_bus : Situation Told) → IsBegun old → (lead : Lead old commands new) → new.stage ≡ Stage.Running on_bus → AreLegalBehind (made old commands new lead) on_bus

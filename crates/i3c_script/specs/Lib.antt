@@ -2,7 +2,7 @@ pub mod Slots
 pub mod Stops
 pub mod Sums
 pub mod Accepting
-pub mod Ran
+pub mod Situations
 pub mod Framing
 pub mod Asking
 pub mod Pieces

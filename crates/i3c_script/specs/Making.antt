@@ -1,10 +1,15 @@
 -- The steps of the bus that a script's commands are, in order.
-use Rattle.std.specs.Prelude.{◌≡◌, ℕ, List, [], ◌∷◌, ◌++◌, Option, Result, Ok, Err, MatchResult}
+use Rattle.std.specs.Prelude.{◌≡◌, ℕ, Bool, List, [], ◌∷◌, ◌++◌, map, inl, inr, Option, Result, Ok, Err, MatchResult}
 use Rattle.i3c_base.specs.declared.answers.RoundReply.{RoundReply}
+use Rattle.i3c_base.specs.declared.identity.Identity.{Identity}
+use Rattle.i3c_base.specs.declared.requests.Served.{Served}
+use Rattle.i3c_base.specs.Cutting.{CutList, no_cuts}
+use Rattle.i3c_bus.specs.Assigning.{given_reply, last_reply}
 use Rattle.i3c_step.specs.declared.events.Event.{Event}
 use Rattle.i3c_step.specs.declared.replies.Reply.{Reply}
 use Rattle.i3c_step.specs.Commands.{event_of}
-use Rattle.i3c_log_laws.specs.Behind.{reply_from}
+use Rattle.i3c_log_laws.specs.Behind.{counted_from, reply_from}
+use Rattle.i3c_lines.specs.Keeping.{NamesSlot, names_kept, slot_meant}
 use Rattle.i3c_lines.specs.declared.command.Command.{Command}
 use Rattle.i3c_lines.specs.declared.names.Name.{Name}
 use Rattle.i3c_lines.specs.declared.names.Names.{Names}
@@ -12,11 +17,10 @@ use Rattle.i3c_lines.specs.declared.refusals.Refusal.{Refusal}
 use Rattle.i3c_script.specs.declared.piece.Piece.{Piece}
 use Rattle.i3c_script.specs.declared.replies.Subject.{Subject}
 use Rattle.i3c_script.specs.declared.stage.Stage.{Stage}
-use Rattle.i3c_script.specs.Asking.{slot_meant}
-use Rattle.i3c_script.specs.Assigning.{Assigns, Follows, HasSession, Rounds}
-use Rattle.i3c_script.specs.Obeying.{Answers, AnswersOf, ComesTo, Does, IsRefused, NamesSlot, ObeysAt, ObeysOn, ScriptState}
+use Rattle.i3c_script.specs.Assigning.{Assigns}
+use Rattle.i3c_script.specs.Obeying.{Answers, AnswersOf, ComesTo, Does, IsRefused, ObeysAt, ObeysOn, ScriptState}
 use Rattle.i3c_script.specs.Pieces.{subject_of}
-use Rattle.i3c_script.specs.Ran.{Ran}
+use Rattle.i3c_script.specs.Situations.{Situation, Told, told_past}
 
 -- an event and the reply that it got
 pub record Made : Type 0 where
@@ -34,47 +38,44 @@ abbrev pub replies_of : List Made → List Reply
 replies_of [] = []
 replies_of (made ∷ rest) = made.reply ∷ replies_of rest
 
--- the events of rounds with their replies; the newest answer comes first
-abbrev pub rounds_made : (old : Ran) (answers : List RoundReply) (new : Ran) → Rounds old answers new → List Made
-rounds_made old [] new same = []
-rounds_made old (answer ∷ earlier) new (mid, before, moved) = rounds_made old earlier mid before ++ one (Event.Round mid.cuts) (Reply.Round answer)
+-- the events of rounds with their replies
+abbrev pub rounds_made : List RoundReply → List Made
+rounds_made [] = []
+rounds_made (answer ∷ later) = record { event = Event.Round no_cuts; reply = Reply.Round answer } ∷ rounds_made later
 
--- the events of a session with their replies: its rounds, and its end
-abbrev pub session_made : (old : Ran) (pieces : List Piece) (refused : Option Refusal) (new : Ran) → HasSession old pieces refused new → List Made
-session_made old pieces refused new (last, rounds, ended) = rounds_made old rounds.0 last rounds.1 ++ one Event.EndDaa Reply.Ended
+-- the events of a session that gives these addresses, with their replies: its opening, its rounds, and its end
+abbrev pub session_made : CutList → Served → List (ℕ × Identity) → Bool → List Made
+session_made cuts served given complete = record { event = Event.OpenDaa cuts; reply = Reply.Opened served } ∷ rounds_made (map given_reply given ++ last_reply complete ∷ []) ++ one Event.EndDaa Reply.Ended
 
--- those that follow an opening: none where it was refused
-abbrev pub follows_made : (reply : Reply) (opened : Ran) (pieces : List Piece) (refused : Option Refusal) (new : Ran) → Follows reply opened pieces refused new → List Made
-follows_made (Reply.Opened served) opened pieces refused new (rounds, session, told) = session_made opened rounds refused new session
-follows_made _ opened pieces refused new follows = []
-
--- the events of `daa` with their replies: its opening, and those that follow
-abbrev pub assigns_made : (old : Ran) (pieces : List Piece) (refused : Option Refusal) (new : Ran) → Assigns old pieces refused new → List Made
-assigns_made old pieces refused new (opened, reply, moved, follows) = one (Event.OpenDaa old.cuts) (reply_from old.settings.forgotten reply) ++ follows_made reply opened pieces refused new follows
+-- the events of `daa` with their replies: those of a session, whose opening counts the records that left the log too, or the
+-- refused opening
+abbrev pub assigns_made : (old : Situation Told) (pieces : List Piece) (refused : Option Refusal) (new : Situation Told) → Assigns told_past old pieces refused new → List Made
+assigns_made old pieces refused new (inl (served, given, complete, session, told)) = session_made old.cuts (counted_from old.settings.forgotten served) given complete
+assigns_made old pieces refused new (inr (why, moved, told)) = one (Event.OpenDaa old.cuts) (Reply.Refused why)
 
 -- the event that a command asks for, with its reply, which counts the records that left the log too
-abbrev pub answer_made : (subject : Subject) (old : Ran) (event : Event) (pieces : List Piece) (refused : Option Refusal) (new : Ran) → AnswersOf subject old event pieces refused new → List Made
+abbrev pub answer_made : (subject : Subject) (old : Situation Told) (event : Event) (pieces : List Piece) (refused : Option Refusal) (new : Situation Told) → AnswersOf told_past subject old event pieces refused new → List Made
 answer_made subject old event pieces refused new (reply, moved, told) = one event (reply_from old.settings.forgotten reply)
 
 -- the same of the slot that a name means: none where the name is refused
-abbrev pub slot_made : (slot : Result ℕ Refusal) (old : Ran) (event : ℕ → Event) (pieces : List Piece) (refused : Option Refusal) (new : Ran)
-    → MatchResult slot (λ s. Answers old (event s) pieces refused new) (λ why. (new ≡ old) × IsRefused why pieces refused) → List Made
+abbrev pub slot_made : (slot : Result ℕ Refusal) (old : Situation Told) (event : ℕ → Event) (pieces : List Piece) (refused : Option Refusal) (new : Situation Told)
+    → MatchResult slot (λ s. Answers told_past old (event s) pieces refused new) (λ why. (new ≡ old) × IsRefused why pieces refused) → List Made
 slot_made (Ok slot) old event pieces refused new answers = answer_made (subject_of (event slot)) old (event slot) pieces refused new answers
 slot_made (Err why) old event pieces refused new refuses = []
 
 -- the event of a device that enters, with its reply: none if it is refused before
-abbrev pub enters_made : (entrance : Result ℕ Refusal) (old : Ran) (names named : Names) (name : Name) (event : ℕ → Event) (pieces : List Piece) (refused : Option Refusal) (new : Ran)
-    → MatchResult entrance (λ slot. NamesSlot names named name slot × AnswersOf (Subject.Attached name slot) old (event slot) pieces refused new) (λ why. (named ≡ names) × (new ≡ old) × IsRefused why pieces refused) → List Made
+abbrev pub enters_made : (entrance : Result ℕ Refusal) (old : Situation Told) (names named : Names) (name : Name) (event : ℕ → Event) (pieces : List Piece) (refused : Option Refusal) (new : Situation Told)
+    → MatchResult entrance (λ slot. NamesSlot names named name slot × AnswersOf told_past (Subject.Attached name slot) old (event slot) pieces refused new) (λ why. (named ≡ names) × (new ≡ old) × IsRefused why pieces refused) → List Made
 enters_made (Ok slot) old names named name event pieces refused new enters = answer_made (Subject.Attached name slot) old (event slot) pieces refused new enters.1
 enters_made (Err why) old names named name event pieces refused new refuses = []
 
 -- the events of a command other than `attach` on a bus, with their replies
-abbrev pub does_made : (old : Ran) (names : Names) (command : Command) (pieces : List Piece) (refused : Option Refusal) (new : Ran) → Does old names command pieces refused new → List Made
+abbrev pub does_made : (old : Situation Told) (names : Names) (command : Command) (pieces : List Piece) (refused : Option Refusal) (new : Situation Told) → Does told_past names_kept old names command pieces refused new → List Made
 does_made old names (Command.Frame frame) pieces refused new (fixed, accepts, answers) = answer_made (subject_of (event_of frame fixed old.cuts)) old (event_of frame fixed old.cuts) pieces refused new answers
-does_made old names (Command.DropOff name) pieces refused new does = slot_made (slot_meant names name) old Event.DropOff pieces refused new does
-does_made old names (Command.Raise name byte) pieces refused new does = slot_made (slot_meant names name) old (λ slot. Event.Raise slot byte) pieces refused new does
-does_made old names (Command.AskJoin name) pieces refused new does = slot_made (slot_meant names name) old Event.AskJoin pieces refused new does
-does_made old names (Command.AskRole name) pieces refused new does = slot_made (slot_meant names name) old Event.AskRole pieces refused new does
+does_made old names (Command.DropOff name) pieces refused new does = slot_made (slot_meant names_kept names name) old Event.DropOff pieces refused new does
+does_made old names (Command.Raise name byte) pieces refused new does = slot_made (slot_meant names_kept names name) old (λ slot. Event.Raise slot byte) pieces refused new does
+does_made old names (Command.AskJoin name) pieces refused new does = slot_made (slot_meant names_kept names name) old Event.AskJoin pieces refused new does
+does_made old names (Command.AskRole name) pieces refused new does = slot_made (slot_meant names_kept names name) old Event.AskRole pieces refused new does
 does_made old names (Command.HandOver to) pieces refused new does = answer_made (subject_of (Event.HandOver to old.cuts)) old (Event.HandOver to old.cuts) pieces refused new does
 does_made old names Command.Open pieces refused new does = answer_made (subject_of (Event.OpenDaa old.cuts)) old (Event.OpenDaa old.cuts) pieces refused new does
 does_made old names Command.Round pieces refused new does = answer_made (subject_of (Event.Round old.cuts)) old (Event.Round old.cuts) pieces refused new does
@@ -83,7 +84,7 @@ does_made old names Command.Daa pieces refused new does = assigns_made old piece
 does_made old names _ pieces refused new does = []
 
 -- the events of a command on a bus, with their replies
-abbrev pub on_bus_made : (old : Ran) (names : Names) (command : Command) (pieces : List Piece) (refused : Option Refusal) (new : Ran) (named : Names) → ObeysOn old names command pieces refused new named → List Made
+abbrev pub on_bus_made : (old : Situation Told) (names : Names) (command : Command) (pieces : List Piece) (refused : Option Refusal) (new : Situation Told) (named : Names) → ObeysOn told_past names_kept old names command pieces refused new named → List Made
 on_bus_made old names (Command.Attach name setup) pieces refused new named (entrance, is, enters) = enters_made entrance old names named name (λ slot. Event.Attach slot setup) pieces refused new enters
 on_bus_made old names (Command.Frame frame) pieces refused new named (same, does) = does_made old names (Command.Frame frame) pieces refused new does
 on_bus_made old names (Command.DropOff name) pieces refused new named (same, does) = does_made old names (Command.DropOff name) pieces refused new does
@@ -111,7 +112,7 @@ on_bus_made old names (Command.Main name setup) pieces refused new named (same, 
 -- the events of a command with these pieces, with their replies: none before the bus
 abbrev pub pieces_made : (stage : Stage) (names : Names) (command : Command) (pieces : List Piece) (refused : Option Refusal) (new : ScriptState) → ComesTo stage names command pieces refused new → List Made
 pieces_made (Stage.Before board) names command pieces refused new comes = []
-pieces_made (Stage.Running old) names command pieces refused new (ran, is, comes) = on_bus_made old names command pieces refused ran new.names comes
+pieces_made (Stage.Running old) names command pieces refused new (on_bus, is, comes) = on_bus_made old names command pieces refused on_bus new.names comes
 
 -- the same of what it prints
 abbrev pub command_made : (stage : Stage) (names : Names) (command : Command) (said : List ℕ) (refused : Option Refusal) (new : ScriptState) → ObeysAt stage names command said refused new → List Made

@@ -23,19 +23,20 @@ use Rattle.i3c_lines.specs.declared.names.Name.{Name}
 use Rattle.i3c_lines.specs.declared.names.Names.{Names}
 use Rattle.i3c_lines.specs.declared.names.Place.{Place}
 use Rattle.i3c_lines.specs.declared.refusals.Refusal.{Refusal}
-use Rattle.i3c_lines.specs.Naming.{GivesAlone, GivesSlot, legacy_names, place_named, slot_names}
+use Rattle.i3c_lines.specs.Keeping.{NamesKept, NamesSlot, names_kept, slot_meant}
+use Rattle.i3c_lines.specs.Naming.{GivesAlone, legacy_names, place_named, slot_names}
 use Rattle.i3c_text.specs.declared.stop.Stop.{Stop}
 use Rattle.i3c_script.specs.declared.piece.Piece.{Piece}
 use Rattle.i3c_script.specs.declared.replies.Subject.{Subject}
 use Rattle.i3c_script.specs.declared.settings.Settings.{Settings}
 use Rattle.i3c_script.specs.declared.stage.Stage.{Stage}
 use Rattle.i3c_script.specs.Accepting.{Accepts, Forgets, IsSet, at_first}
-use Rattle.i3c_script.specs.Asking.{IsEntrance, slot_meant, slot_of_device, slots_named}
+use Rattle.i3c_script.specs.Asking.{IsEntrance, slot_of_device, slots_named}
 use Rattle.i3c_script.specs.Assigning.{Assigns, Moves}
 use Rattle.i3c_script.specs.Hearing.{Hears}
 use Rattle.i3c_script.specs.Pieces.{frames_pieces, show_all_pieces, show_behind_pieces, show_pieces, subject_of, symbols_pieces}
 use Rattle.i3c_script.specs.Printed.{pieces_text}
-use Rattle.i3c_script.specs.Ran.{Ran}
+use Rattle.i3c_script.specs.Situations.{PastKept, Situation, Told, last_symbols, told_past}
 use Rattle.i3c_script.specs.Telling.{IsTold, Prints}
 
 -- where a script is between two lines: its bus, or what is declared so far, and its names
@@ -49,7 +50,7 @@ script stage names = record { stage = stage; names = names }
 -- the last symbols of a stage's wire: before the bus there are none
 abbrev pub wire_on : Stage → List Symbol
 wire_on (Stage.Before board) = []
-wire_on (Stage.Running ran) = ran.wire
+wire_on (Stage.Running on_bus) = last_symbols on_bus.past
 
 -- the start of a script: no bus, nothing declared, and no name
 pub record IsBegun (state : ScriptState) : Type 0 where
@@ -63,12 +64,6 @@ pub record NamesLegacy (old new : Names) (name : Name) (address : ℕ) : Type 0 
   pub given : GivesAlone old new name (Place.Legacy address)
   pub legacies : legacy_names new ≡ slice_set (legacy_names old) address (Some name)
   pub slots : slot_names new ≡ slot_names old
-
--- the device of a slot gets this name
-pub record NamesSlot (old new : Names) (name : Name) (slot : ℕ) : Type 0 where
-  pub given : GivesSlot old new name slot
-  pub slots : slot_names new ≡ slice_set (slot_names old) slot (Some name)
-  pub legacies : legacy_names new ≡ legacy_names old
 
 -- a refused line comes to nothing but its refusal
 abbrev pub IsRefused : Refusal → List Piece → Option Refusal → Type 0
@@ -104,13 +99,12 @@ Declares board names address identity new = new ≡ script (Stage.Before (record
 
 -- the bus starts with its main controller: its frames accept each request, no cut waits, nothing was sent, and nobody was
 -- active before
-pub record Starts (board : Board) (names : Names) (name : Name) (setup : Setup) (ran : Ran) (new : ScriptState) : Type 0 where
-  pub stage : new.stage ≡ Stage.Running ran
-  pub start : IsStart setup board ran.state
-  pub settings : ran.settings ≡ at_first
-  pub cuts : ran.cuts ≡ no_cuts
-  pub wire : ran.wire ≡ []
-  pub ended : ran.ended ≡ []
+pub record Starts (board : Board) (names : Names) (name : Name) (setup : Setup) (begun : Situation Told) (new : ScriptState) : Type 0 where
+  pub stage : new.stage ≡ Stage.Running begun
+  pub start : IsStart setup board begun.state
+  pub settings : begun.settings ≡ at_first
+  pub cuts : begun.cuts ≡ no_cuts
+  pub past : begun.past ≡ record { wire = []; ended = [] }
   pub named : NamesSlot names new.names name 0
 
 -- what a command does before the bus
@@ -122,84 +116,84 @@ ObeysBefore board names (Command.Declare address identity) pieces refused new = 
     (Declares board names address identity new × IsDone (Piece.Declared address ∷ []) pieces refused)
     (λ why. (new ≡ script (Stage.Before board) names) × IsRefused why pieces refused)
 ObeysBefore board names (Command.Main name setup) pieces refused new = MatchOption (main_refusal names name setup.identity.bcr)
-    ((ran : Ran) × Starts board names name setup ran new × IsDone (Piece.Main name (address_of (device_at ran.state 0)) ∷ []) pieces refused)
+    ((begun : Situation Told) × Starts board names name setup begun new × IsDone (Piece.Main name (address_of (device_at begun.state 0)) ∷ []) pieces refused)
     (λ why. (new ≡ script (Stage.Before board) names) × IsRefused why pieces refused)
 ObeysBefore board names _ pieces refused new = (new ≡ script (Stage.Before board) names) × IsRefused Refusal.NoBus pieces refused
 
 -- one step of the bus, whose reply is told with this subject; it counts the records that left the log too
-abbrev pub AnswersOf : Subject → Ran → Event → List Piece → Option Refusal → Ran → Type 0
-AnswersOf subject old event pieces refused new = (reply : Reply) × Moves old event reply new × IsTold subject (reply_from old.settings.forgotten reply) pieces refused
+abbrev pub AnswersOf : {P : Type 0} → PastKept P → Subject → Situation P → Event → List Piece → Option Refusal → Situation P → Type 0
+AnswersOf past subject old event pieces refused new = (reply : Reply) × Moves past old event reply new × IsTold subject (reply_from old.settings.forgotten reply) pieces refused
 
 -- the same with the subject of the event
-abbrev pub Answers : Ran → Event → List Piece → Option Refusal → Ran → Type 0
-Answers old event pieces refused new = AnswersOf (subject_of event) old event pieces refused new
+abbrev pub Answers : {P : Type 0} → PastKept P → Situation P → Event → List Piece → Option Refusal → Situation P → Type 0
+Answers past old event pieces refused new = AnswersOf past (subject_of event) old event pieces refused new
 
 -- the same with the event of the slot that a name means
-abbrev pub AnswersIn : Ran → Names → Name → (ℕ → Event) → List Piece → Option Refusal → Ran → Type 0
-AnswersIn old names name event pieces refused new = MatchResult (slot_meant names name) (λ slot. Answers old (event slot) pieces refused new)
+abbrev pub AnswersIn : {P N : Type 0} → PastKept P → NamesKept N → Situation P → N → Name → (ℕ → Event) → List Piece → Option Refusal → Situation P → Type 0
+AnswersIn past kept old names name event pieces refused new = MatchResult (slot_meant kept names name) (λ slot. Answers past old (event slot) pieces refused new)
     (λ why. (new ≡ old) × IsRefused why pieces refused)
 
 -- a device enters the lowest free slot and has its name from then on
-abbrev pub Enters : Ran → Names → Name → Setup → List Piece → Option Refusal → Ran → Names → Type 0
-Enters old names name setup pieces refused new named = (entrance : Result ℕ Refusal) × IsEntrance old.state (place_named names name) entrance
-    × MatchResult entrance (λ slot. NamesSlot names named name slot × AnswersOf (Subject.Attached name slot) old (Event.Attach slot setup) pieces refused new)
+abbrev pub Enters : {P N : Type 0} → PastKept P → NamesKept N → Situation P → N → Name → Setup → List Piece → Option Refusal → Situation P → N → Type 0
+Enters past kept old names name setup pieces refused new named = (entrance : Result ℕ Refusal) × IsEntrance old.state (kept.place names name) entrance
+    × MatchResult entrance (λ slot. kept.gives names named name slot × AnswersOf past (Subject.Attached name slot) old (Event.Attach slot setup) pieces refused new)
     (λ why. (named ≡ names) × (new ≡ old) × IsRefused why pieces refused)
 
 -- a device is cut at this bit of the next frame, if that is earlier than its cut until now
 abbrev pub cut_at : CutList → ℕ → ℕ → CutList
 cut_at cuts slot bit = slice_set cuts slot (Some (earlier (cut_of cuts slot) bit))
 
--- a frame under the role, which accepts what the script's lines have set
-abbrev pub Sends : Ran → Frame → List Piece → Option Refusal → Ran → Type 0
-Sends old frame pieces refused new = (fixed : Fixed) × Accepts old.settings old.state fixed × Answers old (event_of frame fixed old.cuts) pieces refused new
+-- a frame under the role, which accepts what the lines have set
+abbrev pub Sends : {P : Type 0} → PastKept P → Situation P → Frame → List Piece → Option Refusal → Situation P → Type 0
+Sends past old frame pieces refused new = (fixed : Fixed) × Accepts old.settings old.state fixed × Answers past old (event_of frame fixed old.cuts) pieces refused new
 
 -- a line sets what frames accept
-abbrev pub Sets : Ran → Fixed → List ℕ → Ran → Type 0
+abbrev pub Sets : {P : Type 0} → Situation P → Fixed → List ℕ → Situation P → Type 0
 Sets old kinds slots new = (settings : Settings) × IsSet kinds slots old.settings settings × (new ≡ record old { settings = settings })
 
 -- the records up to a number leave the log
-abbrev pub Relieves : Ran → ℕ → Ran → Type 0
+abbrev pub Relieves : {P : Type 0} → Situation P → ℕ → Situation P → Type 0
 Relieves old last new = (settings : Settings) × (st : State) × Forgets last old.settings old.state settings st × (new ≡ record old { state = st; settings = settings })
 
--- what a command other than `attach` does with a bus
-abbrev pub Does : Ran → Names → Command → List Piece → Option Refusal → Ran → Type 0
-Does old names (Command.Frame frame) pieces refused new = Sends old frame pieces refused new
-Does old names (Command.DropOff name) pieces refused new = AnswersIn old names name Event.DropOff pieces refused new
-Does old names (Command.Raise name byte) pieces refused new = AnswersIn old names name (λ slot. Event.Raise slot byte) pieces refused new
-Does old names (Command.AskJoin name) pieces refused new = AnswersIn old names name Event.AskJoin pieces refused new
-Does old names (Command.AskRole name) pieces refused new = AnswersIn old names name Event.AskRole pieces refused new
-Does old names (Command.HandOver to) pieces refused new = Answers old (Event.HandOver to old.cuts) pieces refused new
-Does old names Command.Open pieces refused new = Answers old (Event.OpenDaa old.cuts) pieces refused new
-Does old names Command.Round pieces refused new = Answers old (Event.Round old.cuts) pieces refused new
-Does old names Command.End pieces refused new = Answers old Event.EndDaa pieces refused new
-Does old names Command.Daa pieces refused new = Assigns old pieces refused new
-Does old names (Command.Policy kinds) pieces refused new = Sets old kinds [] new × IsDone [] pieces refused
-Does old names (Command.PolicyBut kinds but) pieces refused new = MatchResult (slots_named (slot_of_device old.state names) but.items)
+-- what a command other than `attach` does on a bus
+abbrev pub Does : {P N : Type 0} → PastKept P → NamesKept N → Situation P → N → Command → List Piece → Option Refusal → Situation P → Type 0
+Does past kept old names (Command.Frame frame) pieces refused new = Sends past old frame pieces refused new
+Does past kept old names (Command.DropOff name) pieces refused new = AnswersIn past kept old names name Event.DropOff pieces refused new
+Does past kept old names (Command.Raise name byte) pieces refused new = AnswersIn past kept old names name (λ slot. Event.Raise slot byte) pieces refused new
+Does past kept old names (Command.AskJoin name) pieces refused new = AnswersIn past kept old names name Event.AskJoin pieces refused new
+Does past kept old names (Command.AskRole name) pieces refused new = AnswersIn past kept old names name Event.AskRole pieces refused new
+Does past kept old names (Command.HandOver to) pieces refused new = Answers past old (Event.HandOver to old.cuts) pieces refused new
+Does past kept old names Command.Open pieces refused new = Answers past old (Event.OpenDaa old.cuts) pieces refused new
+Does past kept old names Command.Round pieces refused new = Answers past old (Event.Round old.cuts) pieces refused new
+Does past kept old names Command.End pieces refused new = Answers past old Event.EndDaa pieces refused new
+Does past kept old names Command.Daa pieces refused new = Assigns past old pieces refused new
+Does past kept old names (Command.Policy kinds) pieces refused new = Sets old kinds [] new × IsDone [] pieces refused
+Does past kept old names (Command.PolicyBut kinds but) pieces refused new = MatchResult (slots_named (slot_of_device kept old.state names) but.items)
     (λ slots. Sets old kinds slots new × IsDone [] pieces refused)
     (λ why. (new ≡ old) × IsRefused why pieces refused)
-Does old names (Command.Cut name bit) pieces refused new = MatchResult (slot_of_device old.state names name)
+Does past kept old names (Command.Cut name bit) pieces refused new = MatchResult (slot_of_device kept old.state names name)
     (λ slot. (new ≡ record old { cuts = cut_at old.cuts slot bit }) × IsDone [] pieces refused)
     (λ why. (new ≡ old) × IsRefused why pieces refused)
-Does old names Command.Show pieces refused new = (new ≡ old) × IsDone (show_pieces old.settings.forgotten old.state names) pieces refused
-Does old names Command.ShowAll pieces refused new = (new ≡ old) × IsDone (show_all_pieces old.settings.forgotten old.state names old.ended) pieces refused
-Does old names (Command.ShowFrom first) pieces refused new = (new ≡ old) × IsDone (show_behind_pieces (first - 1 - old.settings.forgotten) old.settings.forgotten old.state names) pieces refused
-Does old names (Command.Forget last) pieces refused new = Relieves old last new × IsDone [] pieces refused
-Does old names Command.Symbols pieces refused new = (new ≡ old) × IsDone (symbols_pieces old.wire) pieces refused
-Does old names (Command.Frames count) pieces refused new = (new ≡ old) × IsDone (frames_pieces count old.wire) pieces refused
-Does old names (Command.Legacy name address lvr) pieces refused new = (new ≡ old) × IsRefused Refusal.BusMade pieces refused
-Does old names (Command.Declare address identity) pieces refused new = (new ≡ old) × IsRefused Refusal.BusMade pieces refused
-Does old names (Command.Main name setup) pieces refused new = (new ≡ old) × IsRefused Refusal.BusMade pieces refused
-Does old names (Command.Attach name setup) pieces refused new = ⊥
+Does past kept old names Command.Show pieces refused new = (new ≡ old) × IsDone (show_pieces kept old.settings.forgotten old.state names) pieces refused
+Does past kept old names Command.ShowAll pieces refused new = (new ≡ old) × IsDone (show_all_pieces kept old.settings.forgotten old.state names (past.ended old.past)) pieces refused
+Does past kept old names (Command.ShowFrom first) pieces refused new = (new ≡ old) × IsDone (show_behind_pieces kept (first - 1 - old.settings.forgotten) old.settings.forgotten old.state names) pieces refused
+Does past kept old names (Command.Forget last) pieces refused new = Relieves old last new × IsDone [] pieces refused
+Does past kept old names Command.Symbols pieces refused new = (new ≡ old) × IsDone (symbols_pieces (past.symbols old.past)) pieces refused
+Does past kept old names (Command.Frames count) pieces refused new = (new ≡ old) × IsDone (frames_pieces count (past.symbols old.past)) pieces refused
+Does past kept old names (Command.Legacy name address lvr) pieces refused new = (new ≡ old) × IsRefused Refusal.BusMade pieces refused
+Does past kept old names (Command.Declare address identity) pieces refused new = (new ≡ old) × IsRefused Refusal.BusMade pieces refused
+Does past kept old names (Command.Main name setup) pieces refused new = (new ≡ old) × IsRefused Refusal.BusMade pieces refused
+Does past kept old names (Command.Attach name setup) pieces refused new = ⊥
 
--- what a command does with a bus: `attach` alone gives a name
-abbrev pub ObeysOn : Ran → Names → Command → List Piece → Option Refusal → Ran → Names → Type 0
-ObeysOn old names (Command.Attach name setup) pieces refused new named = Enters old names name setup pieces refused new named
-ObeysOn old names command pieces refused new named = (named ≡ names) × Does old names command pieces refused new
+-- what a command does on a bus, with whatever is kept of names and of the past: `attach` alone gives a name
+abbrev pub ObeysOn : {P N : Type 0} → PastKept P → NamesKept N → Situation P → N → Command → List Piece → Option Refusal → Situation P → N → Type 0
+ObeysOn past kept old names (Command.Attach name setup) pieces refused new named = Enters past kept old names name setup pieces refused new named
+ObeysOn past kept old names command pieces refused new named = (named ≡ names) × Does past kept old names command pieces refused new
 
 -- the same by where the script is
 abbrev pub ComesTo : Stage → Names → Command → List Piece → Option Refusal → ScriptState → Type 0
 ComesTo (Stage.Before board) names command pieces refused new = ObeysBefore board names command pieces refused new
-ComesTo (Stage.Running old) names command pieces refused new = (ran : Ran) × (new.stage ≡ Stage.Running ran) × ObeysOn old names command pieces refused ran new.names
+ComesTo (Stage.Running old) names command pieces refused new = (on_bus : Situation Told) × (new.stage ≡ Stage.Running on_bus) × ObeysOn told_past names_kept old names command pieces refused on_bus new.names
 
 -- the same with what it prints: the text of its pieces
 abbrev pub ObeysAt : Stage → Names → Command → List ℕ → Option Refusal → ScriptState → Type 0

@@ -1,9 +1,10 @@
 -- What lines come to, piece by piece.
-use Rattle.std.specs.Prelude.{ℕ, zero, suc, ◌+◌, if◌then◌else◌, List, [], ◌∷◌, ◌++◌, drop, length, nat_le, Option, Some, None, slice_get, slice_index_or}
+use Rattle.std.specs.Prelude.{Bool, ℕ, zero, suc, ◌+◌, if◌then◌else◌, List, [], ◌∷◌, ◌++◌, drop, length, nat_le, Option, Some, None, slice_get}
 use Rattle.std.specs.List.{flat_map}
 use Rattle.circular_buffer.specs.Buffer.{keep_last}
 use Rattle.i3c_base.specs.declared.answers.Answer.{Answer}
 use Rattle.i3c_base.specs.declared.answers.RoundReply.{RoundReply}
+use Rattle.i3c_base.specs.declared.identity.Identity.{Identity}
 use Rattle.i3c_base.specs.declared.range.TheConstants.{ADDRESSES, SLOTS}
 use Rattle.i3c_base.specs.declared.requests.Record.{Record}
 use Rattle.i3c_base.specs.declared.requests.Served.{Served}
@@ -12,8 +13,7 @@ use Rattle.i3c_bus.specs.Readings.{address_of}
 use Rattle.i3c_device.specs.Wishing.{choice_of}
 use Rattle.i3c_frame.specs.declared.symbols.Symbol.{Symbol}
 use Rattle.i3c_lines.specs.declared.names.Name.{Name}
-use Rattle.i3c_lines.specs.declared.names.Names.{Names}
-use Rattle.i3c_lines.specs.Naming.{legacy_names, slot_names}
+use Rattle.i3c_lines.specs.Keeping.{NamesKept}
 use Rattle.i3c_step.specs.declared.events.Command.{Command as Frame}
 use Rattle.i3c_step.specs.declared.events.Event.{Event}
 use Rattle.i3c_step.specs.declared.replies.Reply.{Reply}
@@ -52,6 +52,15 @@ round_pieces (RoundReply.Assigned a identity) = Piece.Assigned a identity ∷ []
 round_pieces RoundReply.Nobody = Piece.Nobody ∷ []
 round_pieces RoundReply.Done = Piece.Done ∷ []
 round_pieces RoundReply.NoAddress = []
+
+-- the addresses that a session gives
+abbrev pub given_pieces : List (ℕ × Identity) → List Piece
+given_pieces [] = []
+given_pieces (pair ∷ rest) = Piece.Assigned pair.0 pair.1 ∷ given_pieces rest
+
+-- a session behind its opening: the addresses that it gives, and that it is done, unless no address was left
+abbrev pub session_pieces : List (ℕ × Identity) → Bool → List Piece
+session_pieces given complete = given_pieces given ++ (if complete then Piece.Done ∷ [] else [])
 
 -- the device that entered, where one did
 abbrev pub entered_pieces : Subject → List Piece
@@ -117,9 +126,9 @@ device_pieces None device = []
 device_pieces (Some name) None = []
 
 -- the present devices of the slots below a number, the lowest slot first
-unfoldable pub devices_pieces : State → Names → ℕ → List Piece
-devices_pieces st names zero = []
-devices_pieces st names (suc slot) = devices_pieces st names slot ++ device_pieces (slice_index_or (slot_names names) slot None) (device_at st slot)
+unfoldable pub devices_pieces : {N : Type 0} → NamesKept N → State → N → ℕ → List Piece
+devices_pieces kept st names zero = []
+devices_pieces kept st names (suc slot) = devices_pieces kept st names slot ++ device_pieces (kept.in_slot names slot) (device_at st slot)
 
 -- a legacy target, if it has a name
 abbrev pub target_pieces : Option Name → ℕ → List Piece
@@ -127,9 +136,9 @@ target_pieces None a = []
 target_pieces (Some name) a = Piece.Target name a ∷ []
 
 -- the legacy targets of the static addresses below a number, the lowest address first
-unfoldable pub targets_pieces : Names → ℕ → List Piece
-targets_pieces names zero = []
-targets_pieces names (suc a) = targets_pieces names a ++ target_pieces (slice_index_or (legacy_names names) a None) a
+unfoldable pub targets_pieces : {N : Type 0} → NamesKept N → N → ℕ → List Piece
+targets_pieces kept names zero = []
+targets_pieces kept names (suc a) = targets_pieces kept names a ++ target_pieces (kept.at_address names a) a
 
 -- records, counted from this number on
 abbrev pub numbered_pieces : ℕ → List Record → List Piece
@@ -146,13 +155,13 @@ records_pieces count forgotten records = Piece.Records (length records) ∷ behi
 
 -- the active controller's address, the present devices, the legacy targets, and the records of the log behind the first
 -- `count`, where `forgotten` ones have left it
-abbrev pub show_behind_pieces : ℕ → ℕ → State → Names → List Piece
-show_behind_pieces count forgotten st names =
-    Piece.Active (address_of (device_at st st.active)) ∷ (devices_pieces st names SLOTS ++ (targets_pieces names ADDRESSES ++ records_pieces count forgotten st.records))
+abbrev pub show_behind_pieces : {N : Type 0} → NamesKept N → ℕ → ℕ → State → N → List Piece
+show_behind_pieces kept count forgotten st names =
+    Piece.Active (address_of (device_at st st.active)) ∷ (devices_pieces kept st names SLOTS ++ (targets_pieces kept names ADDRESSES ++ records_pieces count forgotten st.records))
 
 -- `show`: the same with all records of the log
-abbrev pub show_pieces : ℕ → State → Names → List Piece
-show_pieces forgotten st names = show_behind_pieces 0 forgotten st names
+abbrev pub show_pieces : {N : Type 0} → NamesKept N → ℕ → State → N → List Piece
+show_pieces kept forgotten st names = show_behind_pieces kept 0 forgotten st names
 
 -- what a present device is: its identity, the enabled kinds of its events, and its wish
 abbrev pub description_pieces : Option Name → Option Device → List Piece
@@ -162,9 +171,9 @@ description_pieces None device = []
 description_pieces (Some name) None = []
 
 -- the present devices of the slots below a number, the lowest slot first
-unfoldable pub descriptions_pieces : State → Names → ℕ → List Piece
-descriptions_pieces st names zero = []
-descriptions_pieces st names (suc slot) = descriptions_pieces st names slot ++ description_pieces (slice_index_or (slot_names names) slot None) (device_at st slot)
+unfoldable pub descriptions_pieces : {N : Type 0} → NamesKept N → State → N → ℕ → List Piece
+descriptions_pieces kept st names zero = []
+descriptions_pieces kept st names (suc slot) = descriptions_pieces kept st names slot ++ description_pieces (kept.in_slot names slot) (device_at st slot)
 
 -- the active controller of the records behind the first `from`, up to the one with number `to`, if there are any
 abbrev pub tenure_pieces : ℕ → ℕ → ℕ → List Piece
@@ -186,10 +195,10 @@ tenures_pieces ended active records = pasts_pieces ended (length ended) ++ tenur
 
 -- `show all`: what `show` tells, then what the present devices are, the list, the session, and the active controllers with
 -- their records
-abbrev pub show_all_pieces : ℕ → State → Names → List Tenure → List Piece
-show_all_pieces forgotten st names ended =
-    show_pieces forgotten st names
-    ++ (descriptions_pieces st names SLOTS ++ (Piece.Listed st.listed ∷ Piece.Session st.in_session ∷ tenures_pieces ended st.active (forgotten + length st.records)))
+abbrev pub show_all_pieces : {N : Type 0} → NamesKept N → ℕ → State → N → List Tenure → List Piece
+show_all_pieces kept forgotten st names ended =
+    show_pieces kept forgotten st names
+    ++ (descriptions_pieces kept st names SLOTS ++ (Piece.Listed st.listed ∷ Piece.Session st.in_session ∷ tenures_pieces ended st.active (forgotten + length st.records)))
 
 -- symbols that follow others on a line, and its end
 abbrev pub later_pieces : List Symbol → List Piece

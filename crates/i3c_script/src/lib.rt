@@ -1,27 +1,29 @@
 //! What the lines of a script come to. Each line's command is obeyed on a stage, before the bus or with it, and a listener
 //! hears what it comes to, piece by piece.
 //!
-//! A line of one event takes one path: `stage` hands its command to `running`, which makes the event and has the bus answer
-//! it, and `replies` makes pieces of the answer.
+//! A line of one event takes one path: `stage` hands its command to `script_bus`, which makes the event and has the bus
+//! answer it, and `replies` makes pieces of the answer.
 //!
 //! * `piece` has the pieces, and what a listener is. `printed` makes a text a listener: it prints each piece.
-//! * `stage` is where a script is, before its bus and with it. `running` makes a command's event. `assigning` plays the whole
-//!   session of a `daa`. `settings` is what the script's lines have set. `slot_lookup` finds the slots that names mean.
-//! * `replies` has the pieces of a reply, `show` those of the bus, and `details` those of all that it is; `tenures` those of the
-//!   active controllers at the times of recorded interrupts. `wires` keeps the last symbols; `symbols` and `frames` have
-//!   their pieces.
+//! * `stage` is where a script is, before its bus and with it. `script_bus` obeys a line's command on a bus, whoever listens,
+//!   however names are kept (`Naming` of `i3c_lines`) and whatever is kept of the past (`past`). `journal` is what scripts
+//!   keep of it. `settings` is what lines have set. `slot_lookup` finds the slots that names mean.
+//! * `replies` has the pieces of a reply and of a whole session, `show` those of the bus, and `details` those of all that it
+//!   is; `tenures` those of the active controllers at the times of recorded interrupts. `wires` keeps the last symbols;
+//!   `symbols` and `frames` have their pieces.
 //! * `outcomes` gives the result of a line, by the bus's reply. `laws` says that lines make legal runs.
 #![tactic(auto)]
 
-mod assigning;
 mod details;
 mod frames;
+mod journal;
 mod laws;
 mod outcomes;
+mod past;
 mod piece;
 mod printed;
 mod replies;
-mod running;
+mod script_bus;
 mod settings;
 mod show;
 mod slot_lookup;
@@ -31,10 +33,10 @@ mod tenures;
 mod wires;
 
 pub use laws::scripts_are_legal_runs;
-pub use outcomes::outcome_of;
+pub use journal::Journal;
+pub use past::Past;
 pub use piece::{Description, Listener, Piece};
-pub use running::Running;
+pub use script_bus::ScriptBus;
 pub use settings::{Settings, sum_of};
 pub use show::{show_askers, show_bus, show_records_behind};
-pub use slot_lookup::entrance_at;
 pub use stage::Stage;

@@ -1,5 +1,6 @@
 ghost use Rattle.std.specs.Prelude.{◌≡◌, ◌≢◌};
 ghost use Rattle.i3c_step.specs.declared.replies.Reply.{Reply as ReplyValue};
+ghost use Rattle.i3c_script.specs.Assigning.{session_refusal};
 ghost use Rattle.i3c_script.specs.Stops.{Ends, answer_refusal, reply_refusal, round_refusal};
 
 use i3c_base::{Answer, RoundReply};
@@ -8,7 +9,7 @@ use i3c_lines::Refusal;
 use i3c_text::Stop;
 
 /// The result of a line by the bus's reply: the one place for refusals and for want of memory.
-pub fn outcome_of(reply: &Reply) -> Result<(), Stop<Refusal>>
+pub(crate) fn outcome_of(reply: &Reply) -> Result<(), Stop<Refusal>>
     ensures { Ends (λ refused. (reply.now ≢ ReplyValue.OutOfMemory) × (refused ≡ reply_refusal reply.now)) result }
 {
     match reply {
@@ -42,12 +43,24 @@ fn outcome_of_answer(answer: &Answer) -> Result<(), Stop<Refusal>>
 }
 
 /// The result of a line by a round's answer.
-pub(crate) fn outcome_of_round(answer: &RoundReply) -> Result<(), Stop<Refusal>>
+fn outcome_of_round(answer: &RoundReply) -> Result<(), Stop<Refusal>>
     ensures refused { Ends (λ refused. refused ≡ round_refusal answer.now) result }
     ensures fed { result ≢ Err Stop.Memory }
 {
     match answer {
         RoundReply::Assigned(..) | RoundReply::Nobody | RoundReply::Done => Ok(()),
         RoundReply::NoAddress => Err(Stop::Refused(Refusal::Bus(BusRefusal::NoAddress))),
+    }
+}
+
+/// The result of a `daa` by whether each device that heard its session has an address.
+pub(crate) fn outcome_of_session(complete: bool) -> Result<(), Stop<Refusal>>
+    ensures refused { Ends (λ refused. refused ≡ session_refusal complete) result }
+    ensures fed { result ≢ Err Stop.Memory }
+{
+    if complete {
+        Ok(())
+    } else {
+        Err(Stop::Refused(Refusal::Bus(BusRefusal::NoAddress)))
     }
 }

@@ -1,7 +1,7 @@
 ghost use Rattle.std.specs.Prelude.{◌≡◌, List, OnOk};
 ghost use Rattle.i3c_step.specs.Replies.{attached_reply, dropped_reply, joins_reply, raised_reply, role_reply};
 ghost use Rattle.i3c_script.specs.Hearing.{Hears, all_heard};
-ghost use Rattle.i3c_script.specs.Pieces.{answer_pieces, behind_request, entered_pieces, frame_subject, handed_pieces, reply_pieces, round_pieces, subject_of};
+ghost use Rattle.i3c_script.specs.Pieces.{answer_pieces, behind_request, entered_pieces, frame_subject, given_pieces, handed_pieces, reply_pieces, round_pieces, session_pieces, subject_of};
 ghost use Rattle.i3c_script.specs.declared.piece.Piece.{Piece as PieceValue};
 ghost use Rattle.i3c_script.specs.declared.replies.Subject.{Subject as SubjectValue};
 ghost use Rattle.i3c_script.specs.Telling.{Counts, IsTold};
@@ -10,10 +10,12 @@ ghost use Rattle.i3c_log_laws.specs.Behind.{counted_from, reply_from};
 use crate::outcomes::outcome_of;
 use crate::piece::{Listener, Piece};
 use i3c_base::{
-    Addr7, Answer, Datum, JoinRefusal, RaiseRefusal, RoleRefusal, RoundReply, Served, Slot,
+    Addr7, Answer, Datum, Identity, JoinRefusal, RaiseRefusal, RoleRefusal, RoundReply, Served,
+    Slot,
 };
 use i3c_bus::{
-    Command as Frame, DropRefusal, Event, Framed, Refusal as BusRefusal, Reply, SlotTaken,
+    Assignment, Command as Frame, DropRefusal, Event, Framed, Refusal as BusRefusal, Reply,
+    SlotTaken,
 };
 use i3c_lines::{Name, Refusal};
 use i3c_text::Stop;
@@ -260,7 +262,7 @@ fn hear_entered<L: Listener>(subject: Subject, listener: &mut L) -> Result<(), A
 }
 
 /// What a frame served before its own part, unless nobody asked.
-pub(crate) fn hear_request<L: Listener>(served: &Served, listener: &mut L) -> Result<(), AllocError>
+fn hear_request<L: Listener>(served: &Served, listener: &mut L) -> Result<(), AllocError>
     ensures { (rest : List PieceValue) → OnOk result (all_heard L.heard listener.new rest ≡ all_heard L.heard listener.old (behind_request served.now rest)) }
 {
     match served {
@@ -304,8 +306,38 @@ fn hear_handed<L: Listener>(
     listener.hear(Piece::Active(Some(to)))
 }
 
+/// What a whole session came to, unless no address was left: what its opening served, and the addresses that it gave.
+pub(crate) fn hear_session<L: Listener>(
+    all: &Assignment,
+    listener: &mut L,
+) -> Result<(), AllocError>
+    ensures { OnOk result (listener.new ≡ all_heard L.heard listener.old (behind_request all.now.served (session_pieces all.now.given.items all.now.complete))) }
+{
+    hear_request(&all.served, listener)?;
+    hear_given(all.given.as_slice(), listener)?;
+    if all.complete {
+        return listener.hear(Piece::Done);
+    }
+    Ok(())
+}
+
+/// The addresses that a session gave, in order.
+fn hear_given<L: Listener>(
+    given: &[(Addr7, Identity)],
+    listener: &mut L,
+) -> Result<(), AllocError>
+    ensures { OnOk result (listener.new ≡ all_heard L.heard listener.old (given_pieces given.now)) }
+{
+    let mut rest = given;
+    while let [(address, identity), more @ ..] = rest {
+        listener.hear(Piece::Assigned(*address, *identity))?;
+        rest = more;
+    }
+    Ok(())
+}
+
 /// A round of a session.
-pub(crate) fn hear_round<L: Listener>(
+fn hear_round<L: Listener>(
     answer: &RoundReply,
     listener: &mut L,
 ) -> Result<(), AllocError>

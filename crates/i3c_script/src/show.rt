@@ -3,7 +3,7 @@ ghost use Rattle.i3c_base.specs.declared.range.TheConstants.{ADDRESSES, SLOTS};
 ghost use Rattle.i3c_bus.specs.Readings.{AreAskers};
 ghost use Rattle.i3c_device.specs.Sets.{IsLowestOf};
 ghost use Rattle.i3c_base.specs.State.{device_at};
-ghost use Rattle.i3c_lines.specs.Naming.{legacy_names, slot_names};
+ghost use Rattle.i3c_lines.specs.Naming.{slot_names};
 ghost use Rattle.i3c_script.specs.Hearing.{all_heard};
 ghost use Rattle.i3c_script.specs.Pieces.{behind_pieces, device_pieces, devices_pieces, records_pieces, show_behind_pieces, show_pieces, target_pieces, targets_pieces};
 ghost use Rattle.i3c_script.specs.Printed.{TellsAskers, asker_text, askers_text, numbered_text, show_text};
@@ -12,7 +12,7 @@ use crate::piece::{Listener, Piece};
 use crate::settings::sum_of;
 use i3c_base::{ADDRESSES, Addr7, Record, SLOTS, Slot};
 use i3c_bus::{Bus, Request, SlotSet};
-use i3c_lines::Names;
+use i3c_lines::{Names, Naming};
 use i3c_text::Text;
 use std::alloc::AllocError;
 
@@ -42,26 +42,26 @@ pub fn show_records_behind(
 }
 
 /// What `show_bus` prints.
-pub(crate) fn hear_bus<L: Listener>(
+pub(crate) fn hear_bus<N: Naming, L: Listener>(
     bus: &Bus,
-    names: &Names,
+    names: &N,
     forgotten: usize,
     listener: &mut L,
 ) -> Result<(), AllocError>
-    ensures { OnOk result (listener.new ≡ all_heard L.heard listener.old (show_pieces forgotten bus.now.state names.now)) }
+    ensures { OnOk result (listener.new ≡ all_heard L.heard listener.old (show_pieces N.kept forgotten bus.now.state names.now)) }
 {
     hear_bus_behind(bus, names, 0, forgotten, listener)
 }
 
 /// The same, but of the log only what is behind its first `count` records.
-pub(crate) fn hear_bus_behind<L: Listener>(
+pub(crate) fn hear_bus_behind<N: Naming, L: Listener>(
     bus: &Bus,
-    names: &Names,
+    names: &N,
     count: usize,
     forgotten: usize,
     listener: &mut L,
 ) -> Result<(), AllocError>
-    ensures { OnOk result (listener.new ≡ all_heard L.heard listener.old (show_behind_pieces count forgotten bus.now.state names.now)) }
+    ensures { OnOk result (listener.new ≡ all_heard L.heard listener.old (show_behind_pieces N.kept count forgotten bus.now.state names.now)) }
 {
     listener.hear(Piece::Active(bus.address(bus.active())))?;
     hear_devices(bus, names, listener)?;
@@ -70,8 +70,12 @@ pub(crate) fn hear_bus_behind<L: Listener>(
 }
 
 /// Each present device, by slot.
-fn hear_devices<L: Listener>(bus: &Bus, names: &Names, listener: &mut L) -> Result<(), AllocError>
-    ensures { OnOk result (listener.new ≡ all_heard L.heard listener.old (devices_pieces bus.now.state names.now SLOTS)) }
+fn hear_devices<N: Naming, L: Listener>(
+    bus: &Bus,
+    names: &N,
+    listener: &mut L,
+) -> Result<(), AllocError>
+    ensures { OnOk result (listener.new ≡ all_heard L.heard listener.old (devices_pieces N.kept bus.now.state names.now SLOTS)) }
 {
     for number in 0..SLOTS as u8 {
         let slot = Slot::new(number).unwrap();
@@ -81,25 +85,25 @@ fn hear_devices<L: Listener>(bus: &Bus, names: &Names, listener: &mut L) -> Resu
 }
 
 /// The device of a slot, if there is one.
-fn hear_slot<L: Listener>(
+fn hear_slot<N: Naming, L: Listener>(
     bus: &Bus,
-    names: &Names,
+    names: &N,
     slot: Slot,
     listener: &mut L,
 ) -> Result<(), AllocError>
-    ensures { OnOk result (listener.new ≡ all_heard L.heard listener.old (device_pieces (slice_index_or (slot_names names.now) slot None) (device_at bus.now.state slot))) }
+    ensures { OnOk result (listener.new ≡ all_heard L.heard listener.old (device_pieces (N.kept.in_slot names.now slot) (device_at bus.now.state slot))) }
 {
     match names.in_slot(slot) {
         Some(name) if bus.present(slot) => {
-            listener.hear(Piece::Device(*name, bus.address(slot), bus.waiting(slot)))
+            listener.hear(Piece::Device(name, bus.address(slot), bus.waiting(slot)))
         }
         _ => Ok(()),
     }
 }
 
 /// Each legacy target, by address.
-fn hear_targets<L: Listener>(names: &Names, listener: &mut L) -> Result<(), AllocError>
-    ensures { OnOk result (listener.new ≡ all_heard L.heard listener.old (targets_pieces names.now ADDRESSES)) }
+fn hear_targets<N: Naming, L: Listener>(names: &N, listener: &mut L) -> Result<(), AllocError>
+    ensures { OnOk result (listener.new ≡ all_heard L.heard listener.old (targets_pieces N.kept names.now ADDRESSES)) }
 {
     for number in 0..ADDRESSES as u8 {
         let address = Addr7::new(number).unwrap();
@@ -109,15 +113,15 @@ fn hear_targets<L: Listener>(names: &Names, listener: &mut L) -> Result<(), Allo
 }
 
 /// The legacy target at a static address, if there is one.
-fn hear_target<L: Listener>(
-    names: &Names,
+fn hear_target<N: Naming, L: Listener>(
+    names: &N,
     address: Addr7,
     listener: &mut L,
 ) -> Result<(), AllocError>
-    ensures { OnOk result (listener.new ≡ all_heard L.heard listener.old (target_pieces (slice_index_or (legacy_names names.now) address None) address)) }
+    ensures { OnOk result (listener.new ≡ all_heard L.heard listener.old (target_pieces (N.kept.at_address names.now address) address)) }
 {
     match names.at_address(address) {
-        Some(name) => listener.hear(Piece::Target(*name, address)),
+        Some(name) => listener.hear(Piece::Target(name, address)),
         None => Ok(()),
     }
 }

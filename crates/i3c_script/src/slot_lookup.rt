@@ -1,26 +1,18 @@
 ghost use Rattle.std.specs.Prelude.{◌≡◌, ◌<◌, ◌≤◌, ◌+◌, ◌++◌, ◌↔◌, length, Ok, Err, IsTrue, MatchOption, MatchResult};
 ghost use Rattle.i3c_base.specs.State.{IsPresent};
 ghost use Rattle.i3c_script.specs.Asking.{IsEntrance, IsTaken, slot_of_device, slots_named};
-ghost use Rattle.i3c_lines.specs.Naming.{place_named};
 ghost use Rattle.i3c_script.specs.Slots.{AllPresentBelow};
 
 use arrayvec::ArrayVec;
 use i3c_base::{SLOTS, Slot};
 use i3c_bus::{Bus, Refusal as BusRefusal};
-use i3c_lines::{EXCEPTED, Name, Names, Place, Refusal};
+use i3c_lines::{EXCEPTED, Name, Naming, Place, Refusal, slot_meant};
 
 /// The slot for a new device with this name: the lowest free one, if the name isn't taken.
-pub(crate) fn entrance(bus: &Bus, names: &Names, name: &Name) -> Result<Slot, Refusal>
-    ensures { IsEntrance bus.now.state (place_named names.now name.now) result }
+pub(crate) fn entrance<N: Naming>(bus: &Bus, names: &N, name: &Name) -> Result<Slot, Refusal>
+    ensures { IsEntrance bus.now.state (N.kept.place names.now name.now) result }
 {
-    entrance_at(bus, names.place_of(name))
-}
-
-/// The slot for a new device whose name stands for this place: the lowest free one, if the name isn't taken.
-pub fn entrance_at(bus: &Bus, place: Option<Place>) -> Result<Slot, Refusal>
-    ensures { IsEntrance bus.now.state place result }
-{
-    if is_taken(bus, place) {
+    if is_taken(bus, names.place_of(name)) {
         return Err(Refusal::NameTaken);
     }
     match free_slot(bus) {
@@ -30,10 +22,14 @@ pub fn entrance_at(bus: &Bus, place: Option<Place>) -> Result<Slot, Refusal>
 }
 
 /// The slot of the present device that a name stands for. It answers `NoDevice` where the device is gone.
-pub(crate) fn slot_of_device(bus: &Bus, names: &Names, name: &Name) -> Result<Slot, Refusal>
-    ensures { result ≡ slot_of_device bus.now.state names.now name.now }
+pub(crate) fn slot_of_device<N: Naming>(
+    bus: &Bus,
+    names: &N,
+    name: &Name,
+) -> Result<Slot, Refusal>
+    ensures { result ≡ slot_of_device N.kept bus.now.state names.now name.now }
 {
-    let slot = names.slot_of(name)?;
+    let slot = slot_meant(names, name)?;
     if bus.present(slot) {
         Ok(slot)
     } else {
@@ -43,14 +39,14 @@ pub(crate) fn slot_of_device(bus: &Bus, names: &Names, name: &Name) -> Result<Sl
 
 /// Appends the slots of the devices with these names. It answers the refusal of the first name that no present device
 /// has.
-pub(crate) fn slots_of_devices(
+pub(crate) fn slots_of_devices<N: Naming>(
     bus: &Bus,
-    names: &Names,
+    names: &N,
     named: &[Name],
     slots: &mut ArrayVec<Slot, EXCEPTED>,
 ) -> Result<(), Refusal>
     requires { length slots.old.items + length named.now ≤ EXCEPTED }
-    ensures { MatchResult (slots_named (slot_of_device bus.now.state names.now) named.now)
+    ensures { MatchResult (slots_named (slot_of_device N.kept bus.now.state names.now) named.now)
         (λ found. (result ≡ Ok tt) × (slots.new.items ≡ slots.old.items ++ found))
         (λ why. result ≡ Err why) }
 {

@@ -4,9 +4,9 @@ ghost use Rattle.i3c_lines.specs.declared.names.Names.{Names as NamesValue};
 ghost use Rattle.i3c_script.specs.Hearing.{Hears};
 ghost use Rattle.i3c_script.specs.Obeying.{IsHeard, IsObeyed, ObeysBefore, main_refusal, script};
 
+use crate::journal::Journal;
 use crate::piece::{Listener, Piece};
-use crate::running::Running;
-use crate::wires::Wires;
+use crate::script_bus::ScriptBus;
 use i3c_base::{Addr7, Bcr, Identity, Lvr, Setup, Slot};
 use i3c_bus::Refusal as BusRefusal;
 use i3c_frame::Symbol;
@@ -22,14 +22,14 @@ pub enum Stage {
     /// Before the bus is made, legacy targets and identities are declared at static addresses.
     Before(Legacies),
     /// The bus runs.
-    Running(Running),
+    Running(ScriptBus<Journal>),
 }
 
 impl Stage {
     ghost use Rattle.std.specs.Prelude.{OnOk};
     ghost use Rattle.i3c_base.specs.State.{no_board};
     ghost use Rattle.i3c_script.specs.Obeying.{wire_on};
-    ghost use Rattle.i3c_script.specs.Ran.{IsEnd};
+    ghost use Rattle.i3c_script.specs.Situations.{IsEnd};
 
     /// A script's start: no bus, and nothing declared.
     pub fn new() -> Stage
@@ -62,7 +62,7 @@ impl Stage {
         ensures obeys { IsHeard L.heard (script self.old names.old) command.now listener.old listener.new result (script self.new names.new) }
     {
         match self {
-            Stage::Running(running) => running.obey::<K, L>(names, command, listener),
+            Stage::Running(running) => running.obey::<K, Names, L>(names, command, listener),
             Stage::Before(legacies) => match command {
                 Command::Legacy { name, address, lvr } => {
                     add_legacy(legacies, names, name, *address, *lvr, listener)
@@ -97,10 +97,10 @@ impl Stage {
             Some(why) => return Err(Stop::Refused(why)),
             None => {}
         }
-        let wires = Wires::new(alloc)?;
+        let journal = Journal::new(alloc)?;
         names.give_slot(name, Slot::default())?;
         let declared = mem::replace(legacies, Legacies::new());
-        let running = Running::new(alloc, setup, declared, wires);
+        let running = ScriptBus::new(alloc, setup, declared, journal);
         let address = running.bus().address(Slot::default());
         mem::replace(self, Stage::Running(running)).retire();
         listener.hear(Piece::Main(*name, address))?;
@@ -117,7 +117,7 @@ impl Stage {
                 symbols.clear();
                 Ok(())
             }
-            Stage::Running(running) => running.copy_wire(symbols),
+            Stage::Running(running) => running.past_mut().copy_wire(symbols),
         }
     }
 
@@ -130,7 +130,7 @@ impl Stage {
                 symbols.clear();
                 Ok(())
             }
-            Stage::Running(running) => running.copy_later(symbols),
+            Stage::Running(running) => running.past().copy_later(symbols),
         }
     }
 

@@ -2,7 +2,6 @@ ghost use Rattle.std.specs.Prelude.{◌≡◌, OnOk};
 ghost use Rattle.i3c_step.specs.Slots.{is_handed};
 ghost use Rattle.i3c_script.specs.Hearing.{all_heard};
 ghost use Rattle.i3c_script.specs.Pieces.{tenure_pieces, tenures_pieces};
-ghost use Rattle.i3c_script.specs.Tenures.{ended_by};
 
 use crate::piece::{Listener, Piece};
 use i3c_base::Slot;
@@ -18,23 +17,8 @@ pub struct Tenure {
     pub records: usize,
 }
 
-/// Ends the tenure of the active controller, at this number of records, if the reply says that the role was handed over.
-pub(crate) fn end_tenure(
-    ended: &mut Vec<Tenure>,
-    reply: &Reply,
-    slot: Slot,
-    records: usize,
-) -> Result<(), AllocError>
-    ensures { OnOk result (ended.new.items ≡ ended_by reply.now slot records ended.old.items) }
-{
-    if is_handed(reply) {
-        ended.push(Tenure { slot, records })?;
-    }
-    Ok(())
-}
-
 /// Whether the role was handed over.
-fn is_handed(reply: &Reply) -> bool
+pub(crate) fn is_handed(reply: &Reply) -> bool
     ensures { result ≡ is_handed reply.now }
 {
     matches!(reply, Reply::Handed(_))

@@ -3,7 +3,7 @@ use crate::script::{KNOWN, Script};
 use i3c_base::{ADDRESSES, Addr7, Cuts, Fixed, Lvr, RoundReply, SLOTS, Setup, Slot};
 use i3c_bus::{Command as Frame, Event, Reply};
 use i3c_legacy::Legacies;
-use i3c_lines::{ACCEPT_ALL, Command, Name, Names, Place, read_line};
+use i3c_lines::{ACCEPT_ALL, Command, Name, Names, Place, read_line, slot_meant};
 use i3c_model::{Choice, Plain};
 use i3c_step::copy_of;
 use std::alloc::Global;
@@ -182,7 +182,7 @@ impl Running {
             }
             Command::PolicyBut { .. } => Err(Fault::Exceptions),
             Command::Cut { name, bit } => {
-                if let Ok(slot) = names.slot_of(name) {
+                if let Ok(slot) = slot_meant(names, name) {
                     self.cuts.add(slot, *bit);
                 }
                 Ok(())
@@ -393,7 +393,7 @@ impl Running {
 
 /// The slot that a name stands for, if its device is there.
 fn slot_of(names: &Names, name: &Name) -> Option<Slot> {
-    match names.slot_of(name) {
+    match slot_meant(names, name) {
         Ok(slot) => Some(slot),
         Err(_) => None,
     }

@@ -1,13 +1,13 @@
 use crate::checks::{holds, same};
 use i3c_base::{Addr7, Pid, Slot};
 use i3c_bus::Refusal as BusRefusal;
-use i3c_lines::{Name, Names, Refusal};
+use i3c_lines::{Name, Names, Refusal, slot_meant};
 use i3c_text::Text;
 use std::process::Abort;
 
 /// The name has this slot, or the refusal that is expected.
 fn stands(rt: &impl Abort, names: &Names, name: &Name, due: Result<Slot, Refusal>) {
-    same(rt, names.slot_of(name), due);
+    same(rt, slot_meant(names, name), due);
 }
 
 /// The slot has this name.

@@ -16,9 +16,9 @@ returns g c =
     let forgotten = c.args.settings.now.forgotten in
     let r = c.hear_times.result in
     let new = c.hear_times.new.listener in
-    let bus = show_pieces forgotten st names in
-    let devices = descriptions_pieces st names SLOTS in
-    let times = tenures_pieces c.args.ended.now st.active (forgotten + length st.records) in
+    let bus = show_pieces g.N.Naming.kept forgotten st names in
+    let devices = descriptions_pieces g.N.Naming.kept st names SLOTS in
+    let times = tenures_pieces (g.P.Past.kept.ended c.args.past.now) st.active (forgotten + length st.records) in
     let list : c.hear.new.self ≡ heard c.hear_descriptions.new.listener (Piece.Listed st.listed) = c.in_ok-hear.ensures ∙ ap (λ l. heard c.hear_descriptions.new.listener (Piece.Listed l)) c.listed.ensures in
     let session : c.hear-2.new.self ≡ heard (heard c.hear_descriptions.new.listener (Piece.Listed st.listed)) (Piece.Session st.in_session) =
     c.in_ok-hear-2.ensures ∙ ap (λ o. heard c.hear.new.self (Piece.Session o)) c.in_session.ensures ∙ ap (λ s. heard s (Piece.Session st.in_session)) list in

@@ -4,4 +4,4 @@ use Rattle.i3c_script.specs.Pieces.{descriptions_pieces}
 use Rattle.i3c_script.proofs.details.hear_descriptions.Given as goal
 
 abbrev pub invariant-loop-number : goal.invariant-loop-number
-invariant-loop-number g l = l.listener ≡ all_heard g.L.Listener.heard l.initial.listener (descriptions_pieces l.bus.state l.names l.number)
+invariant-loop-number g l = l.listener ≡ all_heard g.L.Listener.heard l.initial.listener (descriptions_pieces g.N.Naming.kept l.bus.state l.names l.number)

@@ -17,8 +17,8 @@ returns g c =
     let names = c.args.names.now in
     let r = c.hear_records.result in
     let new = c.hear_records.new.listener in
-    let devices = devices_pieces st names SLOTS in
-    let targets = targets_pieces names ADDRESSES in
+    let devices = devices_pieces g.N.Naming.kept st names SLOTS in
+    let targets = targets_pieces g.N.Naming.kept names ADDRESSES in
     let records = records_pieces c.args.count c.args.forgotten st.records in
     let told : OnOk r (new ≡ all_heard heard c.hear_targets.new.listener records) =
     subst (λ kept. OnOk r (new ≡ all_heard heard c.hear_targets.new.listener (records_pieces c.args.count c.args.forgotten kept))) c.records.ensures c.hear_records.ensures in

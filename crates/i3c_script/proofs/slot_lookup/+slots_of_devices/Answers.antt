@@ -6,8 +6,8 @@ use Rattle.i3c_script.proofs.Gathering.{gathered}
 use Rattle.i3c_script.proofs.slot_lookup.+slots_of_devices.Goals as goal
 
 pub returns-in-Ok : goal.returns-in-Ok
-returns-in-Ok t c =
-    let slot = slot_of_device c.args.bus.now.state c.args.names.now in
+returns-in-Ok g t c =
+    let slot = slot_of_device g.N.Naming.kept c.args.bus.now.state c.args.names.now in
     let rest = c.in-Some.rest.now in
     let result = c.slots_of_devices.result in
     let before = c.args.slots.now.items in

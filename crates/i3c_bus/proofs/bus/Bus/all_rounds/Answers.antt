@@ -6,11 +6,11 @@ use Rattle.i3c_bus.proofs.bus.Bus.all_rounds.Goals as goal
 
 pub loop-init : goal.loop-init
 loop-init g c = record {
-  told = none_given g.T.Tap.note_gives c.args.tap.now c.args.self.now.state c.new-given.result.items c.new-given.ensures;
+  told = none_given g.T.Tap.note_gives c.args.tap.now c.args.self.now.state c.args.given.now.items c.requires.none;
   fits = c.requires.fits;
   lasts = λ room. room;
   fewer = few_hear c.self.inside.devices c.args.self.now.state.devices (ap (λ held. held.state.devices) c.self.view_is) c.slots-end.ensures.slots;
-  many = ap length c.new-given.ensures;
+  many = ap length c.requires.none;
 }
 
 pub loop-preserved : goal.loop-preserved

@@ -1,0 +1,58 @@
+-- What a line finds on a bus, and leaves there.
+use Rattle.std.specs.Prelude.{◌≡◌, ℕ, ◌+◌, List, [], ◌∷◌, ◌++◌, length}
+use Rattle.circular_buffer.specs.Buffer.{keep_last}
+use Rattle.i3c_base.specs.Cutting.{CutList}
+use Rattle.i3c_base.specs.State.{State}
+use Rattle.i3c_frame.specs.declared.symbols.Symbol.{Symbol}
+use Rattle.i3c_script.specs.declared.settings.Settings.{Settings}
+use Rattle.i3c_script.specs.declared.tenures.Tenure.{Tenure}
+
+-- the bus, what lines have set, the cuts that wait for the next frame, and what is kept of the past
+pub record Situation (P : Type 0) : Type 0 where
+  pub state : State
+  pub settings : Settings
+  pub cuts : CutList
+  pub past : P
+
+abbrev pub situation : {P : Type 0} → State → Settings → CutList → P → Situation P
+situation state settings cuts past = record { state = state; settings = settings; cuts = cuts; past = past }
+
+-- how the past is kept: what it becomes behind symbols of which something holds, and behind a tenure of a slot that ended at so
+-- many records; and which symbols and tenures it tells
+pub record PastKept (P : Type 0) : Type 1 where
+  pub sends : P → (List Symbol → Type 0) → P → Type 0
+  pub ends : P → ℕ → ℕ → P
+  pub symbols : P → List Symbol
+  pub ended : P → List Tenure
+
+-- how many interrupts were recorded: those that left the log, and those in it
+abbrev pub recorded_in : {P : Type 0} → Situation P → ℕ
+recorded_in now = now.settings.forgotten + length now.state.records
+
+-- what a script keeps of the past: symbols of the wire, and the tenures that ended
+pub record Told : Type 0 where
+  pub wire : List Symbol
+  pub ended : List Tenure
+
+-- the last symbols, of which it keeps no more
+abbrev pub last_symbols : Told → List Symbol
+last_symbols told = keep_last 256 told.wire
+
+-- the past behind a wire: the last symbols are those of both, and no tenure ended
+pub record Sends (old : Told) (Is : List Symbol → Type 0) (new : Told) : Type 0 where
+  pub wire : List Symbol
+  pub sent : Is wire
+  pub kept : last_symbols new ≡ keep_last 256 (last_symbols old ++ wire)
+  pub ended : new.ended ≡ old.ended
+
+-- one more tenure ended
+abbrev pub with_tenure : Told → ℕ → ℕ → Told
+with_tenure told slot records = record told { ended = told.ended ++ record { slot = slot; records = records } ∷ [] }
+
+-- how a script keeps the past
+abbrev pub told_past : PastKept Told
+told_past = record { sends = Sends; ends = with_tenure; symbols = last_symbols; ended = λ told. told.ended }
+
+-- these symbols are the last ones of a wire, which keeps no more than its last symbols
+abbrev pub IsEnd : List Symbol → List Symbol → Type 0
+IsEnd wire symbols = (before : List Symbol) × (wire ≡ keep_last 256 (before ++ symbols))
