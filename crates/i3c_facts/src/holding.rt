@@ -7,10 +7,9 @@ use crate::before::Before;
 use crate::counting::{are_assigned, records_of, waiting};
 use crate::fact::Fact;
 use crate::facts::{Claim, Facts};
-use crate::naming::Naming;
 use i3c_base::{Addr7, Record, Slot};
 use i3c_bus::{Bus, Refusal as BusRefusal};
-use i3c_lines::{Place, Refusal};
+use i3c_lines::{Naming, Place, Refusal};
 
 impl Fact {
     /// Whether it holds of a bus, with this place of its name and this result of the previous line.
@@ -165,7 +164,7 @@ impl Claim {
 
 /// The place of a fact's name, if it has one that was given.
 pub(crate) fn place_for<N: Naming>(naming: &N, fact: &Fact) -> Option<Place>
-    ensures { result ≡ place_for (N.place naming.now) fact.now }
+    ensures { result ≡ place_for (N.kept.place naming.now) fact.now }
 {
     match fact.name() {
         Some(name) => naming.place_of(name),
@@ -176,7 +175,7 @@ pub(crate) fn place_for<N: Naming>(naming: &N, fact: &Fact) -> Option<Place>
 impl Facts {
     /// Whether one of its claims holds of a bus, with the places of names and the result of the previous line.
     pub fn hold<N: Naming>(&self, bus: &Bus, naming: &N, before: &Before) -> bool
-        ensures { result ≡ claims_hold bus.now.state (N.place naming.now) before.now self.now }
+        ensures { result ≡ claims_hold bus.now.state (N.kept.place naming.now) before.now self.now }
     {
         for index in 0..self.claims.len() {
             let claim = self.claims[index];

@@ -1,7 +1,7 @@
 //! What a script expects: marks, the lines beside its commands, and the facts that these say.
 //!
 //! Reading: `marks` reads a line (`Mark`), `facts` its facts (`Facts`), `fact_tokens` one fact (`Fact`, in `fact`), and
-//! `reasons` the reason of a refusal. Testing: `holding` tests a fact, by the place of its name (`naming`), the result of the
+//! `reasons` the reason of a refusal. Testing: `holding` tests a fact, by the place of its name, the result of the
 //! previous line (`before`) and counts over slots and records (`counting`). Printing: `printing` prints marks and facts, and
 //! `unmet` prints what holds in place of an unmet fact. `laws` has theorems over all lines.
 #![tactic(auto)]
@@ -14,7 +14,6 @@ mod facts;
 mod holding;
 mod laws;
 mod marks;
-mod naming;
 mod printing;
 mod reasons;
 mod unmet;
@@ -24,4 +23,3 @@ pub use fact::Fact;
 pub use facts::{Claim, Facts};
 pub use laws::{lines_are_of_one_mark, marks_are_no_commands, printed_marks_are_read};
 pub use marks::{Mark, read_mark};
-pub use naming::{Naming, SlotNames};

@@ -10,32 +10,30 @@ use crate::counting::{records_of, waiting};
 use crate::fact::Fact;
 use crate::facts::{Claim, Facts};
 use crate::holding::{device_slot, place_for, slot_of};
-use crate::naming::{Naming, SlotNames};
 use crate::printing::{
     push_at, push_name, push_named, push_number, push_recorded, push_refused, push_waiting,
 };
 use i3c_base::{Addr7, Record};
 use i3c_bus::Bus;
-use i3c_lines::{Name, Place};
+use i3c_lines::{Name, Naming, Place};
 use i3c_text::Text;
 use std::alloc::AllocError;
 
 impl Facts {
     /// Appends what holds in place of its claims, if none of them holds: the first one as it would hold.
-    pub fn push_unmet<N: Naming, S: SlotNames>(
+    pub fn push_unmet<N: Naming>(
         &self,
         bus: &Bus,
-        naming: &N,
-        slot_names: &S,
+        names: &N,
         before: &Before,
         text: &mut Text,
     ) -> Result<(), AllocError>
-        ensures { OnOk result (text.new ≡ text.old ++ unmet_text bus.now.state (N.place naming.now) (S.name_in slot_names.now) before.now self.now) }
+        ensures { OnOk result (text.new ≡ text.old ++ unmet_text bus.now.state (N.kept.place names.now) (N.kept.in_slot names.now) before.now self.now) }
     {
         match self.claims.as_slice().first() {
             Some(claim) => {
-                let place = place_for(naming, &claim.fact);
-                let active = slot_names.in_slot(bus.active());
+                let place = place_for(names, &claim.fact);
+                let active = names.in_slot(bus.active());
                 claim.push_unmet(bus, place, active, before, text)
             }
             None => Ok(()),

@@ -5,7 +5,7 @@ use Rattle.i3c_script.specs.declared.stage.Stage.{Stage}
 use Rattle.i3c_script.specs.Leading.{AreLegalBehind}
 use Rattle.i3c_script.specs.Making.{Made}
 use Rattle.i3c_script.specs.Obeying.{IsBegun, ScriptState}
-use Rattle.i3c_script.specs.Ran.{Ran}
+use Rattle.i3c_script.specs.Situations.{Situation, Told}
 use Rattle.i3c_script.proofs.Reaching.{IsSound, at_on}
 use Rattle.i3c_facts.specs.declared.facts.Claim.{Claim}
 use Rattle.i3c_facts.specs.declared.marks.Mark.{Mark}
@@ -30,7 +30,7 @@ lines_on steps old (run ∷ rest) new s (mid, is, lead) =
     subst (λ all. IsSound all new.stage) (append_assoc steps here (lines_made mid rest new lead))
     (lines_on (steps ++ here) mid rest new (line_on steps old run.line run.said run.refused mid s is.does) lead)
 
-pub reached : (old : ScriptState) (lines : List LineRun) (new : ScriptState) (ran : Ran) → IsBegun old → (lead : Lead old lines new) → new.stage ≡ Stage.Running ran → AreLegalBehind (lines_made old lines new lead) ran
+pub reached : (old : ScriptState) (lines : List LineRun) (new : ScriptState) (ran : Situation Told) → IsBegun old → (lead : Lead old lines new) → new.stage ≡ Stage.Running ran → AreLegalBehind (lines_made old lines new lead) ran
 reached old lines new ran begun lead is =
     subst (IsSound (lines_made old lines new lead)) is (lines_on [] old lines new (subst (IsSound []) (sym begun.stage) refl) lead)
 
@@ -77,6 +77,6 @@ script_on steps old (run ∷ rest) new s (mid, is, lead) =
     subst (λ all. IsSound all new.script.stage) (append_assoc steps here (script_made mid rest new lead))
     (script_on (steps ++ here) mid rest new (counted_on steps (counted old) run.line run.said run.refused mid s is.does) lead)
 
-pub script_reached : (old : Standing) (lines : List LineRun) (new : Standing) (ran : Ran) → HasBegun old → (lead : LinesLead old lines new) → new.script.stage ≡ Stage.Running ran → AreLegalBehind (script_made old lines new lead) ran
+pub script_reached : (old : Standing) (lines : List LineRun) (new : Standing) (ran : Situation Told) → HasBegun old → (lead : LinesLead old lines new) → new.script.stage ≡ Stage.Running ran → AreLegalBehind (script_made old lines new lead) ran
 script_reached old lines new ran begun lead is =
     subst (IsSound (script_made old lines new lead)) is (script_on [] old lines new (subst (IsSound []) (sym begun.script.stage) refl) lead)

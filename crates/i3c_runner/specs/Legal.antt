@@ -6,7 +6,7 @@ use Rattle.i3c_script.specs.declared.stage.Stage.{Stage}
 use Rattle.i3c_script.specs.Leading.{AreLegalBehind}
 use Rattle.i3c_script.specs.Making.{Made, command_made}
 use Rattle.i3c_script.specs.Obeying.{IsBegun, ScriptState}
-use Rattle.i3c_script.specs.Ran.{Ran}
+use Rattle.i3c_script.specs.Situations.{Situation, Told}
 use Rattle.i3c_runner.specs.Expecting.{HasBegun, Standing, counted}
 use Rattle.i3c_runner.specs.Scripts.{CountedRuns, Lead, LineDoes, LineRun, LinesLead}
 
@@ -35,8 +35,8 @@ script_made old (run ∷ rest) new (mid, is, lead) = counted_made (counted old) 
 
 -- Wherever lines of commands alone lead from a script's start to a bus, their steps are a legal run to that bus with its whole log.
 abbrev pub CommandsAreLegalRuns : Type 0
-CommandsAreLegalRuns = (old : ScriptState) (lines : List LineRun) (new : ScriptState) (ran : Ran) → IsBegun old → (lead : Lead old lines new) → new.stage ≡ Stage.Running ran → AreLegalBehind (lines_made old lines new lead) ran
+CommandsAreLegalRuns = (old : ScriptState) (lines : List LineRun) (new : ScriptState) (ran : Situation Told) → IsBegun old → (lead : Lead old lines new) → new.stage ≡ Stage.Running ran → AreLegalBehind (lines_made old lines new lead) ran
 
 -- Wherever lines of a script lead from its start to a bus, their steps are a legal run to that bus with its whole log.
 abbrev pub LinesAreLegalRuns : Type 0
-LinesAreLegalRuns = (old : Standing) (lines : List LineRun) (new : Standing) (ran : Ran) → HasBegun old → (lead : LinesLead old lines new) → new.script.stage ≡ Stage.Running ran → AreLegalBehind (script_made old lines new lead) ran
+LinesAreLegalRuns = (old : Standing) (lines : List LineRun) (new : Standing) (ran : Situation Told) → HasBegun old → (lead : LinesLead old lines new) → new.script.stage ≡ Stage.Running ran → AreLegalBehind (script_made old lines new lead) ran

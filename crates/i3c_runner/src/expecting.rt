@@ -45,6 +45,6 @@ pub(crate) fn push_unmet(
     text.push(b"unmet ")?;
     text.push_decimal(number)?;
     text.push(b" ")?;
-    facts.push_unmet(bus, names, names, before, text)?;
+    facts.push_unmet(bus, names, before, text)?;
     text.end()
 }

@@ -25,13 +25,19 @@ use Rattle.i3c_lines.specs.declared.command.Command.{Command}
 use Rattle.i3c_lines.specs.declared.names.Name.{Name}
 use Rattle.i3c_lines.specs.declared.names.Place.{Place}
 use Rattle.i3c_lines.specs.declared.refusals.Refusal.{Refusal}
-use Rattle.i3c_script.specs.Assigning.{cuts_left}
+use Rattle.i3c_log_laws.specs.Behind.{reply_from}
+use Rattle.i3c_script.specs.declared.piece.Piece.{Piece}
+use Rattle.i3c_script.specs.declared.replies.Subject.{Subject}
+use Rattle.i3c_script.specs.Assigning.{Assigns, Moves, cuts_left}
 use Rattle.i3c_script.specs.Obeying.{cut_at}
+use Rattle.i3c_script.specs.Telling.{IsTold}
+use Rattle.i3c_script.specs.Unkept.{no_past}
+use Rattle.i3c_script.proofs.Moving.{all_taken, carries_cuts, one_subject}
 use Rattle.i3c_facts.specs.declared.before.Before.{Before}
 use Rattle.i3c_scene.specs.declared.line.Line.{Line}
 use Rattle.i3c_scene.specs.declared.risk.Risk.{Risk}
 use Rattle.i3c_scene.specs.declared.ways.Ways.{Ways}
-use Rattle.i3c_scene.specs.Going.{Assigns, Does, Moves, cut_in, risked, sends}
+use Rattle.i3c_scene.specs.Going.{Does, cut_in, on_bus, risked, sends}
 use Rattle.i3c_scene.specs.Latest.{last_bit, last_of_frame, latest, tried_as}
 use Rattle.i3c_scene.specs.Pairs.{pair, within}
 use Rattle.i3c_scene.specs.Scenes.{Seen, place_in, seen}
@@ -106,74 +112,86 @@ with_cuts old cuts = seen old.state old.settings cuts old.names
 
 -- a step of an event is one of another event with other cuts, if both leave the same cuts
 moves_as : (old : Seen) (d : CutList) (e f : Event) (reply : Reply) (new : Seen) → cuts_left e old.cuts ≡ cuts_left f d → (Step old.state e reply new.state → Step old.state f reply new.state)
-    → Moves old e reply new → Moves (with_cuts old d) f reply new
-moves_as old d e f reply new left step h = record { step = step h.step; fed = h.fed; settings = h.settings; cuts = h.cuts ∙ left; names = h.names }
+    → Moves no_past (on_bus old) e reply (on_bus new) → Moves no_past (on_bus (with_cuts old d)) f reply (on_bus new)
+moves_as old d e f reply new left step h = record { sent = h.sent; step = step h.step; sends = tt; settings = h.settings; cuts = h.cuts ∙ left; past = h.past }
 
 frame_left : (frame : Frame) (policy : Fixed) (c d : CutList) → cuts_left (event_of frame policy c) c ≡ cuts_left (event_of frame policy d) d
-frame_left Frame.Serve policy c d = refl
-frame_left (Frame.Enec to kinds) policy c d = refl
-frame_left (Frame.Disec to kinds) policy c d = refl
-frame_left Frame.Reset policy c d = refl
-frame_left Frame.SendList policy c d = refl
-frame_left (Frame.ReadFrom a) policy c d = refl
-frame_left (Frame.WriteTo a bytes) policy c d = refl
-frame_left (Frame.SetStatic f to) policy c d = refl
-frame_left (Frame.SetNew a to) policy c d = refl
-frame_left (Frame.Get what a) policy c d = refl
-frame_left (Frame.SetLength way most to) policy c d = refl
+frame_left frame policy c d = all_taken (event_of frame policy c) c (carries_cuts frame policy c) ∙ sym (all_taken (event_of frame policy d) d (carries_cuts frame policy d))
 
 -- and in a whole session, in which only the opening frame takes the cuts
-assigns_late : (old : Seen) (refused : Option Refusal) (new : Seen) (s bit : ℕ) → s ≢ old.state.active → 18 < bit → Assigns old refused new → Assigns (with_cuts old (cut_at old.cuts s bit)) refused new
-assigns_late old refused new s bit other late (is, inl (complete, session, told)) = (
-  is,
-  inl (
-    complete,
-    record {
-      served = session.served;
-      given = session.given;
-      opened = session.opened;
-      last = session.last;
-      opens = step_late old.state (Event.OpenDaa old.cuts) (Reply.Opened session.served) session.opened s bit other late session.opens;
-      gives = session.gives;
-      ends = session.ends;
-    },
-    told,
-  ),
+assigns_late : (old : Seen) (pieces : List Piece) (refused : Option Refusal) (new : Seen) (s bit : ℕ) → s ≢ old.state.active → 18 < bit → Assigns no_past (on_bus old) pieces refused (on_bus new)
+    → Assigns no_past (on_bus (with_cuts old (cut_at old.cuts s bit))) pieces refused (on_bus new)
+assigns_late old pieces refused new s bit other late (inl (served, given, complete, session, told)) = inl (
+  served,
+  given,
+  complete,
+  record {
+    opened = session.opened;
+    last = session.last;
+    opens = step_late old.state (Event.OpenDaa old.cuts) (Reply.Opened served) session.opened s bit other late session.opens;
+    gives = session.gives;
+    ends = session.ends;
+    sends = tt;
+    settings = session.settings;
+    cuts = session.cuts;
+  },
+  told,
 )
-assigns_late old refused new s bit other late (is, inr (why, step, told)) = (is, inr (why, step_late old.state (Event.OpenDaa old.cuts) (Reply.Refused why) new.state s bit other late step, told))
+assigns_late old pieces refused new s bit other late (inr (why, moves, told)) = inr (
+  why,
+  moves_as old (cut_at old.cuts s bit) (Event.OpenDaa old.cuts) (Event.OpenDaa (cut_at old.cuts s bit)) (Reply.Refused why) new refl
+      (step_late old.state (Event.OpenDaa old.cuts) (Reply.Refused why) new.state s bit other late) moves,
+  told,
+)
 
 -- a command that sends a frame does the same with a late cut
 does_late : (old : Seen) (command : Command) (refused : Option Refusal) (new : Seen) (s bit : ℕ) → sends command ≡ true → s ≢ old.state.active → last_bit old.state command < bit
     → Does old command refused new → Does (with_cuts old (cut_at old.cuts s bit)) command refused new
-does_late old (Command.Frame frame) refused new s bit e other late (fixed, accepts, (reply, moves, told)) = (
-  fixed,
-  accepts,
+does_late old (Command.Frame frame) refused new s bit e other late (pieces, same, (fixed, accepts, (reply, moves, told))) =
+    let cuts = cut_at old.cuts s bit in (
+      pieces,
+      same,
+      (
+        fixed,
+        accepts,
+        (
+          reply,
+          moves_as old cuts (event_of frame fixed old.cuts) (event_of frame fixed cuts) reply new (frame_left frame fixed old.cuts cuts) (frame_late old.state frame fixed old.cuts reply new.state s bit other late) moves,
+          subst (λ (subject : Subject). IsTold subject (reply_from old.settings.forgotten reply) pieces refused) (sym (one_subject frame fixed old.cuts) ∙ one_subject frame fixed cuts) told,
+        ),
+      ),
+    )
+does_late old (Command.HandOver to) refused new s bit e other late (pieces, same, (reply, moves, told)) = (
+  pieces,
+  same,
   (
     reply,
-    moves_as old (cut_at old.cuts s bit) (event_of frame fixed old.cuts) (event_of frame fixed (cut_at old.cuts s bit)) reply new
-        (frame_left frame fixed old.cuts (cut_at old.cuts s bit)) (frame_late old.state frame fixed old.cuts reply new.state s bit other late) moves,
+    moves_as old (cut_at old.cuts s bit) (Event.HandOver to old.cuts) (Event.HandOver to (cut_at old.cuts s bit)) reply new refl
+        (step_late old.state (Event.HandOver to old.cuts) reply new.state s bit other late) moves,
     told,
   ),
 )
-does_late old (Command.HandOver to) refused new s bit e other late (reply, moves, told) = (
-  reply,
-  moves_as old (cut_at old.cuts s bit) (Event.HandOver to old.cuts) (Event.HandOver to (cut_at old.cuts s bit)) reply new refl
-      (step_late old.state (Event.HandOver to old.cuts) reply new.state s bit other late) moves,
-  told,
+does_late old Command.Open refused new s bit e other late (pieces, same, (reply, moves, told)) = (
+  pieces,
+  same,
+  (
+    reply,
+    moves_as old (cut_at old.cuts s bit) (Event.OpenDaa old.cuts) (Event.OpenDaa (cut_at old.cuts s bit)) reply new refl
+        (step_late old.state (Event.OpenDaa old.cuts) reply new.state s bit other late) moves,
+    told,
+  ),
 )
-does_late old Command.Open refused new s bit e other late (reply, moves, told) = (
-  reply,
-  moves_as old (cut_at old.cuts s bit) (Event.OpenDaa old.cuts) (Event.OpenDaa (cut_at old.cuts s bit)) reply new refl
-      (step_late old.state (Event.OpenDaa old.cuts) reply new.state s bit other late) moves,
-  told,
+does_late old Command.Round refused new s bit e other late (pieces, same, (reply, moves, told)) = (
+  pieces,
+  same,
+  (
+    reply,
+    moves_as old (cut_at old.cuts s bit) (Event.Round old.cuts) (Event.Round (cut_at old.cuts s bit)) reply new refl
+        (step_late old.state (Event.Round old.cuts) reply new.state s bit other late) moves,
+    told,
+  ),
 )
-does_late old Command.Round refused new s bit e other late (reply, moves, told) = (
-  reply,
-  moves_as old (cut_at old.cuts s bit) (Event.Round old.cuts) (Event.Round (cut_at old.cuts s bit)) reply new refl
-      (step_late old.state (Event.Round old.cuts) reply new.state s bit other late) moves,
-  told,
-)
-does_late old Command.Daa refused new s bit e other late assigns = assigns_late old refused new s bit other late assigns
+does_late old Command.Daa refused new s bit e other late (pieces, same, assigns) = (pieces, same, assigns_late old pieces refused new s bit other late assigns)
 does_late old (Command.Attach name setup) refused new s bit e other late does = absurd cc
 does_late old (Command.DropOff name) refused new s bit e other late does = absurd cc
 does_late old (Command.Raise name byte) refused new s bit e other late does = absurd cc

@@ -1,5 +1,4 @@
 mod Pairs
 pub mod Late
-pub mod Steps
 mod Behind
 mod Setting

@@ -1,66 +1,100 @@
 -- A line that sets nothing leaves the settings and the names as they are.
-use Rattle.std.proofs.Common.{◌≡◌, ◌∙◌, ℕ, zero, suc, Bool, false, Option, Some, None, Result, Ok, Err, ap, refl, sym}
+use Rattle.std.proofs.Common.{◌≡◌, ◌∙◌, ℕ, zero, suc, Bool, false, [], List, Option, Some, None, Result, Ok, Err, ap, inl, inr, refl, sym}
 use Rattle.std.specs.Prelude.{MatchResult}
 use Rattle.std.proofs.lemmas.Bool.{false≢true}
-use Rattle.i3c_base.specs.Cutting.{no_cuts}
 use Rattle.i3c_facts.specs.declared.before.Before.{Before}
 use Rattle.i3c_lines.specs.declared.command.Command.{Command}
 use Rattle.i3c_lines.specs.declared.names.Name.{Name}
 use Rattle.i3c_lines.specs.declared.refusals.Refusal.{Refusal}
-use Rattle.i3c_lines.specs.Naming.{slot_named}
-use Rattle.i3c_script.specs.Obeying.{cut_at}
+use Rattle.i3c_lines.specs.Keeping.{slot_meant}
+use Rattle.i3c_script.specs.declared.past.Unkept.{Unkept}
+use Rattle.i3c_script.specs.declared.piece.Piece.{Piece}
+use Rattle.i3c_script.specs.declared.settings.Settings.{Settings}
+use Rattle.i3c_script.specs.Asking.{slot_of_device}
+use Rattle.i3c_script.specs.Assigning.{Assigns}
+use Rattle.i3c_script.specs.Obeying.{Answers, AnswersIn, Does as DoesOn, IsDone, IsRefused, cut_at}
+use Rattle.i3c_script.specs.Situations.{Situation}
+use Rattle.i3c_script.specs.Unkept.{no_past}
 use Rattle.i3c_step.specs.declared.events.Event.{Event}
+use Rattle.i3c_scene.specs.declared.named.Named.{Named}
 use Rattle.i3c_scene.specs.declared.risk.Risk.{Risk}
 use Rattle.i3c_scene.specs.declared.ways.Ways.{Ways}
-use Rattle.i3c_scene.specs.Going.{Answers, AnswersIn, Becomes, Does, IsRefused, cut_in, slot_present, sends}
+use Rattle.i3c_scene.specs.Going.{Does, cut_in, on_bus, sends}
 use Rattle.i3c_scene.specs.Near.{HasSameSettings, sets_some}
-use Rattle.i3c_scene.specs.Scenes.{Seen, place_in, seen}
+use Rattle.i3c_scene.specs.Scenes.{Seen, known_kept}
 use Rattle.i3c_scene.specs.Trying.{RunsIn, cut_as, slot_at_risk}
+
+-- the settings are the same
+abbrev Keeps : Situation Unkept → Situation Unkept → Type 0
+Keeps old new = new.settings ≡ old.settings
 
 -- in both cases of a result
 either : {A : Type 0} {P : Type 0} (r : Result A Refusal) (good : A → Type 0) (bad : Refusal → Type 0) → MatchResult r good bad → ((a : A) → good a → P) → ((why : Refusal) → bad why → P) → P
 either (Ok a) good bad h fine fault = fine a h
 either (Err why) good bad h fine fault = fault why h
 
-becomes_same : (old now new : Seen) → now.settings ≡ old.settings → now.names ≡ old.names → new ≡ now → HasSameSettings old new
-becomes_same old now new settings names is = record { settings = ap (λ (s : Seen). s.settings) is ∙ settings; names = ap (λ (s : Seen). s.names) is ∙ names }
+same_kept : (old now new : Situation Unkept) → Keeps old now → new ≡ now → Keeps old new
+same_kept old now new settings is = ap (λ (s : Situation Unkept). s.settings) is ∙ settings
 
-refused_same : (old new : Seen) (why : Refusal) (refused : Option Refusal) → IsRefused old why refused new → HasSameSettings old new
-refused_same old new why refused h = becomes_same old old new refl refl h.0
+answered_in : (old new : Situation Unkept) (names : List Named) (name : Name) (event : ℕ → Event) (pieces : List Piece) (refused : Option Refusal) → AnswersIn no_past known_kept old names name event pieces refused new → Keeps old new
+answered_in old new names name event pieces refused h =
+    either (slot_meant known_kept names name) (λ slot. Answers no_past old (event slot) pieces refused new) (λ why. (new ≡ old) × IsRefused why pieces refused) h (λ slot a. a.1.settings) (λ why r. same_kept old old new refl r.0)
 
-answered_same : (old new : Seen) (event : Event) (refused : Option Refusal) → Answers old event refused new → HasSameSettings old new
-answered_same old new event refused (reply, moves, told) = record { settings = moves.settings; names = moves.names }
+assigned : (old new : Situation Unkept) (pieces : List Piece) (refused : Option Refusal) → Assigns no_past old pieces refused new → Keeps old new
+assigned old new pieces refused (inl (served, given, complete, session, told)) = session.settings
+assigned old new pieces refused (inr (why, moves, told)) = moves.settings
 
-answered_in_same : (old new : Seen) (name : Name) (event : ℕ → Event) (refused : Option Refusal) → AnswersIn old name event refused new → HasSameSettings old new
-answered_in_same old new name event refused h =
-    either (slot_named (place_in old.names name)) (λ slot. Answers old (event slot) refused new) (λ why. IsRefused old why refused new) h (λ slot. answered_same old new (event slot) refused) (λ why. refused_same old new why refused)
+keeps : (old new : Situation Unkept) (names : List Named) (command : Command) (pieces : List Piece) (refused : Option Refusal) → sets_some (Some command) ≡ false → DoesOn no_past known_kept old names command pieces refused new → Keeps old new
+keeps old new names (Command.Frame frame) pieces refused n (fixed, accepts, answers) = answers.1.settings
+keeps old new names (Command.Attach name setup) pieces refused n h = absurd h
+keeps old new names (Command.DropOff name) pieces refused n h = answered_in old new names name Event.DropOff pieces refused h
+keeps old new names (Command.Raise name byte) pieces refused n h = answered_in old new names name (λ slot. Event.Raise slot byte) pieces refused h
+keeps old new names (Command.AskJoin name) pieces refused n h = answered_in old new names name Event.AskJoin pieces refused h
+keeps old new names (Command.AskRole name) pieces refused n h = answered_in old new names name Event.AskRole pieces refused h
+keeps old new names (Command.HandOver to) pieces refused n h = h.1.settings
+keeps old new names Command.Open pieces refused n h = h.1.settings
+keeps old new names Command.Round pieces refused n h = h.1.settings
+keeps old new names Command.End pieces refused n h = h.1.settings
+keeps old new names Command.Daa pieces refused n h = assigned old new pieces refused h
+keeps old new names (Command.Policy kinds) pieces refused n h = absurd (false≢true (sym n))
+keeps old new names (Command.PolicyBut kinds but) pieces refused n h = absurd (false≢true (sym n))
+keeps old new names (Command.Cut name bit) pieces refused n h =
+    either (slot_of_device known_kept old.state names name) (λ slot. (new ≡ record old { cuts = cut_at old.cuts slot bit }) × IsDone [] pieces refused) (λ why. (new ≡ old) × IsRefused why pieces refused) h
+    (λ slot d. same_kept old (record old { cuts = cut_at old.cuts slot bit }) new refl d.0) (λ why r. same_kept old old new refl r.0)
+keeps old new names Command.Show pieces refused n h = same_kept old old new refl h.0
+keeps old new names Command.ShowAll pieces refused n h = same_kept old old new refl h.0
+keeps old new names (Command.ShowFrom first) pieces refused n h = same_kept old old new refl h.0
+keeps old new names (Command.Forget last) pieces refused n h = absurd (false≢true (sym n))
+keeps old new names Command.Symbols pieces refused n h = same_kept old old new refl h.0
+keeps old new names (Command.Frames count) pieces refused n h = same_kept old old new refl h.0
+keeps old new names (Command.Legacy name address lvr) pieces refused n h = same_kept old old new refl h.0
+keeps old new names (Command.Declare address identity) pieces refused n h = same_kept old old new refl h.0
+keeps old new names (Command.Main name setup) pieces refused n h = same_kept old old new refl h.0
 
 does_same : (old new : Seen) (command : Command) (refused : Option Refusal) → sets_some (Some command) ≡ false → Does old command refused new → HasSameSettings old new
-does_same old new (Command.Frame frame) refused n (fixed, accepts, answers) = answered_same old new _ refused answers
+does_same old new (Command.Frame frame) refused n (pieces, same, h) = record { settings = keeps (on_bus old) (on_bus new) old.names (Command.Frame frame) pieces refused n h; names = same }
+does_same old new (Command.DropOff name) refused n (pieces, same, h) = record { settings = keeps (on_bus old) (on_bus new) old.names (Command.DropOff name) pieces refused n h; names = same }
+does_same old new (Command.Raise name byte) refused n (pieces, same, h) = record { settings = keeps (on_bus old) (on_bus new) old.names (Command.Raise name byte) pieces refused n h; names = same }
+does_same old new (Command.AskJoin name) refused n (pieces, same, h) = record { settings = keeps (on_bus old) (on_bus new) old.names (Command.AskJoin name) pieces refused n h; names = same }
+does_same old new (Command.AskRole name) refused n (pieces, same, h) = record { settings = keeps (on_bus old) (on_bus new) old.names (Command.AskRole name) pieces refused n h; names = same }
+does_same old new (Command.HandOver to) refused n (pieces, same, h) = record { settings = keeps (on_bus old) (on_bus new) old.names (Command.HandOver to) pieces refused n h; names = same }
+does_same old new (Command.Open) refused n (pieces, same, h) = record { settings = keeps (on_bus old) (on_bus new) old.names (Command.Open) pieces refused n h; names = same }
+does_same old new (Command.Round) refused n (pieces, same, h) = record { settings = keeps (on_bus old) (on_bus new) old.names (Command.Round) pieces refused n h; names = same }
+does_same old new (Command.End) refused n (pieces, same, h) = record { settings = keeps (on_bus old) (on_bus new) old.names (Command.End) pieces refused n h; names = same }
+does_same old new (Command.Daa) refused n (pieces, same, h) = record { settings = keeps (on_bus old) (on_bus new) old.names (Command.Daa) pieces refused n h; names = same }
+does_same old new (Command.Policy kinds) refused n (pieces, same, h) = record { settings = keeps (on_bus old) (on_bus new) old.names (Command.Policy kinds) pieces refused n h; names = same }
+does_same old new (Command.PolicyBut kinds but) refused n (pieces, same, h) = record { settings = keeps (on_bus old) (on_bus new) old.names (Command.PolicyBut kinds but) pieces refused n h; names = same }
+does_same old new (Command.Cut name bit) refused n (pieces, same, h) = record { settings = keeps (on_bus old) (on_bus new) old.names (Command.Cut name bit) pieces refused n h; names = same }
+does_same old new (Command.Show) refused n (pieces, same, h) = record { settings = keeps (on_bus old) (on_bus new) old.names (Command.Show) pieces refused n h; names = same }
+does_same old new (Command.ShowAll) refused n (pieces, same, h) = record { settings = keeps (on_bus old) (on_bus new) old.names (Command.ShowAll) pieces refused n h; names = same }
+does_same old new (Command.ShowFrom first) refused n (pieces, same, h) = record { settings = keeps (on_bus old) (on_bus new) old.names (Command.ShowFrom first) pieces refused n h; names = same }
+does_same old new (Command.Forget last) refused n (pieces, same, h) = record { settings = keeps (on_bus old) (on_bus new) old.names (Command.Forget last) pieces refused n h; names = same }
+does_same old new (Command.Symbols) refused n (pieces, same, h) = record { settings = keeps (on_bus old) (on_bus new) old.names (Command.Symbols) pieces refused n h; names = same }
+does_same old new (Command.Frames count) refused n (pieces, same, h) = record { settings = keeps (on_bus old) (on_bus new) old.names (Command.Frames count) pieces refused n h; names = same }
+does_same old new (Command.Legacy name address lvr) refused n (pieces, same, h) = record { settings = keeps (on_bus old) (on_bus new) old.names (Command.Legacy name address lvr) pieces refused n h; names = same }
+does_same old new (Command.Declare address identity) refused n (pieces, same, h) = record { settings = keeps (on_bus old) (on_bus new) old.names (Command.Declare address identity) pieces refused n h; names = same }
+does_same old new (Command.Main name setup) refused n (pieces, same, h) = record { settings = keeps (on_bus old) (on_bus new) old.names (Command.Main name setup) pieces refused n h; names = same }
 does_same old new (Command.Attach name setup) refused n h = absurd (false≢true (sym n))
-does_same old new (Command.DropOff name) refused n h = answered_in_same old new name Event.DropOff refused h
-does_same old new (Command.Raise name byte) refused n h = answered_in_same old new name (λ slot. Event.Raise slot byte) refused h
-does_same old new (Command.AskJoin name) refused n h = answered_in_same old new name Event.AskJoin refused h
-does_same old new (Command.AskRole name) refused n h = answered_in_same old new name Event.AskRole refused h
-does_same old new (Command.HandOver to) refused n h = answered_same old new _ refused h
-does_same old new Command.Open refused n h = answered_same old new _ refused h
-does_same old new Command.Round refused n h = answered_same old new _ refused h
-does_same old new Command.End refused n h = answered_same old new _ refused h
-does_same old new Command.Daa refused n h = becomes_same old (seen new.state old.settings no_cuts old.names) new refl refl h.0
-does_same old new (Command.Policy kinds) refused n h = absurd (false≢true (sym n))
-does_same old new (Command.PolicyBut kinds but) refused n h = absurd (false≢true (sym n))
-does_same old new (Command.Cut name bit) refused n h =
-    either (slot_present old name) (λ slot. Becomes (seen old.state old.settings (cut_at old.cuts slot bit) old.names) refused new) (λ why. IsRefused old why refused new) h
-    (λ slot becomes. becomes_same old (seen old.state old.settings (cut_at old.cuts slot bit) old.names) new refl refl becomes.0) (λ why. refused_same old new why refused)
-does_same old new Command.Show refused n h = becomes_same old old new refl refl h.0
-does_same old new Command.ShowAll refused n h = becomes_same old old new refl refl h.0
-does_same old new (Command.ShowFrom first) refused n h = becomes_same old old new refl refl h.0
-does_same old new (Command.Forget last) refused n h = absurd (false≢true (sym n))
-does_same old new Command.Symbols refused n h = becomes_same old old new refl refl h.0
-does_same old new (Command.Frames count) refused n h = becomes_same old old new refl refl h.0
-does_same old new (Command.Legacy name address lvr) refused n h = refused_same old new _ refused h
-does_same old new (Command.Declare address identity) refused n h = refused_same old new _ refused h
-does_same old new (Command.Main name setup) refused n h = refused_same old new _ refused h
 
 cut_in_same : (old : Seen) (slot : Option ℕ) (way : ℕ) → HasSameSettings old (cut_in old slot way)
 cut_in_same old None way = record { settings = refl; names = refl }
@@ -79,7 +113,7 @@ cut_as_same old sent (Risk.Two one other) ways =
 
 -- so it is in each way
 pub run_same : (old new : Seen) (command : Option Command) (risk : Risk) (ways : Ways) (before : Before) → sets_some command ≡ false → RunsIn old command risk ways before new → HasSameSettings old new
-run_same old new None risk ways before n h = becomes_same old old new refl refl h.0
+run_same old new None risk ways before n h = record { settings = ap (λ (s : Seen). s.settings) h.0; names = ap (λ (s : Seen). s.names) h.0 }
 run_same old new (Some command) risk ways before n (refused, does, came) =
     let cut = cut_as old (sends command) risk ways in
     both_same old cut new (cut_as_same old (sends command) risk ways) (does_same cut new command refused n does)

@@ -1,9 +1,10 @@
 -- A bus between two lines, and what its names stand for.
-use Rattle.std.specs.Prelude.{ℕ, ◌==◌, Bool, false, List, [], ◌∷◌, map, Option, None, Some, if◌then◌else◌}
+use Rattle.std.specs.Prelude.{◌≡◌, ℕ, ◌==◌, Bool, false, List, [], ◌∷◌, map, Option, None, Some, if◌then◌else◌}
 use Rattle.i3c_base.specs.Cutting.{CutList}
 use Rattle.i3c_base.specs.State.{State}
 use Rattle.i3c_lines.specs.declared.names.Name.{Name}
 use Rattle.i3c_lines.specs.declared.names.Place.{Place}
+use Rattle.i3c_lines.specs.Keeping.{NamesKept}
 use Rattle.i3c_lines.specs.Naming.{is_same}
 use Rattle.i3c_script.specs.declared.settings.Settings.{Settings}
 use Rattle.i3c_scene.specs.declared.named.Named.{Named}
@@ -52,3 +53,18 @@ stands_in Place.Gone slot = false
 abbrev pub name_in : List Named → ℕ → Option Name
 name_in [] slot = None
 name_in (named ∷ rest) slot = if stands_in named.place slot then Some named.name else name_in rest slot
+
+-- whether a place is the legacy target at this address
+abbrev pub stands_at : Place → ℕ → Bool
+stands_at (Place.Legacy at) address = at == address
+stands_at (Place.Slot slot) address = false
+stands_at Place.Gone address = false
+
+-- the name that stands for a legacy target's address
+abbrev pub name_at : List Named → ℕ → Option Name
+name_at [] address = None
+name_at (named ∷ rest) address = if stands_at named.place address then Some named.name else name_at rest address
+
+-- how the names of a scene are kept
+abbrev pub known_kept : NamesKept (List Named)
+known_kept = record { place = place_in; in_slot = name_in; at_address = name_at; gives = λ old new name slot. new ≡ given name slot old }

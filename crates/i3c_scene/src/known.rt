@@ -1,7 +1,6 @@
-use crate::named::{Named, are_same, give, place_in, standing_in};
-use i3c_base::Slot;
-use i3c_facts::{Naming, SlotNames};
-use i3c_lines::{Name, Place};
+use crate::named::{Named, are_same, give, place_in, standing_at, standing_in};
+use i3c_base::{Addr7, Slot};
+use i3c_lines::{Name, Naming, Place};
 use std::alloc::AllocError;
 use std::marker::Model;
 
@@ -22,7 +21,6 @@ impl Model for Known {
 
 impl Known {
     ghost use Rattle.std.specs.Prelude.{◌≡◌, IfOk, IsTrue, OnOk};
-    ghost use Rattle.i3c_scene.specs.Scenes.{given};
 
     /// These names.
     pub(crate) fn new(names: Vec<Named>) -> Known
@@ -54,38 +52,27 @@ impl Known {
     {
         are_same(self.names.as_slice(), other.names.as_slice())
     }
-
-    /// A slot is given a name; the name that had the slot is gone.
-    pub(crate) fn give(&mut self, name: &Name, slot: Slot) -> Result<(), AllocError>
-        ensures { OnOk result (self.new ≡ given name.now slot self.old) }
-    {
-        give(&mut self.names, name, slot)
-    }
-
-    /// The names, with what they stand for.
-    pub(crate) fn as_slice(&self) -> &[Named]
-        ensures { result.now ≡ self.now }
-    {
-        self.names.as_slice()
-    }
 }
 
 impl Naming for Known {
-    ghost use Rattle.i3c_scene.specs.Scenes.{place_in};
+    ghost use Rattle.i3c_scene.specs.Scenes.{known_kept};
 
-    ghost place = { place_in };
+    ghost kept = { known_kept };
 
     fn place_of(&self, name: &Name) -> Option<Place> {
         place_in(self.names.as_slice(), name)
     }
-}
-
-impl SlotNames for Known {
-    ghost use Rattle.i3c_scene.specs.Scenes.{name_in};
-
-    ghost name_in = { name_in };
 
     fn in_slot(&self, slot: Slot) -> Option<Name> {
         standing_in(self.names.as_slice(), slot)
+    }
+
+    fn at_address(&self, address: Addr7) -> Option<Name> {
+        standing_at(self.names.as_slice(), address)
+    }
+
+    /// A slot is given a name; the name that had the slot is gone.
+    fn give_slot(&mut self, name: &Name, slot: Slot) -> Result<(), AllocError> {
+        give(&mut self.names, name, slot)
     }
 }

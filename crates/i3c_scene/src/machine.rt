@@ -6,8 +6,7 @@ use crate::scene::Scene;
 use crate::ways::{Ways, ways_of};
 use i3c_base::Slot;
 use i3c_explore::Machine;
-use i3c_facts::Naming;
-use i3c_lines::{Command, Name, Place};
+use i3c_lines::{Command, Name, Naming, Place};
 use i3c_step::Command as Frame;
 use std::alloc::{AllocError, Global};
 
@@ -74,7 +73,7 @@ impl Machine for Scene {
     }
 
     fn hash(runner: &Runner) -> u64 {
-        runner.live.bus.key()
+        runner.live.bus().key()
     }
 }
 

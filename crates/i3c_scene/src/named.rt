@@ -1,8 +1,8 @@
 ghost use Rattle.std.specs.Prelude.{◌≡◌, ◌++◌, ◌∷◌, [], map, IsTrue, OnOk, true, false};
-ghost use Rattle.i3c_scene.specs.Scenes.{given, left, left_slot, name_in, place_in, put, stands_in};
+ghost use Rattle.i3c_scene.specs.Scenes.{given, left, left_slot, name_at, name_in, place_in, put, stands_at, stands_in};
 
 use crate::place_byte::PlaceByte;
-use i3c_base::Slot;
+use i3c_base::{Addr7, Slot};
 use i3c_lines::{Name, Place};
 use std::alloc::AllocError;
 
@@ -112,6 +112,27 @@ pub(crate) fn standing_in(names: &[Named], slot: Slot) -> Option<Name>
         return Some(first.name);
     }
     standing_in(rest, slot)
+}
+
+/// The name that stands for a legacy target's address.
+pub(crate) fn standing_at(names: &[Named], address: Addr7) -> Option<Name>
+    ensures { result ≡ name_at names.now address }
+{
+    let (first, rest) = names.split_first()?;
+    if stands_at(first.place.get(), address) {
+        return Some(first.name);
+    }
+    standing_at(rest, address)
+}
+
+/// Whether a place is the legacy target at this address.
+fn stands_at(place: Place, address: Addr7) -> bool
+    ensures { result ≡ stands_at place address }
+{
+    match place {
+        Place::Legacy(at) => at == address,
+        Place::Slot(_) | Place::Gone => false,
+    }
 }
 
 /// Whether a place is this slot.

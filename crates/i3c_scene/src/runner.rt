@@ -64,7 +64,7 @@ impl Runner {
         match self.live.raise_in_line(line) {
             Some((slot, byte)) => {
                 self.touched = Some(slot);
-                Ok(self.live.try_raise(line, slot, byte))
+                self.live.try_raise(line, slot, byte)
             }
             None => {
                 self.touched = None;

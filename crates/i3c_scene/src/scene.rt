@@ -109,9 +109,9 @@ impl Scene {
         ensures { IsTrue result → self.now ≡ live.now }
     {
         let rest = &*self.rest;
-        rest.settings.is_same(&live.settings)
-            && are_same_cuts(&rest.cuts, &live.cuts)
-            && rest.still.is_of(&live.bus)
+        rest.settings.is_same(live.bus.settings())
+            && are_same_cuts(&rest.cuts, live.bus.cuts())
+            && rest.still.is_of(live.bus())
             && rest.known.is_same(&live.known)
     }
 

@@ -1,16 +1,13 @@
 ghost use Rattle.std.specs.Prelude.{◌≡◌, ◌++◌, ℕ, List, IfOk, OnOk};
-ghost use Rattle.i3c_lines.specs.Naming.{legacy_names, slot_names};
-ghost use Rattle.i3c_scene.specs.Shown.{IsShown, StandFor, put_legacy, put_slot};
+ghost use Rattle.i3c_scene.specs.Shown.{shown_text};
 ghost use Rattle.i3c_scene.specs.Unmet.{LineTells};
 
 use crate::line::{Expectation, Line};
 use crate::live::Live;
-use crate::named::Named;
 use crate::runner::Runner;
 use crate::scene::Scene;
 use crate::ways::Ways;
 use i3c_facts::Before;
-use i3c_lines::{Names, Place};
 use i3c_script::show_bus;
 use i3c_text::Text;
 use std::alloc::{AllocError, Global};
@@ -27,12 +24,11 @@ impl Scene {
         runner: &mut Runner,
         text: &mut Text,
     ) -> Result<(), AllocError>
-        ensures { OnOk result ((said : List ℕ) × IsShown self.now said × (text.new ≡ text.old ++ said)) }
+        ensures { OnOk result (text.new ≡ text.old ++ shown_text self.now) }
     {
-        let names = names_of(alloc, self.rest.known.as_slice())?;
         runner.wake_to(alloc, self, false)?;
         let live = &runner.live;
-        show_bus(live.bus(), &names, live.forgotten(), text)
+        show_bus(live.bus(), live.known(), live.forgotten(), text)
     }
 
     /// Runs a line in a way, as it is tried. Where it breaks an expectation, what is there is appended to the text, and the
@@ -88,7 +84,7 @@ impl Live {
             Some(first) => {
                 first
                     .facts
-                    .push_unmet(self.bus(), self.known(), self.known(), before, text)?;
+                    .push_unmet(self.bus(), self.known(), before, text)?;
                 Ok(Some(first.number))
             }
             None => Ok(None),
@@ -109,28 +105,5 @@ impl Live {
         } else {
             Some(first)
         }
-    }
-}
-
-/// The names of a script that stand for these places.
-fn names_of(alloc: Global, known: &[Named]) -> Result<Names, AllocError>
-    ensures { IfOk result (StandFor known.now) }
-{
-    let mut names = Names::new(alloc);
-    for named in known {
-        place_name(&mut names, named)?;
-    }
-    Ok(names)
-}
-
-/// Gives a name its place.
-fn place_name(names: &mut Names, named: &Named) -> Result<(), AllocError>
-    ensures slots { OnOk result (slot_names names.new ≡ put_slot named.now.place named.now.name (slot_names names.old)) }
-    ensures targets { OnOk result (legacy_names names.new ≡ put_legacy named.now.place named.now.name (legacy_names names.old)) }
-{
-    match named.place.get() {
-        Place::Slot(slot) => names.give_slot(&named.name, slot),
-        Place::Legacy(address) => names.give_address(&named.name, address),
-        Place::Gone => Ok(()),
     }
 }

@@ -87,7 +87,7 @@ prints_by Is Of of before after (Err (Stop.Refused why)) (said, text, is) = (sai
 prints_by Is Of of before after (Err Stop.Memory) h = h
 
 -- each frame under the role carries cuts, and its text has of the event what it has of the frame
-carries_cuts : (frame : Frame) (policy : Fixed) (cuts : CutList) → is_some (cuts_in (event_of frame policy cuts)) ≡ true
+pub carries_cuts : (frame : Frame) (policy : Fixed) (cuts : CutList) → is_some (cuts_in (event_of frame policy cuts)) ≡ true
 carries_cuts Frame.Serve policy cuts = refl
 carries_cuts Frame.Reset policy cuts = refl
 carries_cuts Frame.SendList policy cuts = refl
@@ -100,7 +100,7 @@ carries_cuts (Frame.SetNew a new) policy cuts = refl
 carries_cuts (Frame.Get what a) policy cuts = refl
 carries_cuts (Frame.SetLength way most to) policy cuts = refl
 
-one_subject : (frame : Frame) (policy : Fixed) (cuts : CutList) → frame_subject frame ≡ subject_of (event_of frame policy cuts)
+pub one_subject : (frame : Frame) (policy : Fixed) (cuts : CutList) → frame_subject frame ≡ subject_of (event_of frame policy cuts)
 one_subject Frame.Serve policy cuts = refl
 one_subject Frame.Reset policy cuts = refl
 one_subject Frame.SendList policy cuts = refl

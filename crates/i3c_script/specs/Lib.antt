@@ -3,6 +3,7 @@ pub mod Stops
 pub mod Sums
 pub mod Accepting
 pub mod Situations
+pub mod Unkept
 pub mod Framing
 pub mod Asking
 pub mod Pieces

@@ -15,7 +15,7 @@ use Rattle.i3c_lines.specs.declared.names.Name.{Name}
 use Rattle.i3c_lines.specs.declared.names.Names.{Names}
 use Rattle.i3c_text.specs.Hex.{byte_text, bytes_text, hex_text}
 use Rattle.i3c_lines.specs.Data.{told_token}
-use Rattle.i3c_lines.specs.Keeping.{names_kept}
+use Rattle.i3c_lines.specs.Keeping.{NamesKept}
 use Rattle.i3c_lines.specs.Naming.{letters, slot_names}
 use Rattle.i3c_lines.specs.Refusing.{refusal_text}
 use Rattle.i3c_lines.specs.declared.refusals.Refusal.{Refusal}
@@ -179,8 +179,8 @@ abbrev pub with_piece : List ℕ → Piece → List ℕ
 with_piece text piece = text ++ piece_text piece
 
 -- `show`, where so many records have left the log
-abbrev pub show_text : ℕ → State → Names → List ℕ
-show_text forgotten st names = pieces_text (show_pieces names_kept forgotten st names)
+abbrev pub show_text : {N : Type 0} → NamesKept N → ℕ → State → N → List ℕ
+show_text kept forgotten st names = pieces_text (show_pieces kept forgotten st names)
 
 -- records as `show` prints them, counted from this number on
 abbrev pub numbered_text : ℕ → List Record → List ℕ

@@ -34,8 +34,8 @@ mod wires;
 
 pub use laws::scripts_are_legal_runs;
 pub use journal::Journal;
-pub use past::Past;
-pub use piece::{Description, Listener, Piece};
+pub use past::{Past, Unkept};
+pub use piece::{Deaf, Description, Listener, Piece};
 pub use script_bus::ScriptBus;
 pub use settings::{Settings, sum_of};
 pub use show::{show_askers, show_bus, show_records_behind};

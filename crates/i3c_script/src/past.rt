@@ -5,9 +5,12 @@ ghost use Rattle.i3c_script.specs.Hearing.{all_heard};
 ghost use Rattle.i3c_script.specs.Pieces.{frames_pieces, symbols_pieces, tenures_pieces};
 ghost use Rattle.i3c_script.specs.Situations.{PastKept};
 
+use crate::frames::hear_frames;
 use crate::piece::Listener;
+use crate::symbols::hear_line;
+use crate::tenures::hear_tenures;
 use i3c_base::Slot;
-use i3c_frame::Tap;
+use i3c_frame::{Symbol, Tap};
 use std::alloc::AllocError;
 
 /// What is kept of the past of a bus. As a tap it is told the symbols of each frame.
@@ -56,4 +59,47 @@ pub trait Past: Tap {
         listener: &mut L,
     ) -> Result<(), AllocError>
         ensures { OnOk result (listener.new ≡ all_heard L.heard listener.old (tenures_pieces (kept.ended self.now) active records)) };
+}
+
+/// Keeps nothing of the past.
+#[derive(Clone, Copy)]
+pub struct Unkept;
+
+impl Tap for Unkept {
+    ghost note_gives = { λ old _ new. new ≡ old };
+
+    fn note(&mut self, _symbol: Symbol) {}
+}
+
+impl Past for Unkept {
+    ghost use Rattle.i3c_script.specs.Unkept.{no_past};
+
+    ghost kept = { no_past };
+
+    ghost noted = { λ _ _ _ _. tt };
+
+    fn end_tenure(&mut self, _slot: Slot, _records: usize) -> Result<(), AllocError> {
+        Ok(())
+    }
+
+    fn hear_symbols<L: Listener>(&mut self, listener: &mut L) -> Result<(), AllocError> {
+        hear_line(&[], listener)
+    }
+
+    fn hear_frames<L: Listener>(
+        &mut self,
+        count: u16,
+        listener: &mut L,
+    ) -> Result<(), AllocError> {
+        hear_frames(&[], usize::from(count), listener)
+    }
+
+    fn hear_tenures<L: Listener>(
+        &self,
+        active: Slot,
+        records: usize,
+        listener: &mut L,
+    ) -> Result<(), AllocError> {
+        hear_tenures(&[], active, records, listener)
+    }
 }

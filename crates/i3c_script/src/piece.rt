@@ -88,3 +88,16 @@ pub trait Listener {
     fn hear(&mut self, piece: Piece) -> Result<(), AllocError>
         ensures { OnOk result (self.new ≡ heard self.old piece) };
 }
+
+/// Hears nothing.
+#[derive(Clone, Copy)]
+pub struct Deaf;
+
+impl Listener for Deaf {
+    ghost heard = { λ deaf _. deaf };
+
+    #[inline(always)]
+    fn hear(&mut self, _piece: Piece) -> Result<(), AllocError> {
+        Ok(())
+    }
+}

@@ -18,13 +18,13 @@ use std::alloc::AllocError;
 
 /// Prints the bus: the active controller, the present devices by slot, the legacy targets by address, and the records, where
 /// `forgotten` ones have left the log.
-pub fn show_bus(
+pub fn show_bus<N: Naming>(
     bus: &Bus,
-    names: &Names,
+    names: &N,
     forgotten: usize,
     text: &mut Text,
 ) -> Result<(), AllocError>
-    ensures { OnOk result (text.new ≡ text.old ++ show_text forgotten bus.now.state names.now) }
+    ensures { OnOk result (text.new ≡ text.old ++ show_text N.kept forgotten bus.now.state names.now) }
 {
     hear_bus(bus, names, forgotten, text)
 }

@@ -9,7 +9,7 @@ use Rattle.i3c_explore.specs.Runs.{IsByLayers}
 use Rattle.i3c_scene.specs.declared.line.Line.{Line}
 use Rattle.i3c_scene.specs.Latest.{latest_of}
 use Rattle.i3c_scene.specs.Scenes.{Seen}
-use Rattle.i3c_scene.specs.Shown.{IsShown}
+use Rattle.i3c_scene.specs.Shown.{shown_text}
 use Rattle.i3c_scene.specs.Trying.{LineSteps}
 use Rattle.i3c_tracks.specs.declared.course.Run.{Run}
 use Rattle.i3c_tracks.specs.declared.plan.Plan.{Plan}
@@ -20,8 +20,8 @@ use Rattle.i3c_tracks.specs.Telling.{head_text, like_text, orders_text}
 -- an end: its number and its orders, the bus as `show` prints it, and the lines of the first order that leads there
 abbrev pub IsEndText : List (Vec ℕ) → List (Vec (Vec Line)) → List Bool → Bool → ℕ → Node Seen → List ℕ → Type 0
 IsEndText lines blocks opened counted number end text =
-    (shown : List ℕ) × (runs : List Run) × IsShown end.state shown × AreRunsOf blocks opened end.order.items runs
-    × (text ≡ head_text number end.orders counted ++ (shown ++ like_text lines runs))
+    (runs : List Run) × AreRunsOf blocks opened end.order.items runs
+    × (text ≡ head_text number end.orders counted ++ (shown_text end.state ++ like_text lines runs))
 
 -- the texts of the first `count` ends
 abbrev pub AreEndTexts : List (Vec ℕ) → List (Vec (Vec Line)) → List Bool → Bool → List (Node Seen) → ℕ → List ℕ → Type 0

@@ -93,7 +93,7 @@ impl NamedBus<'_> {
         let mut text = Text::new(self.alloc);
         holds(rt, !facts.hold(self.bus, self.names, &self.before), line);
         facts
-            .push_unmet(self.bus, self.names, self.names, &self.before, &mut text)
+            .push_unmet(self.bus, self.names, &self.before, &mut text)
             .expect(rt, "memory");
         same(rt, line, text.as_bytes(), due);
     }

@@ -1,5 +1,0 @@
-use Rattle.std.proofs.Common.{refl}
-use Rattle.i3c_scene.proofs.live.Live.set.Goals as goal
-
-pub returns : goal.returns
-returns c = rw (← c.self.view_is) (record c.self.inside.settings { kinds = c.args.kinds; but = c.args.but }, record { kinds = refl; but = refl; forgotten = refl }, (refl, refl))
