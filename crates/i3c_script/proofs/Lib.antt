@@ -1,7 +1,6 @@
 pub mod Hearing
 pub mod Texts
 pub mod Presence
-pub mod Kept
 pub mod Moving
 pub mod Showing
 pub mod Assigned

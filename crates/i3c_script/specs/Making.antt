@@ -1,5 +1,6 @@
 -- The steps of the bus that a script's commands are, in order.
-use Rattle.std.specs.Prelude.{◌≡◌, ℕ, Bool, List, [], ◌∷◌, ◌++◌, map, inl, inr, Option, Result, Ok, Err, MatchResult}
+use Rattle.std.specs.Prelude.{◌≡◌, ℕ, Bool, List, [], ◌∷◌, ◌++◌, map, Option, Result, Ok, Err, MatchResult}
+use Rattle.std.proofs.Common.{inl, inr}
 use Rattle.i3c_base.specs.declared.answers.RoundReply.{RoundReply}
 use Rattle.i3c_base.specs.declared.identity.Identity.{Identity}
 use Rattle.i3c_base.specs.declared.requests.Served.{Served}

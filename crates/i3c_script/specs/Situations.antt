@@ -4,6 +4,7 @@ use Rattle.circular_buffer.specs.Buffer.{keep_last}
 use Rattle.i3c_base.specs.Cutting.{CutList}
 use Rattle.i3c_base.specs.State.{State}
 use Rattle.i3c_frame.specs.declared.symbols.Symbol.{Symbol}
+use Rattle.i3c_frame.specs.Taps.{Tells}
 use Rattle.i3c_script.specs.declared.settings.Settings.{Settings}
 use Rattle.i3c_script.specs.declared.tenures.Tenure.{Tenure}
 
@@ -38,20 +39,17 @@ pub record Told : Type 0 where
 abbrev pub last_symbols : Told → List Symbol
 last_symbols told = keep_last 256 told.wire
 
--- the past behind a wire: the last symbols are those of both, and no tenure ended
-pub record Sends (old : Told) (Is : List Symbol → Type 0) (new : Told) : Type 0 where
-  pub wire : List Symbol
-  pub sent : Is wire
-  pub kept : last_symbols new ≡ keep_last 256 (last_symbols old ++ wire)
-  pub ended : new.ended ≡ old.ended
+-- the past behind one more symbol
+abbrev pub notes : Told → Symbol → Told → Type 0
+notes old symbol new = new ≡ record old { wire = keep_last 256 (old.wire ++ symbol ∷ []) }
 
 -- one more tenure ended
 abbrev pub with_tenure : Told → ℕ → ℕ → Told
 with_tenure told slot records = record told { ended = told.ended ++ record { slot = slot; records = records } ∷ [] }
 
--- how a script keeps the past
+-- how a script keeps the past: it notes each symbol that is sent
 abbrev pub told_past : PastKept Told
-told_past = record { sends = Sends; ends = with_tenure; symbols = last_symbols; ended = λ told. told.ended }
+told_past = record { sends = λ old Is new. Tells notes old new Is; ends = with_tenure; symbols = last_symbols; ended = λ told. told.ended }
 
 -- these symbols are the last ones of a wire, which keeps no more than its last symbols
 abbrev pub IsEnd : List Symbol → List Symbol → Type 0

@@ -57,11 +57,9 @@ impl Journal {
 }
 
 impl Tap for Journal {
-    ghost use Rattle.std.specs.Prelude.{◌≡◌, ◌++◌, ◌∷◌, []};
-    ghost use Rattle.circular_buffer.specs.Buffer.{keep_last};
-    ghost use Rattle.i3c_script.specs.Situations.{Told};
+    ghost use Rattle.i3c_script.specs.Situations.{notes};
 
-    ghost note_gives = { λ (old : Told) symbol (new : Told). new ≡ record old { wire = keep_last 256 (old.wire ++ symbol ∷ []) } };
+    ghost note_gives = { notes };
 
     #[inline(always)]
     fn note(&mut self, symbol: Symbol) {
@@ -71,11 +69,10 @@ impl Tap for Journal {
 
 impl Past for Journal {
     ghost use Rattle.i3c_script.specs.Situations.{told_past};
-    ghost use Rattle.i3c_script.proofs.Kept.{told_noted};
 
     ghost kept = { told_past };
 
-    ghost noted = { told_noted };
+    ghost noted = { λ _ _ _ told. told };
 
     fn end_tenure(&mut self, slot: Slot, records: usize) -> Result<(), AllocError> {
         self.ended.push(Tenure { slot, records })?;

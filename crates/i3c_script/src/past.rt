@@ -18,9 +18,6 @@ pub trait Past: Tap {
     /// How it is kept.
     ghost kept: { PastKept Self };
 
-    /// Symbols that it was told as a tap were sent.
-    ghost noted: { (old new : Self) (Is : List SymbolValue → Type 0) → Tells note_gives old new Is → kept.sends old Is new };
-
     /// The tenure of the active controller in this slot ended when so many interrupts were recorded.
     ///
     /// # Errors
@@ -59,6 +56,9 @@ pub trait Past: Tap {
         listener: &mut L,
     ) -> Result<(), AllocError>
         ensures { OnOk result (listener.new ≡ all_heard L.heard listener.old (tenures_pieces (kept.ended self.now) active records)) };
+
+    /// Symbols that it was told as a tap were sent.
+    ghost noted: { (old new : Self) (Is : List SymbolValue → Type 0) → Tells Self.Tap.note_gives old new Is → kept.sends old Is new };
 }
 
 /// Keeps nothing of the past.

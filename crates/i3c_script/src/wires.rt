@@ -2,7 +2,7 @@ ghost use Rattle.std.specs.Prelude.{◌≡◌, [], ◌∷◌, ◌++◌, vec_capa
 ghost use Rattle.circular_buffer.specs.Buffer.{buffer, keep_last};
 ghost use Rattle.i3c_script.specs.Hearing.{all_heard};
 ghost use Rattle.i3c_script.specs.Pieces.{frames_pieces, symbols_pieces};
-ghost use Rattle.i3c_script.specs.Ran.{IsEnd};
+ghost use Rattle.i3c_script.specs.Situations.{IsEnd};
 ghost use Rattle.i3c_script.specs.declared.wires.TheConstants.{SYMBOLS};
 
 use crate::frames::hear_frames;
