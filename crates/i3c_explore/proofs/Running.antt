@@ -1,6 +1,7 @@
 -- How often lines are run, and that they are taken from the limits.
 use Rattle.std.proofs.Common.{◌≡◌, ◌∙◌, ◌<◌, ◌≤◌, ◌+◌, ◌-◌, ◌⊎◌, ◌∷◌, ◌++◌, [], ℕ, suc, zero, List, Option, None, Some, Result, Ok, Err, IfOk, ap, arith, get_or, inl, inr, length, refl}
 use Rattle.std.specs.List.{slice_get}
+use Rattle.std.proofs.lemmas.Bool.Decides.{leb_tells}
 use Rattle.i3c_explore.specs.declared.jobs.Job.{Job}
 use Rattle.i3c_explore.specs.declared.layer.Layer.{Layer}
 use Rattle.i3c_explore.specs.declared.limits.Limits.{Limits}
@@ -34,6 +35,22 @@ within_more limits old new runs more was charged =
 -- one track more
 pub track_more : {S L : Type 0} (last : S → L → ℕ) (lines : ℕ → List L) (node : Node S) (t : ℕ) → runs_of last lines node (t + 1) ≡ runs_of last lines node t + ways_of last node.state (slice_get (lines t) (get_or node.places.items t 0))
 track_more last lines node t = let next : t + 1 ≡ suc t = omega arith in ap (λ (k : ℕ). runs_of last lines node k) next
+
+-- more tracks run no fewer lines
+pub tracks_up : {S L : Type 0} (last : S → L → ℕ) (lines : ℕ → List L) (node : Node S) (count more : ℕ) → count ≤ more → runs_of last lines node count ≤ runs_of last lines node more
+tracks_up last lines node count zero le = let none : count ≡ 0 = omega arith in let e = ap (λ (k : ℕ). runs_of last lines node k) none in omega arith
+tracks_up last lines node count (suc more) le = elim (leb_tells count more) [
+  | inl (_, before) ↦ (let rest = tracks_up last lines node count more before in omega arith)
+  | inr (_, over) ↦ (let same : count ≡ suc more = omega arith in let e = ap (λ (k : ℕ). runs_of last lines node k) same in omega arith)
+]
+
+-- more nodes run no fewer lines
+pub nodes_up : {S L : Type 0} (last : S → L → ℕ) (ran : ℕ → ℕ → List L) (count : ℕ) (layer : List (Node S)) (to more : ℕ) → to ≤ more → runs_from last ran count layer to ≤ runs_from last ran count layer more
+nodes_up last ran count layer to zero le = let none : to ≡ 0 = omega arith in let e = ap (λ (k : ℕ). runs_from last ran count layer k) none in omega arith
+nodes_up last ran count layer to (suc more) le = elim (leb_tells to more) [
+  | inl (_, before) ↦ (let rest = nodes_up last ran count layer to more before in omega arith)
+  | inr (_, over) ↦ (let same : to ≡ suc more = omega arith in let e = ap (λ (k : ℕ). runs_from last ran count layer k) same in omega arith)
+]
 
 -- one node more
 pub node_more : {S L : Type 0} (last : S → L → ℕ) (ran : ℕ → ℕ → List L) (count : ℕ) (layer : List (Node S)) (index : ℕ) (node : Node S)
