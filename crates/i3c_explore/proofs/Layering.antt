@@ -17,7 +17,7 @@ use Rattle.i3c_explore.specs.Stops.{Exceeds, ExceedsIn, ExceedsInBlock}
 pub record AreSoFar {S L : Type 0} (steps : S → L → ℕ → S → Type 0) (last : S → L → ℕ) (part : Part) (tracks : List (Vec L)) (limits : Limits) (starts : List (Node S)) (count : ℕ) (newest : List (Node S)) (left : Limits) : Type 0 where
   pub before : List (List (Node S))
   pub sized : length before ≡ count
-  pub layers : AreLayers steps part tracks starts before newest
+  pub layers : AreLayers steps last part tracks starts before newest
   pub narrow : (layer : List (Node S)) → Contains (newest ∷ before) layer → length layer ≤ limits.states
   pub counted : left.steps + runs_in last part tracks before ≡ limits.steps
   pub states : left.states ≡ limits.states
@@ -46,10 +46,10 @@ pub far_next : {S L : Type 0} (steps : S → L → ℕ → S → Type 0) (last :
 far_next {S} {L} steps last part tracks limits starts layer count left next was made =
     let at : part_at part count ≡ part_at part (length was.before) = ap (λ (k : ℕ). part_at part k) (sym was.sized) in
     let ran = ap (λ (p : Part). runs_behind last p tracks layer) at in
-    let within = made.within in let spent = within.steps in let before = was.counted in let one = was.states in let fits = within.narrow in let sized = was.sized in record {
+    let within = made.within in let spent = within.steps in let before = was.counted in let one = was.states in let fits = within.narrow in let sized = was.sized in let few = made.few in record {
       before = layer ∷ was.before;
       sized = omega arith;
-      layers = (was.layers, subst (λ (p : Part). FollowsAll steps tracks p layer next.nodes.items) at made.follows);
+      layers = (was.layers, subst (λ (p : Part). FollowsAll steps tracks p layer next.nodes.items) at made.follows, omega arith);
       narrow = narrow_more limits.states next.nodes.items (layer ∷ was.before) (omega arith) was.narrow;
       counted = omega arith;
       states = within.states ∙ was.states;

@@ -1,5 +1,5 @@
 -- The layers that are made by the same lines.
-use Rattle.std.proofs.Common.{◌≡◌, ℕ, List, Err, IfOk, Ok, Result, length, subst}
+use Rattle.std.proofs.Common.{◌≡◌, ◌≤◌, ℕ, List, Err, IfOk, Ok, Result, length, subst}
 use Rattle.std.specs.Global.{Vec}
 use Rattle.i3c_explore.specs.declared.layer.Layer.{Layer}
 use Rattle.i3c_explore.specs.declared.limits.Limits.{Limits}
@@ -18,6 +18,7 @@ pub makes_alike : {S L : Type 0} (steps : S → L → ℕ → S → Type 0) (las
 makes_alike steps last breaks tracks part one other layer limits (Ok next) same made = record {
   follows = next_alike steps tracks (opening part tracks) one other layer 0 (length layer) next.nodes.items same made.follows;
   within = subst (λ (k : ℕ). IsWithin limits next k) (runs_alike last one other (length tracks) layer (length layer) same) made.within;
+  few = subst (λ (k : ℕ). length next.nodes.items ≤ k) (runs_alike last one other (length tracks) layer (length layer) same) made.few;
 }
 makes_alike steps last breaks tracks part one other layer limits (Err stop) same stops =
     subst (λ (k : ℕ). StopsBehind breaks tracks part layer limits k stop) (runs_alike last one other (length tracks) layer (length layer) same) stops
@@ -29,7 +30,7 @@ makes_as {S} steps last breaks tracks chosen part slice layer limits left result
     subst (λ (l : Limits). MakesNext steps last breaks tracks part layer l result) alike
     (subst (λ (l : List (Node S)). MakesNext steps last breaks tracks part l limits result) same (subst (λ (p : Part). MakesNext steps last breaks tracks p slice limits result) is makes))
 
--- each half of what is known of a layer, if one was made
+-- each part of what is known of a layer, if one was made
 pub made_follow : {S L : Type 0} (steps : S → L → ℕ → S → Type 0) (last : S → L → ℕ) (tracks : List (Vec L)) (part : Part) (ran : ℕ → ℕ → List L) (layer : List (Node S)) (limits : Limits) (result : Result (Layer S) Stop)
     → IfOk result (IsMadeBy steps last tracks part ran layer limits) → IfOk result (λ (next : Layer S). IsNextOf steps tracks (opening part tracks) ran layer 0 (length layer) next.nodes.items)
 made_follow steps last tracks part ran layer limits (Ok next) made = made.follows
@@ -39,3 +40,8 @@ pub made_within : {S L : Type 0} (steps : S → L → ℕ → S → Type 0) (las
     → IfOk result (IsMadeBy steps last tracks part ran layer limits) → IfOk result (λ (next : Layer S). IsWithin limits next (runs_from last ran (length tracks) layer (length layer)))
 made_within steps last tracks part ran layer limits (Ok next) made = made.within
 made_within steps last tracks part ran layer limits (Err stop) made = tt
+
+pub made_few : {S L : Type 0} (steps : S → L → ℕ → S → Type 0) (last : S → L → ℕ) (tracks : List (Vec L)) (part : Part) (ran : ℕ → ℕ → List L) (layer : List (Node S)) (limits : Limits) (result : Result (Layer S) Stop)
+    → IfOk result (IsMadeBy steps last tracks part ran layer limits) → IfOk result (λ (next : Layer S). length next.nodes.items ≤ runs_from last ran (length tracks) layer (length layer))
+made_few steps last tracks part ran layer limits (Ok next) made = made.few
+made_few steps last tracks part ran layer limits (Err stop) made = tt

@@ -27,10 +27,11 @@ pub record Grows {S L : Type 0} (steps : S → L → ℕ → S → Type 0) (line
   pub charged : IsCharged old new runs
   pub few : length new.nodes.items ≤ length old.nodes.items + runs
 
--- a layer is made of all nodes of a layer, within the limits; `ran` has the lines of each track that are run from a node, by the node's index
+-- a layer is made of all nodes of a layer, within the limits, with no more nodes than lines are run; `ran` has the lines of each track that are run from a node, by the node's index
 pub record IsMadeBy {S L : Type 0} (steps : S → L → ℕ → S → Type 0) (last : S → L → ℕ) (tracks : List (Vec L)) (part : Part) (ran : ℕ → ℕ → List L) (layer : List (Node S)) (limits : Limits) (next : Layer S) : Type 0 where
   pub follows : IsNextOf steps tracks (opening part tracks) ran layer 0 (length layer) next.nodes.items
   pub within : IsWithin limits next (runs_from last ran (length tracks) layer (length layer))
+  pub few : length next.nodes.items ≤ runs_from last ran (length tracks) layer (length layer)
 
 -- what is made of a layer: the next one, or nothing, since a line stops the exploration
 abbrev pub MakesBy : {S L : Type 0} → (S → L → ℕ → S → Type 0) → (S → L → ℕ) → (S → L → ℕ → Type 0) → List (Vec L) → Part → (ℕ → ℕ → List L) → List (Node S) → Limits → Result (Layer S) Stop → Type 0

@@ -38,7 +38,7 @@ StopsBehind breaks tracks part layer limits runs (Breaks order) = BreaksNext bre
 pub record ExceedsInBlock {S L : Type 0} (steps : S → L → ℕ → S → Type 0) (last : S → L → ℕ) (part : Part) (tracks : List (Vec L)) (left most : ℕ) (starts : List (Node S)) : Type 0 where
   pub before : List (List (Node S))
   pub layer : List (Node S)
-  pub layers : AreLayers steps part tracks starts before layer
+  pub layers : AreLayers steps last part tracks starts before layer
   pub narrow : (one : List (Node S)) → Contains (layer ∷ before) one → length one ≤ most
   pub over : (left < runs_in last part tracks (layer ∷ before)) ⊎ (most < runs_behind last (part_at part (length before)) tracks layer)
 

@@ -61,6 +61,7 @@ returns g c =
     let all = at_end c.loop-index.index (length layer) c.loop-index.auto.index-end c.loop-index-test.false in record {
       follows = subst (λ (k : ℕ). IsNextOf g.M.Machine.steps tracks lines ran layer 0 k next.nodes.items) all c.loop-index.invariant.follows;
       within = subst (λ (k : ℕ). IsWithin c.args.limits next (runs_from g.M.Machine.last ran (length tracks) layer k)) all c.loop-index.invariant.within;
+      few = subst (λ (k : ℕ). length next.nodes.items ≤ runs_from g.M.Machine.last ran (length tracks) layer k) all c.loop-index.invariant.few;
     }
 
 pub expand-requires : goal.expand-requires

@@ -6,11 +6,11 @@ use Rattle.i3c_explore.specs.Explorations.{IsMadeBy}
 use Rattle.i3c_explore.specs.Owners.{own, own_below}
 use Rattle.i3c_explore.specs.Parts.{opening}
 use Rattle.i3c_explore.proofs.Following.{jobs_follow}
-use Rattle.i3c_explore.proofs.Making.{made_follow, made_within}
+use Rattle.i3c_explore.proofs.Making.{made_few, made_follow, made_within}
 use Rattle.i3c_explore.proofs.Moving.{next_moved}
 use Rattle.i3c_explore.proofs.Nexts.{next_alike, next_idle}
 use Rattle.i3c_explore.proofs.Owning.{own_all, own_none}
-use Rattle.i3c_explore.proofs.Running.{all_run, jobs_run}
+use Rattle.i3c_explore.proofs.Running.{all_few, all_run, jobs_few, jobs_run}
 use Rattle.i3c_explore.proofs.jobs.by_owners.Goals as goal
 
 pub returns-in-Ok : goal.returns-in-Ok
@@ -27,7 +27,10 @@ returns-in-Ok g c =
     let followed = jobs_follow steps tracks lines owners layer all made 0 jobs [] joined sized (λ i lt job one. made_follow steps last tracks part (own owners count (get_or all i job).number lines) layer limits (get_or made i one) (ran i lt job one))
     c.in_ok-all.ensures are (next_idle steps tracks lines (own_below owners count 0 lines) layer 0 (length layer) [] refl none) in
     let run = jobs_run last lines owners count layer limits all made 0 jobs [] joined sized (λ i lt job one. made_within steps last tracks part (own owners count (get_or all i job).number lines) layer limits (get_or made i one) (ran i lt job one))
+    c.in_ok-all.ensures are in
+    let few = jobs_few last lines owners count layer all made 0 jobs [] joined sized (λ i lt job one. made_few steps last tracks part (own owners count (get_or all i job).number lines) layer limits (get_or made i one) (ran i lt job one))
     c.in_ok-all.ensures are in record {
       follows = next_moved steps tracks lines (λ _. lines) layer 0 (length layer) joined new moved (next_alike steps tracks lines (own_below owners count jobs lines) (λ _. lines) layer 0 (length layer) joined each_owned followed);
       within = all_run last lines owners count jobs layer limits made c.in-Ok.next none each_owned run c.in-Ok.ensures.taken c.in-Ok.ensures.narrow;
+      few = all_few last lines owners count jobs layer joined new none each_owned few moved.sized;
     }
