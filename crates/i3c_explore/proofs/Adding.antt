@@ -11,6 +11,7 @@ use Rattle.i3c_explore.specs.Counts.{AllDistinct}
 use Rattle.i3c_explore.specs.Numbers.{IsNumber}
 use Rattle.i3c_explore.specs.Orders.{IsOrder}
 use Rattle.i3c_explore.specs.Parts.{BeginsIn, HasLine, IsOfPart, Part, busy, fork}
+use Rattle.i3c_explore.proofs.Parting.{of_whole}
 use Rattle.i3c_explore.specs.Sums.{IsOfOnePart, PartsAddUp, part_of, sum_below}
 use Rattle.i3c_explore.proofs.Opening.{InPart}
 use Rattle.i3c_explore.proofs.Parting.{fork_line}
@@ -127,9 +128,9 @@ join_parts {S} {L} steps blocks start parts ends told some counted (suc count) l
 pub parts_add_up : {S L : Type 0} (steps : S → L → ℕ → S → Type 0) (blocks : List (Vec (Vec L))) (start : S) → PartsAddUp steps blocks start
 parts_add_up {S} {L} steps blocks start parts part_ends told ends total some counted all =
     let joined = join_parts steps blocks start parts part_ends told some counted parts (omega arith) in
-    let le = distinct_within joined.list all.all joined.distinct (λ h c. all.each h (joined.only h c).0) in
+    let le = distinct_within joined.list all.all joined.distinct (λ h c. all.each h (joined.only h c).0 (of_whole blocks (plain_course h))) in
     let ge = distinct_within all.all joined.list all.distinct (λ h c.
-    let whole = all.only h c in
+    let (whole, _) = all.only h c in
     let (k, lt, of_k, _) = one_of_parts parts blocks (plain_course h) some whole in joined.each h k lt whole of_k) in
     let same : length all.all ≡ sum_below told parts = (let a = joined.number in omega arith) in
     subst (λ (n : ℕ). IsNumber total n) same all.number

@@ -78,22 +78,6 @@ reached_next steps part tracks starts layer next count reached from n c =
     let (more, longer) = reached_more steps tracks s old n r (plain_successor steps (part_at part count) tracks old n made) in
     (s, in_starts, (more, ap length longer ∙ ap suc len, subst (λ (o : List Turn). InPart part o) (sym longer) (opened_in_part part made.turn r.turns count len fits is_begun)))
 
--- what is said of the slice of a layer, and of the part by which its lines are chosen
-pub held_then : {S L : Type 0} (steps : S → L → ℕ → S → Type 0) (part : Part) (tracks : List (Vec L)) (starts layer next : List (Node S)) (count : ℕ) (slice : List (Node S)) (chosen : Part)
-    → slice ≡ layer → chosen ≡ part_at part count → AreReached steps part tracks starts count layer → ((n : Node S) → Contains slice n → IsExpanded steps (opening chosen tracks) (length tracks) n next)
-    → AreHeld steps part tracks starts count layer → AreHeld steps part tracks starts (suc count) next
-held_then {S} steps part tracks starts layer next count slice chosen is at reached expanded =
-    held_next steps part tracks starts layer next count reached
-    (λ n c. subst (λ (p : Part). IsExpanded steps (opening p tracks) (length tracks) n next) at (expanded n (subst (λ (l : List (Node S)). Contains l n) (sym is) c)))
-
-pub reached_then : {S L : Type 0} (steps : S → L → ℕ → S → Type 0) (part : Part) (tracks : List (Vec L)) (starts layer next : List (Node S)) (count : ℕ) (slice : List (Node S)) (chosen : Part)
-    → slice ≡ layer → chosen ≡ part_at part count → AreReached steps part tracks starts count layer → ((n : Node S) → Contains next n → (old : Node S) × Contains slice old × IsSuccessor steps (opening chosen tracks) old n)
-    → AreReached steps part tracks starts (suc count) next
-reached_then {S} steps part tracks starts layer next count slice chosen is at reached from =
-    reached_next steps part tracks starts layer next count reached (λ n c.
-    let (old, before, made) = from n c in
-    (old, subst (λ (l : List (Node S)). Contains l old) is before, subst (λ (p : Part). IsSuccessor steps (opening p tracks) old n) at made))
-
 pub lead_on_next : {S L : Type 0} (steps : S → L → ℕ → S → Type 0) (part : Part) (tracks : List (Vec L)) (starts next : List (Node S)) (count : ℕ)
     → LeadOn steps part tracks starts count → AreHeld steps part tracks starts (suc count) next → LeadOn steps part tracks starts (suc count)
 lead_on_next steps part tracks starts next count shorter held s c order le prefix fits = elim (eqb_tells (length order) (suc count)) [

@@ -115,16 +115,6 @@ counted_next steps part tracks starts past count layer next was then_ = record {
   covers = λ i before c xs len prefix fits. covers_next steps part tracks starts past count layer next was then_ xs i before c len prefix fits;
 }
 
--- what is said of the slice of a layer is said of the layer
-pub next_shared : {S L : Type 0} (steps : S → L → ℕ → S → Type 0) (tracks : List (Vec L)) (lines : ℕ → List L) (count : ℕ) (layer next starts : List (Node S)) (past : ℕ → List (List (List ℕ))) (slice : List (Node S)) → slice ≡ layer
-    → (share : ℕ → List (List ℕ × List (List ℕ)))
-    → ((starts : List (Node S)) (past : ℕ → List (List (List ℕ))) (share : ℕ → List (List ℕ × List (List ℕ))) → IsShared slice share → IsMeant (IsLed steps tracks starts past) slice share
-    → IsSharedNext (IsLed steps tracks starts past) lines count slice next share)
-    → IsShared layer share → IsMeant (IsLed steps tracks starts past) layer share → IsSharedNext (IsLed steps tracks starts past) lines count layer next share
-next_shared {S} steps tracks lines count layer next starts past slice is share all shared meant =
-    subst (λ (l : List (Node S)). IsSharedNext (IsLed steps tracks starts past) lines count l next share) is
-    (all starts past share (subst (λ (l : List (Node S)). IsShared l share) (sym is) shared) (subst (λ (l : List (Node S)). IsMeant (IsLed steps tracks starts past) l share) (sym is) meant))
-
 pub ends_shared : {S L : Type 0} (steps : S → L → ℕ → S → Type 0) (part : Part) (tracks : List (Vec L)) (starts layer next : List (Node S)) (past : ℕ → List (List (List ℕ))) (count : ℕ)
     → AreReached steps part tracks starts count layer → AreHeld steps part tracks starts (suc count) next → length next ≡ 0 → (0 < count) ⊎ (part ≡ whole) → AreSome part tracks starts layer
     → IsShared starts past → IsCounted steps part tracks starts past count layer → AreShared steps part tracks starts layer past

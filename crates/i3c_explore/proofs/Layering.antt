@@ -1,21 +1,23 @@
 -- The layers of a block and of all blocks, with the lines that are run from them.
-use Rattle.std.proofs.Common.{◌≡◌, ◌∙◌, ◌≤◌, ◌+◌, ◌∷◌, [], ℕ, suc, zero, List, ap, arith, length, refl, subst, sym}
+use Rattle.std.proofs.Common.{◌≡◌, ◌∙◌, ◌<◌, ◌≤◌, ◌+◌, ◌∷◌, [], ℕ, suc, zero, List, ap, arith, inl, inr, length, refl, subst, sym}
 use Rattle.std.specs.Global.{Vec}
 use Rattle.std.specs.List.{Contains}
 use Rattle.i3c_explore.specs.declared.layer.Layer.{Layer}
 use Rattle.i3c_explore.specs.declared.limits.Limits.{Limits}
 use Rattle.i3c_explore.specs.declared.node.Node.{Node}
 use Rattle.i3c_explore.specs.Blocks.{block}
+use Rattle.i3c_explore.specs.Explorations.{IsMadeBy}
 use Rattle.i3c_explore.specs.Layers.{AreRestarted, IsAlone}
 use Rattle.i3c_explore.specs.Nexts.{FollowsAll}
-use Rattle.i3c_explore.specs.Parts.{Part, block_part, fork, part_at}
-use Rattle.i3c_explore.specs.Runs.{AreLayers, AreRun, IsBlockRun, IsWithin, runs_behind, runs_in}
+use Rattle.i3c_explore.specs.Parts.{Part, block_part, fork, opening, part_at}
+use Rattle.i3c_explore.specs.Runs.{AreLayers, AreRun, IsBlockRun, runs_behind, runs_in}
+use Rattle.i3c_explore.specs.Stops.{Exceeds, ExceedsIn, ExceedsInBlock}
 
 -- the layers of a block so far, each within the limit, and what is left of the limits behind those before the newest one
 pub record AreSoFar {S L : Type 0} (steps : S → L → ℕ → S → Type 0) (last : S → L → ℕ) (part : Part) (tracks : List (Vec L)) (limits : Limits) (starts : List (Node S)) (count : ℕ) (newest : List (Node S)) (left : Limits) : Type 0 where
   pub before : List (List (Node S))
   pub sized : length before ≡ count
-  pub layers : AreLayers steps part tracks starts before newest
+  pub layers : AreLayers steps last part tracks starts before newest
   pub narrow : (layer : List (Node S)) → Contains (newest ∷ before) layer → length layer ≤ limits.states
   pub counted : left.steps + runs_in last part tracks before ≡ limits.steps
   pub states : left.states ≡ limits.states
@@ -38,16 +40,16 @@ far_first steps last part tracks limits starts layer restarted same narrow = rec
 }
 
 -- one more layer
-pub far_next : {S L : Type 0} (steps : S → L → ℕ → S → Type 0) (last : S → L → ℕ) (part : Part) (tracks : List (Vec L)) (limits : Limits) (starts layer : List (Node S)) (count : ℕ) (left : Limits) (next : Layer S) (chosen : Part)
-    → chosen ≡ part_at part count → AreSoFar steps last part tracks limits starts count layer left → FollowsAll steps tracks chosen layer next.nodes.items → IsWithin left next (runs_behind last chosen tracks layer)
+pub far_next : {S L : Type 0} (steps : S → L → ℕ → S → Type 0) (last : S → L → ℕ) (part : Part) (tracks : List (Vec L)) (limits : Limits) (starts layer : List (Node S)) (count : ℕ) (left : Limits) (next : Layer S)
+    → AreSoFar steps last part tracks limits starts count layer left → IsMadeBy steps last tracks (part_at part count) (λ _. opening (part_at part count) tracks) layer left next
     → AreSoFar steps last part tracks limits starts (count + 1) next.nodes.items next.limits
-far_next {S} {L} steps last part tracks limits starts layer count left next chosen is was follows within =
-    let at : chosen ≡ part_at part (length was.before) = is ∙ ap (λ (k : ℕ). part_at part k) (sym was.sized) in
+far_next {S} {L} steps last part tracks limits starts layer count left next was made =
+    let at : part_at part count ≡ part_at part (length was.before) = ap (λ (k : ℕ). part_at part k) (sym was.sized) in
     let ran = ap (λ (p : Part). runs_behind last p tracks layer) at in
-    let spent = within.steps in let before = was.counted in let one = was.states in let fits = within.narrow in let sized = was.sized in record {
+    let within = made.within in let spent = within.steps in let before = was.counted in let one = was.states in let fits = within.narrow in let sized = was.sized in let few = made.few in record {
       before = layer ∷ was.before;
       sized = omega arith;
-      layers = (was.layers, subst (λ (p : Part). FollowsAll steps tracks p layer next.nodes.items) at follows);
+      layers = (was.layers, subst (λ (p : Part). FollowsAll steps tracks p layer next.nodes.items) at made.follows, omega arith);
       narrow = narrow_more limits.states next.nodes.items (layer ∷ was.before) (omega arith) was.narrow;
       counted = omega arith;
       states = within.states ∙ was.states;
@@ -58,24 +60,41 @@ none_there [] none = refl
 none_there (x ∷ xs) none = absurd (omega arith)
 
 -- nothing follows the ends
-pub far_over : {S L : Type 0} (steps : S → L → ℕ → S → Type 0) (last : S → L → ℕ) (part : Part) (tracks : List (Vec L)) (limits : Limits) (starts ends : List (Node S)) (count : ℕ) (left : Limits) (next : Layer S) (chosen : Part)
-    → chosen ≡ part_at part count → AreSoFar steps last part tracks limits starts count ends left → FollowsAll steps tracks chosen ends next.nodes.items → IsWithin left next (runs_behind last chosen tracks ends)
-    → length next.nodes.items ≡ 0 → (runs : ℕ) × IsBlockRun steps last part tracks limits.states starts ends runs × (next.limits.steps + runs ≡ limits.steps)
-far_over {S} {L} steps last part tracks limits starts ends count left next chosen is was follows within empty =
-    let at : chosen ≡ part_at part (length was.before) = is ∙ ap (λ (k : ℕ). part_at part k) (sym was.sized) in
+pub far_over : {S L : Type 0} (steps : S → L → ℕ → S → Type 0) (last : S → L → ℕ) (part : Part) (tracks : List (Vec L)) (limits : Limits) (starts ends : List (Node S)) (count : ℕ) (left : Limits) (next : Layer S) (behind : Limits) → behind ≡ next.limits
+    → AreSoFar steps last part tracks limits starts count ends left → IsMadeBy steps last tracks (part_at part count) (λ _. opening (part_at part count) tracks) ends left next
+    → length next.nodes.items ≡ 0 → ((runs : ℕ) × IsBlockRun steps last part tracks limits.states starts ends runs × (behind.steps + runs ≡ limits.steps)) × (behind.states ≡ limits.states)
+far_over {S} {L} steps last part tracks limits starts ends count left next behind is was made empty =
+    let at : part_at part count ≡ part_at part (length was.before) = ap (λ (k : ℕ). part_at part k) (sym was.sized) in
     let ran = ap (λ (p : Part). runs_behind last p tracks ends) at in
-    let spent = within.steps in let before = was.counted in
+    let within = made.within in let spent = within.steps in let before = was.counted in let same = ap (λ (l : Limits). l.steps) is in
     let nothing : next.nodes.items ≡ [] = none_there next.nodes.items empty in (
-      runs_in last part tracks (ends ∷ was.before),
-      record {
-        before = was.before;
-        layers = was.layers;
-        over = subst (λ (l : List (Node S)). FollowsAll steps tracks (part_at part (length was.before)) ends l) nothing (subst (λ (p : Part). FollowsAll steps tracks p ends next.nodes.items) at follows);
-        narrow = was.narrow;
-        counted = refl;
-      },
-      omega arith,
+      (
+        runs_in last part tracks (ends ∷ was.before),
+        record {
+          before = was.before;
+          layers = was.layers;
+          over = subst (λ (l : List (Node S)). FollowsAll steps tracks (part_at part (length was.before)) ends l) nothing (subst (λ (p : Part). FollowsAll steps tracks p ends next.nodes.items) at made.follows);
+          narrow = was.narrow;
+          counted = refl;
+        },
+        omega arith,
+      ),
+      ap (λ (l : Limits). l.states) is ∙ within.states ∙ was.states,
     )
+
+-- where the lines of the newest layer exceed what is left, the block exceeds the limits
+pub far_exceeds : {S L : Type 0} (steps : S → L → ℕ → S → Type 0) (last : S → L → ℕ) (part : Part) (tracks : List (Vec L)) (limits : Limits) (starts layer : List (Node S)) (count : ℕ) (left : Limits)
+    → AreSoFar steps last part tracks limits starts count layer left → Exceeds left 0 (runs_behind last (part_at part count) tracks layer) → ExceedsInBlock steps last part tracks limits.steps limits.states starts
+far_exceeds {S} {L} steps last part tracks limits starts layer count left was over =
+    let at : part_at part count ≡ part_at part (length was.before) = ap (λ (k : ℕ). part_at part k) (sym was.sized) in
+    let ran = ap (λ (p : Part). runs_behind last p tracks layer) at in
+    let before = was.counted in let states = was.states in record {
+      before = was.before;
+      layer = layer;
+      layers = was.layers;
+      narrow = was.narrow;
+      over = elim over [ inl steps_over ↦ inl (omega arith) | inr states_over ↦ inr (omega arith) ];
+    }
 
 -- the first blocks are run, within the limits
 pub record AreRunSo {S L : Type 0} (steps : S → L → ℕ → S → Type 0) (last : S → L → ℕ) (part : Part) (blocks : List (Vec (Vec L))) (start : S) (limits : Limits) (count : ℕ) (ends : List (Node S)) (left : Limits) : Type 0 where
@@ -90,19 +109,29 @@ pub run_first : {S L : Type 0} (steps : S → L → ℕ → S → Type 0) (last 
 run_first steps last part blocks start limits first alone is narrow =
     let left = ap (λ (l : Limits). l.steps) is in record { runs = 0; run = (alone, refl); counted = omega arith; states = ap (λ (l : Limits). l.states) is; narrow = narrow }
 
-pub run_next : {S L : Type 0} (steps : S → L → ℕ → S → Type 0) (last : S → L → ℕ) (part : Part) (blocks : List (Vec (Vec L))) (start : S) (limits : Limits) (count : ℕ) (starts ends : List (Node S)) (left behind : Limits) (tracks : List (Vec L)) (chosen : Part) (runs : ℕ)
-    → tracks ≡ block blocks count → chosen ≡ block_part part (fork blocks) count → AreRunSo steps last part blocks start limits count starts left
-    → IsBlockRun steps last chosen tracks left.states starts ends runs → behind.steps + runs ≡ left.steps → behind.states ≡ left.states → AreRunSo steps last part blocks start limits (count + 1) ends behind
-run_next {S} {L} steps last part blocks start limits count starts ends left behind tracks chosen runs here is was more spent same =
+pub run_next : {S L : Type 0} (steps : S → L → ℕ → S → Type 0) (last : S → L → ℕ) (part : Part) (blocks : List (Vec (Vec L))) (start : S) (limits : Limits) (count : ℕ) (starts ends : List (Node S)) (left behind : Limits) (runs : ℕ) → AreRunSo steps last part blocks start limits count starts left
+    → IsBlockRun steps last (block_part part (fork blocks) count) (block blocks count) left.states starts ends runs → behind.steps + runs ≡ left.steps → behind.states ≡ left.states → AreRunSo steps last part blocks start limits (suc count) ends behind
+run_next {S} {L} steps last part blocks start limits count starts ends left behind runs was more spent same =
     let before = was.counted in let one = was.states in
     let fits = more.narrow ends (0, omega arith, refl) in
-    let run = subst (λ (k : ℕ). IsBlockRun steps last chosen tracks k starts ends runs) was.states more in
-    let at = subst (λ (l : List (Vec L)). IsBlockRun steps last chosen l limits.states starts ends runs) here run in
-    let by = subst (λ (p : Part). IsBlockRun steps last p (block blocks count) limits.states starts ends runs) is at in
-    let next : suc count ≡ count + 1 = omega arith in record {
+    let run = subst (λ (k : ℕ). IsBlockRun steps last (block_part part (fork blocks) count) (block blocks count) k starts ends runs) was.states more in record {
       runs = was.runs + runs;
-      run = subst (λ (k : ℕ). AreRun steps last part blocks start limits.states k ends (was.runs + runs)) next (starts, was.runs, runs, was.run, by, refl);
+      run = (starts, was.runs, runs, was.run, run, refl);
       counted = omega arith;
       states = same ∙ was.states;
       narrow = omega arith;
     }
+
+-- where a block exceeds what is left of the limits, all blocks do
+pub run_exceeds : {S L : Type 0} (steps : S → L → ℕ → S → Type 0) (last : S → L → ℕ) (part : Part) (blocks : List (Vec (Vec L))) (start : S) (limits : Limits) (count : ℕ) (starts : List (Node S)) (left : Limits) → count < length blocks → AreRunSo steps last part blocks start limits count starts left
+    → ExceedsInBlock steps last (block_part part (fork blocks) count) (block blocks count) left.steps left.states starts → ExceedsIn steps last part blocks start limits
+run_exceeds steps last part blocks start limits count starts left there was over = record {
+  index = count;
+  starts = starts;
+  runs = was.runs;
+  left = left.steps;
+  there = there;
+  run = was.run;
+  spent = was.counted;
+  over = subst (λ (k : ℕ). ExceedsInBlock steps last (block_part part (fork blocks) count) (block blocks count) left.steps k starts) was.states over;
+}

@@ -10,6 +10,8 @@ pub mod Shares
 pub mod Nexts
 pub mod Following
 pub mod Running
+pub mod Growing
+pub mod Making
 pub mod Layering
 pub mod Merging
 pub mod Fronts
@@ -21,7 +23,9 @@ pub mod Opening
 pub mod Covering
 pub mod Blocks
 pub mod Ends
+pub mod Underway
 pub mod Courses
 pub mod Totals
 pub mod Parting
+pub mod Walking
 pub mod Adding

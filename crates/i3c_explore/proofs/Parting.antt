@@ -6,7 +6,7 @@ use Rattle.std.proofs.lemmas.Option.{slice_get_within}
 use Rattle.i3c_explore.specs.declared.node.Node.{Node}
 use Rattle.i3c_explore.specs.Numbers.{IsNumber}
 use Rattle.i3c_explore.specs.declared.turn.Turn.{Turn}
-use Rattle.i3c_explore.specs.Blocks.{AreCounted, IsShortestBreak, IsShortestInPart, PartIsCounted, block, plain_course}
+use Rattle.i3c_explore.specs.Blocks.{PartIsCounted, block}
 use Rattle.i3c_explore.specs.Parts.{BeginsIn, HasLine, IsOfPart, Part, block_part, busy, fork, whole}
 use Rattle.i3c_explore.proofs.Opening.{whole_has}
 
@@ -17,29 +17,6 @@ begins_in_whole split (order ∷ before) = (begins_in_whole split before, λ at.
 
 pub of_whole : {L : Type 0} (blocks : List (Vec (Vec L))) (course : List (List Turn)) → IsOfPart whole blocks course
 of_whole blocks course = (begins_in_whole (fork blocks) course, λ none. refl)
-
--- so what is said of the whole is said of all
-pub all_of_whole : {S L : Type 0} (steps : S → L → ℕ → S → Type 0) (blocks : List (Vec (Vec L))) (start : S) (ends : List (Node S)) (total : Option ℕ) → PartIsCounted steps whole blocks start ends total → AreCounted steps blocks start ends total
-all_of_whole steps blocks start ends total counted = record {
-  share = counted.share;
-  shared = counted.shared;
-  led = λ k h c. let (is, _, led) = counted.led k h c in (is, led);
-  all = counted.all;
-  distinct = counted.distinct;
-  each = λ h is. counted.each h is (of_whole blocks (plain_course h));
-  only = λ h c. (counted.only h c).0;
-  placed = counted.placed;
-  number = counted.number;
-}
-
-pub shortest_of_whole : {S L : Type 0} (steps : S → L → ℕ → S → Type 0) (breaks : S → L → ℕ → Type 0) (blocks : List (Vec (Vec L))) (start : S) (order : List Turn) → IsShortestInPart steps breaks whole blocks start order → IsShortestBreak steps breaks blocks start order
-shortest_of_whole steps breaks blocks start order broken = record {
-  course = broken.course;
-  is = broken.is;
-  begun = broken.begun;
-  broken = broken.broken;
-  shortest = λ other begun. broken.shortest other begun (of_whole blocks other);
-}
 
 -- where no block is parted, a part behind the first has no course
 pub none_counted : {S L : Type 0} (steps : S → L → ℕ → S → Type 0) (part : Part) (blocks : List (Vec (Vec L))) (start : S) (ends : List (Node S)) (total : Option ℕ) → fork blocks ≡ length blocks → (part.index ≡ 0 → ⊥)

@@ -1,7 +1,8 @@
 -- What is in a layer after a node was put there.
-use Rattle.std.proofs.Common.{◌≡◌, ◌⊎◌, ◌∙◌, ◌++◌, ◌∷◌, [], ℕ, List, Some, ap, inl, inr, length, refl, subst, sym}
+use Rattle.std.proofs.Common.{◌≡◌, ◌⊎◌, ◌∙◌, ◌≤◌, ◌+◌, ◌++◌, ◌∷◌, [], ℕ, List, Some, ap, arith, inl, inr, length, length-append, refl, subst, sym}
 use Rattle.std.specs.List.{Contains, slice_get}
 use Rattle.std.proofs.lemmas.Bool.Decides.{eqb_tells}
+use Rattle.std.proofs.lemmas.List.{length-set}
 use Rattle.std.proofs.lemmas.Option.{same_Some, slice_get_within}
 use Rattle.i3c_explore.specs.declared.node.Node.{Node}
 use Rattle.i3c_explore.specs.declared.turn.Turn.{Turn}
@@ -73,4 +74,11 @@ behind_from old new node turn end put n c = elim put.put [
     | inr same ↦ inr (same, order)
   ]
   | inr merged ↦ inl (merged_from old new put.made merged n c)
+]
+
+-- a node that is put is one more at most
+pub put_adds : {S : Type 0} (old new : List (Node S)) (node : Node S) → IsPut old node new → length new ≤ length old + 1
+put_adds {S} old new node put = elim put [
+  | inl pushed ↦ (let e = ap length pushed in omega (arith, length-append old (node ∷ [])))
+  | inr merged ↦ (let e = ap length merged.is in omega (arith, length-set old merged.index (record merged.held { orders = merged.total })))
 ]

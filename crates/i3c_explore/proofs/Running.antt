@@ -1,6 +1,7 @@
 -- How often lines are run, and that they are taken from the limits.
 use Rattle.std.proofs.Common.{◌≡◌, ◌∙◌, ◌<◌, ◌≤◌, ◌+◌, ◌-◌, ◌⊎◌, ◌∷◌, ◌++◌, [], ℕ, suc, zero, List, Option, None, Some, Result, Ok, Err, IfOk, ap, arith, get_or, inl, inr, length, refl}
 use Rattle.std.specs.List.{slice_get}
+use Rattle.std.proofs.lemmas.Bool.Decides.{leb_tells}
 use Rattle.i3c_explore.specs.declared.jobs.Job.{Job}
 use Rattle.i3c_explore.specs.declared.layer.Layer.{Layer}
 use Rattle.i3c_explore.specs.declared.limits.Limits.{Limits}
@@ -8,9 +9,11 @@ use Rattle.i3c_explore.specs.declared.node.Node.{Node}
 use Rattle.i3c_explore.specs.declared.owners.Owners.{Owners}
 use Rattle.i3c_explore.specs.declared.stop.Stop.{Stop}
 use Rattle.i3c_explore.specs.Jobs.{AreJobs, AreJoined, AreTaken, steps_taken}
+use Rattle.i3c_explore.specs.Layers.{ArePut}
 use Rattle.i3c_explore.specs.Owners.{own, own_below}
 use Rattle.i3c_explore.specs.Runs.{IsCharged, IsWithin, runs_at, runs_from, runs_of, ways_of}
 use Rattle.i3c_explore.proofs.Owning.{AreSplit, own_split}
+use Rattle.i3c_explore.proofs.Putting.{put_adds}
 
 pub charged_none : {S : Type 0} (layer : Layer S) → IsCharged layer layer 0
 charged_none layer = record { steps = omega arith; states = refl; narrow = λ le. le }
@@ -34,6 +37,22 @@ within_more limits old new runs more was charged =
 -- one track more
 pub track_more : {S L : Type 0} (last : S → L → ℕ) (lines : ℕ → List L) (node : Node S) (t : ℕ) → runs_of last lines node (t + 1) ≡ runs_of last lines node t + ways_of last node.state (slice_get (lines t) (get_or node.places.items t 0))
 track_more last lines node t = let next : t + 1 ≡ suc t = omega arith in ap (λ (k : ℕ). runs_of last lines node k) next
+
+-- more tracks run no fewer lines
+pub tracks_up : {S L : Type 0} (last : S → L → ℕ) (lines : ℕ → List L) (node : Node S) (count more : ℕ) → count ≤ more → runs_of last lines node count ≤ runs_of last lines node more
+tracks_up last lines node count zero le = let none : count ≡ 0 = omega arith in let e = ap (λ (k : ℕ). runs_of last lines node k) none in omega arith
+tracks_up last lines node count (suc more) le = elim (leb_tells count more) [
+  | inl (_, before) ↦ (let rest = tracks_up last lines node count more before in omega arith)
+  | inr (_, over) ↦ (let same : count ≡ suc more = omega arith in let e = ap (λ (k : ℕ). runs_of last lines node k) same in omega arith)
+]
+
+-- more nodes run no fewer lines
+pub nodes_up : {S L : Type 0} (last : S → L → ℕ) (ran : ℕ → ℕ → List L) (count : ℕ) (layer : List (Node S)) (to more : ℕ) → to ≤ more → runs_from last ran count layer to ≤ runs_from last ran count layer more
+nodes_up last ran count layer to zero le = let none : to ≡ 0 = omega arith in let e = ap (λ (k : ℕ). runs_from last ran count layer k) none in omega arith
+nodes_up last ran count layer to (suc more) le = elim (leb_tells to more) [
+  | inl (_, before) ↦ (let rest = nodes_up last ran count layer to more before in omega arith)
+  | inr (_, over) ↦ (let same : to ≡ suc more = omega arith in let e = ap (λ (k : ℕ). runs_from last ran count layer k) same in omega arith)
+]
 
 -- one node more
 pub node_more : {S L : Type 0} (last : S → L → ℕ) (ran : ℕ → ℕ → List L) (count : ℕ) (layer : List (Node S)) (index : ℕ) (node : Node S)
@@ -136,6 +155,36 @@ jobs_run last lines owners count layer limits (job ∷ jobs) (Ok next ∷ made) 
     let mine = ap (λ (k : ℕ). runs_from last (own owners count k lines) count layer (length layer)) at in
     let both = runs_split last (own_below owners count from lines) (own owners count from lines) (own_below owners count (suc from) lines) count layer (length layer) (own_split owners count from lines) in
     let later = jobs_run last lines owners count layer limits jobs made (suc from) to mid new (omega arith) (λ i lt r one. each (suc i) (omega arith) r one) rest more in omega arith
+
+put_all_adds : {S : Type 0} (old nodes new : List (Node S)) → ArePut old nodes new → length new ≤ length old + length nodes
+put_all_adds old [] new same = let e = ap length same in omega arith
+put_all_adds old (node ∷ nodes) new (mid, put, more) = let a = put_adds old mid node put in let b = put_all_adds mid nodes new more in omega arith
+
+-- the jobs' layers, joined, have no more nodes than the lines that the jobs run
+pub jobs_few : {S L : Type 0} (last : S → L → ℕ) (lines : ℕ → List L) (owners : Owners) (count : ℕ) (layer : List (Node S)) (jobs : List (Job S)) (made : List (Result (Layer S) Stop)) (from to : ℕ) (old new : List (Node S))
+    → length made ≡ length jobs
+    → ((i : ℕ) → i < length jobs → (job : Job S) (one : Result (Layer S) Stop) → IfOk (get_or made i one) (λ (next : Layer S). length next.nodes.items ≤ runs_from last (own owners count (get_or jobs i job).number lines) count layer (length layer)))
+    → AreJobs jobs from to → AreJoined old made new
+    → length new + runs_from last (own_below owners count from lines) count layer (length layer) ≤ length old + runs_from last (own_below owners count to lines) count layer (length layer)
+jobs_few last lines owners count layer [] [] from to old new len each same joined =
+    let all = ap (λ (k : ℕ). runs_from last (own_below owners count k lines) count layer (length layer)) same in let e = ap length joined in omega arith
+jobs_few last lines owners count layer [] (one ∷ made) from to old new len each same joined = absurd (omega arith)
+jobs_few last lines owners count layer (job ∷ jobs) [] from to old new len each are joined = absurd (omega arith)
+jobs_few last lines owners count layer (job ∷ jobs) (Err stop ∷ made) from to old new len each are never = absurd never
+jobs_few last lines owners count layer (job ∷ jobs) (Ok next ∷ made) from to old new len each (at, rest) (mid, put, more) =
+    let here = each 0 (omega arith) job (Ok next) in
+    let mine = ap (λ (k : ℕ). runs_from last (own owners count k lines) count layer (length layer)) at in
+    let both = runs_split last (own_below owners count from lines) (own owners count from lines) (own_below owners count (suc from) lines) count layer (length layer) (own_split owners count from lines) in
+    let adds = put_all_adds old next.nodes.items mid put in
+    let later = jobs_few last lines owners count layer jobs made (suc from) to mid new (omega arith) (λ i lt r one. each (suc i) (omega arith) r one) rest more in omega arith
+
+pub all_few : {S L : Type 0} (last : S → L → ℕ) (lines : ℕ → List L) (owners : Owners) (count jobs : ℕ) (layer joined next : List (Node S))
+    → ((k t : ℕ) → own_below owners count 0 lines k t ≡ []) → ((k t : ℕ) → own_below owners count jobs lines k t ≡ lines t)
+    → length joined + runs_from last (own_below owners count 0 lines) count layer (length layer) ≤ 0 + runs_from last (own_below owners count jobs lines) count layer (length layer)
+    → length next ≡ length joined → length next ≤ runs_from last (λ _. lines) count layer (length layer)
+all_few last lines owners count jobs layer joined next none all few sized =
+    let first = runs_idle last (own_below owners count 0 lines) count layer (length layer) none in
+    let rest = runs_alike last (own_below owners count jobs lines) (λ _. lines) count layer (length layer) all in omega arith
 
 -- all lines are run by the jobs, each once
 pub all_run : {S L : Type 0} (last : S → L → ℕ) (lines : ℕ → List L) (owners : Owners) (count jobs : ℕ) (layer : List (Node S)) (limits : Limits) (made : List (Result (Layer S) Stop)) (next : Layer S)

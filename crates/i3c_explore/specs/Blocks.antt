@@ -46,15 +46,7 @@ abbrev pub BreaksOn : {S L : Type 0} → (S → L → ℕ → S → Type 0) → 
 BreaksOn steps breaks blocks start [] = ⊥
 BreaksOn {S} steps breaks blocks start (order ∷ before) = (mid : S) × LeadsOn steps blocks start before mid × Breaks steps breaks (block blocks (length before)) mid order
 
--- turns that break an expectation, of the shortest ones: each course of fewer turns leads on
-pub record IsShortestBreak {S L : Type 0} (steps : S → L → ℕ → S → Type 0) (breaks : S → L → ℕ → Type 0) (blocks : List (Vec (Vec L))) (start : S) (order : List Turn) : Type 0 where
-  pub course : List (List Turn)
-  pub is : order ≡ reverse (turns course)
-  pub begun : IsBegun blocks course
-  pub broken : BreaksOn steps breaks blocks start course
-  pub shortest : (other : List (List Turn)) → IsBegun blocks other → length (turns other) < length (turns course) → (end : S) × LeadsOn steps blocks start other end
-
--- the same among the courses of a part: each of them of fewer turns leads on
+-- turns of a part that break an expectation, of the shortest ones: each course of the part of fewer turns leads on
 pub record IsShortestInPart {S L : Type 0} (steps : S → L → ℕ → S → Type 0) (breaks : S → L → ℕ → Type 0) (part : Part) (blocks : List (Vec (Vec L))) (start : S) (order : List Turn) : Type 0 where
   pub course : List (List Turn)
   pub is : order ≡ reverse (turns course)
@@ -67,19 +59,7 @@ pub record IsShortestInPart {S L : Type 0} (steps : S → L → ℕ → S → Ty
 abbrev pub plain_course : List (List ℕ) → List (List Turn)
 plain_course history = map plain history
 
--- all interleavings of all blocks, with their number: each is in the share of one end, to which it leads
-pub record AreCounted {S L : Type 0} (steps : S → L → ℕ → S → Type 0) (blocks : List (Vec (Vec L))) (start : S) (ends : List (Node S)) (total : Option ℕ) : Type 0 where
-  pub share : ℕ → List (List (List ℕ))
-  pub shared : IsShared ends share
-  pub led : (k : ℕ) (history : List (List ℕ)) → Contains (share k) history → IsWhole blocks (plain_course history) × ((n : Node S) × (slice_get ends k ≡ Some n) × LeadsOn steps blocks start (plain_course history) n.state)
-  pub all : List (List (List ℕ))
-  pub distinct : AllDistinct all
-  pub each : (history : List (List ℕ)) → IsWhole blocks (plain_course history) → Contains all history
-  pub only : (history : List (List ℕ)) → Contains all history → IsWhole blocks (plain_course history)
-  pub placed : (history : List (List ℕ)) → Contains all history → (k : ℕ) × Contains (share k) history
-  pub number : IsNumber total (length all)
-
--- the same of the interleavings of a part
+-- all interleavings of a part, with their number: each is in the share of one end, to which it leads
 pub record PartIsCounted {S L : Type 0} (steps : S → L → ℕ → S → Type 0) (part : Part) (blocks : List (Vec (Vec L))) (start : S) (ends : List (Node S)) (total : Option ℕ) : Type 0 where
   pub share : ℕ → List (List (List ℕ))
   pub shared : IsShared ends share

@@ -6,10 +6,11 @@ pub mod Counts
 pub mod Shares
 pub mod Layers
 pub mod Blocks
-pub mod Stops
 pub mod Sums
 pub mod Nexts
 pub mod Runs
+pub mod Stops
+pub mod Explorations
 pub mod Moves
 pub mod Fronts
 pub mod Owners

@@ -44,10 +44,11 @@ pub record IsWithin {S : Type 0} (limits : Limits) (next : Layer S) (runs : ℕ)
   pub states : next.limits.states ≡ limits.states
   pub narrow : length next.nodes.items ≤ limits.states
 
--- the layers of a block up to one of them; those before it come the newest first. The oldest begins the block, and each other one follows the one before
-abbrev pub AreLayers : {S L : Type 0} → (S → L → ℕ → S → Type 0) → Part → List (Vec L) → List (Node S) → List (List (Node S)) → List (Node S) → Type 0
-AreLayers steps part tracks starts [] layer = AreRestarted (length tracks) starts layer × (length layer ≡ length starts)
-AreLayers steps part tracks starts (layer ∷ before) next = AreLayers steps part tracks starts before layer × FollowsAll steps tracks (part_at part (length before)) layer next
+-- the layers of a block up to one of them; those before it come the newest first. The oldest begins the block. Each other one follows the one before, and has no more nodes than lines are run from that
+abbrev pub AreLayers : {S L : Type 0} → (S → L → ℕ → S → Type 0) → (S → L → ℕ) → Part → List (Vec L) → List (Node S) → List (List (Node S)) → List (Node S) → Type 0
+AreLayers steps last part tracks starts [] layer = AreRestarted (length tracks) starts layer × (length layer ≡ length starts)
+AreLayers steps last part tracks starts (layer ∷ before) next =
+    AreLayers steps last part tracks starts before layer × FollowsAll steps tracks (part_at part (length before)) layer next × (length next ≤ runs_behind last (part_at part (length before)) tracks layer)
 
 -- how often lines are run from all of a block's layers
 abbrev pub runs_in : {S L : Type 0} → (S → L → ℕ) → Part → List (Vec L) → List (List (Node S)) → ℕ
@@ -57,7 +58,7 @@ runs_in last part tracks (layer ∷ before) = runs_in last part tracks before + 
 -- a block is run layer by layer to its ends, which nothing follows: no layer has more nodes than `most`, and the number of lines that were run is that of all layers
 pub record IsBlockRun {S L : Type 0} (steps : S → L → ℕ → S → Type 0) (last : S → L → ℕ) (part : Part) (tracks : List (Vec L)) (most : ℕ) (starts ends : List (Node S)) (runs : ℕ) : Type 0 where
   pub before : List (List (Node S))
-  pub layers : AreLayers steps part tracks starts before ends
+  pub layers : AreLayers steps last part tracks starts before ends
   pub over : FollowsAll steps tracks (part_at part (length before)) ends []
   pub narrow : (layer : List (Node S)) → Contains (ends ∷ before) layer → length layer ≤ most
   pub counted : runs ≡ runs_in last part tracks (ends ∷ before)

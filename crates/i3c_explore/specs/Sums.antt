@@ -3,9 +3,9 @@ use Rattle.std.specs.Prelude.{◌≡◌, ◌<◌, ◌+◌, ℕ, suc, zero, List,
 use Rattle.std.specs.Global.{Vec}
 use Rattle.i3c_explore.specs.declared.node.Node.{Node}
 use Rattle.i3c_explore.specs.declared.turn.Turn.{Turn}
-use Rattle.i3c_explore.specs.Blocks.{AreCounted, PartIsCounted}
+use Rattle.i3c_explore.specs.Blocks.{PartIsCounted}
 use Rattle.i3c_explore.specs.Numbers.{IsNumber}
-use Rattle.i3c_explore.specs.Parts.{IsOfPart, Part}
+use Rattle.i3c_explore.specs.Parts.{IsOfPart, Part, whole}
 
 -- part `index` of `parts`, counted from 0
 abbrev pub part_of : ℕ → ℕ → Part
@@ -24,4 +24,4 @@ sum_below told (suc k) = sum_below told k + told k
 abbrev pub PartsAddUp : {S L : Type 0} → (S → L → ℕ → S → Type 0) → List (Vec (Vec L)) → S → Type 0
 PartsAddUp {S} steps blocks start = (parts : ℕ) (part_ends : ℕ → List (Node S)) (told : ℕ → ℕ) (ends : List (Node S)) (total : Option ℕ) → 0 < parts
     → ((k : ℕ) → k < parts → PartIsCounted steps (part_of k parts) blocks start (part_ends k) (Some (told k)))
-    → AreCounted steps blocks start ends total → IsNumber total (sum_below told parts)
+    → PartIsCounted steps whole blocks start ends total → IsNumber total (sum_below told parts)

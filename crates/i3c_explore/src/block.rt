@@ -1,16 +1,9 @@
-ghost use Rattle.std.specs.Prelude.{◌≡◌, ◌+◌, ◌<◌, ◌≤◌, ◌++◌, ◌⊎◌, ◌↔◌, ℕ, IfErr, IfOk, IsTrue, OnOk, List, Some, Contains, length, reverse, slice_get};
-ghost use Rattle.std.specs.Global.{Vec as VecValue};
+ghost use Rattle.std.specs.Prelude.{◌≡◌, ◌<◌, ◌≤◌, ◌⊎◌, ◌↔◌, ℕ, IfOk, IsTrue, OnOk, Some, length, slice_get};
 ghost use Rattle.i3c_explore.specs.declared.node.Node.{Node as NodeValue};
-ghost use Rattle.i3c_explore.specs.declared.stop.Stop.{Stop as StopValue};
-ghost use Rattle.i3c_explore.specs.declared.turn.Turn.{Turn as TurnValue};
-ghost use Rattle.i3c_explore.specs.Counts.{IsShared};
-ghost use Rattle.i3c_explore.specs.Shares.{AreShared};
-ghost use Rattle.i3c_explore.specs.Layers.{IsFirstBreak, IsRestarted};
-ghost use Rattle.i3c_explore.specs.Nexts.{ArePlaced, BreaksNext, FollowsAll};
-ghost use Rattle.i3c_explore.specs.Orders.{IsOrder, IsPrefix, Leads};
+ghost use Rattle.i3c_explore.specs.Explorations.{ExploresBlock, MakesNext};
+ghost use Rattle.i3c_explore.specs.Layers.{AreRestarted, IsRestarted};
+ghost use Rattle.i3c_explore.specs.Nexts.{ArePlaced};
 ghost use Rattle.i3c_explore.specs.Parts.{HasLine, whole};
-ghost use Rattle.i3c_explore.specs.Runs.{IsBlockRun, IsWithin, runs_behind};
-ghost use Rattle.i3c_explore.specs.Splits.{IsInPart};
 
 use crate::layer::{Handed, Layer};
 use crate::limits::Limits;
@@ -59,13 +52,44 @@ fn is_over<M>(next: &Vec<Node<M>>, part: Part, ran: u64) -> bool
     next.is_empty() && (ran > 0 || part.is_whole())
 }
 
+/// A layer that begins a block of `count` tracks, from the nodes of a layer.
+fn begun<M: Machine>(alloc: Global, starts: Layer<M>, count: usize) -> Result<Layer<M>, AllocError>
+    ensures restarted { IfOk result (λ layer. AreRestarted count starts.nodes.items layer.nodes.items) }
+    ensures length { IfOk result (λ layer. length layer.nodes.items ≡ length starts.nodes.items) }
+    ensures limits { IfOk result (λ layer. layer.limits ≡ starts.limits) }
+{
+    let mut layer = starts;
+    restart_all(alloc, &mut layer.nodes, count)?;
+    layer.codes.clear();
+    Ok(layer)
+}
+
+/// What a layer hands on to the next one. It keeps its nodes.
+fn handed_on<M: Machine>(alloc: Global, layer: &mut Layer<M>) -> Handed<M>
+    ensures nodes { layer.new.nodes ≡ layer.old.nodes }
+    ensures limits { layer.new.limits ≡ layer.old.limits }
+{
+    Handed {
+        spares: mem::replace(&mut layer.spares, Vec::new(alloc)),
+        codes: mem::replace(&mut layer.codes, Vec::new(alloc)),
+    }
+}
+
+/// A layer to which the nodes of the one before are left, since that is done.
+fn behind<M: Machine>(alloc: Global, layer: Layer<M>, done: Layer<M>) -> Layer<M>
+    ensures nodes { result.nodes ≡ layer.nodes }
+    ensures limits { result.limits ≡ layer.limits }
+{
+    let mut layer = layer;
+    let mut done = done;
+    let spares = mem::replace(&mut layer.spares, Vec::new(alloc));
+    let nodes = mem::replace(&mut done.nodes, Vec::new(alloc));
+    layer.spares = together(spares, nodes);
+    layer
+}
+
 /// Tries a part's orders of the tracks' lines from each state of a layer, each line in every way. Answers what they lead
 /// to.
-///
-/// # Errors
-///
-/// `Breaks` has an order that breaks an expectation, of the shortest ones. After `Memory` and `Most` nothing is known of
-/// orders.
 pub(crate) fn explore_block<
     M: Machine,
     F: Fn(
@@ -84,42 +108,19 @@ pub(crate) fn explore_block<
     runner: &mut M::Runner,
     next_layer: &F,
 ) -> Result<Layer<M>, Stop>
-    requires accepts { (layer : _) (limits : _) (lines : _) (opening : _) (runner : _) (spares : _) → ArePlaced layer.now lines.now → F.pre next_layer.now layer limits lines opening runner spares }
-    requires next { (layer : _) (limits : _) (lines : _) (opening : _) (runner : _) (spares : _) (made : _) (after : _) → F.post next_layer.now layer limits lines opening runner spares made after
-        → IfOk made (λ next. FollowsAll M.steps lines.now opening layer.now next.nodes.items) }
-    requires within { (layer : _) (limits : _) (lines : _) (opening : _) (runner : _) (spares : _) (made : _) (after : _) → F.post next_layer.now layer limits lines opening runner spares made after
-        → IfOk made (λ next. IsWithin limits next (runs_behind M.last opening lines.now layer.now)) }
-    requires breaks { (layer : _) (limits : _) (lines : _) (opening : _) (runner : _) (spares : _) (made : _) (after : _) → F.post next_layer.now layer limits lines opening runner spares made after
-        → IfErr made (λ stop. (order : VecValue TurnValue) → stop ≡ StopValue.Breaks order → BreaksNext M.breaks lines.now opening layer.now order.items) }
+    requires accepts { (layer : _) (limits : _) (lines : _) (opening : _) (runner : _) (handed : _) → ArePlaced layer.now lines.now → F.pre next_layer.now layer limits lines opening runner handed }
+    requires makes { (layer : _) (limits : _) (lines : _) (opening : _) (runner : _) (handed : _) (made : _) (after : _) → F.post next_layer.now layer limits lines opening runner handed made after
+        → MakesNext M.steps M.last M.breaks lines.now opening layer.now limits made }
     requires begins { (part ≡ whole) ⊎ HasLine tracks.now }
     requires narrow { length starts.nodes.items ≤ starts.limits.states }
-    // every order of the part, and every beginning of one, leads on: no line breaks an expectation
-    ensures all { OnOk result ((s : NodeValue M) → Contains starts.nodes.items s → (order : List TurnValue) → IsPrefix tracks.now order → IsInPart part.index part.of order → (end : M) × Leads M.steps tracks.now s.state order end) }
-    // every order of the part leads to one of the ends
-    ensures ends { IfOk result (λ ends. (s : NodeValue M) → Contains starts.nodes.items s → (order : List TurnValue) → IsOrder tracks.now order → IsInPart part.index part.of order →
-        (n : NodeValue M) × Contains ends.nodes.items n × Leads M.steps tracks.now s.state order n.state) }
-    // each end is reached from a start, by the order of the part that it has
-    ensures reached { IfOk result (λ ends. (n : NodeValue M) → Contains ends.nodes.items n →
-        (s : NodeValue M) × Contains starts.nodes.items s × ((turns : List TurnValue) × IsOrder tracks.now turns × IsInPart part.index part.of turns × (n.order.items ≡ s.order.items ++ reverse turns) × Leads M.steps tracks.now s.state turns n.state)) }
-    // each interleaving's order in the part with each line in way 0 is counted at one of the ends, to which it leads
-    ensures counted { IfOk result (λ ends. (past : ℕ → List (List (List ℕ))) → IsShared starts.nodes.items past → AreShared M.steps part tracks.now starts.nodes.items ends.nodes.items past) }
-    // the ends are reached layer by layer, and the lines that are run are taken from the steps
-    ensures run { IfOk result (λ ends. (runs : ℕ) × IsBlockRun M.steps M.last part tracks.now starts.limits.states starts.nodes.items ends.nodes.items runs × (ends.limits.steps + runs ≡ starts.limits.steps)) }
-    ensures states { IfOk result (λ ends. ends.limits.states ≡ starts.limits.states) }
-    // an order of the part that is answered in place of them breaks an expectation at its last line, and no shorter one
-    // does
-    ensures broken { IfErr result (λ stop. (order : VecValue TurnValue) → stop ≡ StopValue.Breaks order → IsFirstBreak M.steps M.breaks part tracks.now starts.nodes.items order.items) }
+    ensures { ExploresBlock M.steps M.last M.breaks part tracks.now starts result }
 {
-    let mut layer = starts;
-    restart_all(alloc, &mut layer.nodes, tracks.len())?;
-    layer.codes.clear();
+    let mut layer = begun(alloc, starts, tracks.len())?;
     for ran in 0..u64::MAX {
-        let spares = mem::replace(&mut layer.spares, Vec::new(alloc));
         let opening = part.only_if(ran == 0);
+        let handed = handed_on(alloc, &mut layer);
         let limits = layer.limits;
-        let codes = mem::replace(&mut layer.codes, Vec::new(alloc));
-        let handed = Handed { spares, codes };
-        let mut next = match next_layer(&layer.nodes, limits, tracks, opening, runner, handed) {
+        let next = match next_layer(&layer.nodes, limits, tracks, opening, runner, handed) {
             Ok(next) => next,
             Err(stop) => return Err(stop),
         };
@@ -128,10 +129,8 @@ pub(crate) fn explore_block<
             layer.spares = next.spares;
             return Ok(layer);
         }
-        let spares = mem::replace(&mut next.spares, Vec::new(alloc));
-        let done = mem::replace(&mut layer.nodes, Vec::new(alloc));
-        next.spares = together(spares, done);
-        layer = next;
+        layer = behind(alloc, next, layer);
     }
-    Err(Stop::Most)
+    // an order of so many turns has no room in memory
+    Err(Stop::Memory)
 }

@@ -1,15 +1,13 @@
-ghost use Rattle.std.specs.Prelude.{◌≡◌, ◌<◌, ◌≤◌, ◌^◌, ◌+◌, ℕ, IfErr, IfOk, IsTrue, MatchOption, None, OnOk, Some, List, Contains, length, slice_get, slice_index};
-ghost use Rattle.std.specs.Global.{Vec as VecValue};
-ghost use Rattle.i3c_explore.specs.declared.node.Node.{Node as NodeValue};
-ghost use Rattle.i3c_explore.specs.declared.stop.Stop.{Stop as StopValue};
-ghost use Rattle.i3c_explore.specs.declared.turn.Turn.{Turn as TurnValue};
-ghost use Rattle.i3c_explore.specs.Shares.{Gains, by_track, by_tracks, by_turn};
-ghost use Rattle.i3c_explore.specs.Layers.{AreFrom, Has, IsBreak, IsExpanded, IsNextAt, IsTracked, Keeps, advanced};
-ghost use Rattle.i3c_explore.specs.Nexts.{BreaksNext, FollowsAll, IsNextOf};
+ghost use Rattle.std.specs.Prelude.{◌≡◌, ◌<◌, ◌^◌, ◌+◌, ℕ, IfErr, IfOk, IsTrue, MatchOption, None, OnOk, Some, List, length, slice_get, slice_index};
+ghost use Rattle.i3c_explore.specs.Explorations.{Grows, MakesBy, MakesNext};
+ghost use Rattle.i3c_explore.specs.Layers.{Has, IsExpanded, IsNextAt, IsTracked, advanced};
+ghost use Rattle.i3c_explore.specs.Nexts.{ArePlaced};
 ghost use Rattle.i3c_explore.specs.Orders.{track as lines_of};
 ghost use Rattle.i3c_explore.specs.Owners.{own};
 ghost use Rattle.i3c_explore.specs.Parts.{opening};
-ghost use Rattle.i3c_explore.specs.Runs.{IsCharged, IsWithin, runs_behind, runs_from, runs_of, ways_of};
+ghost use Rattle.i3c_explore.specs.Runs.{runs_of, ways_of};
+ghost use Rattle.i3c_explore.specs.Shares.{by_track, by_tracks, by_turn};
+ghost use Rattle.i3c_explore.specs.Stops.{StopsAt};
 
 use crate::layer::Layer;
 use crate::limits::Limits;
@@ -38,13 +36,10 @@ fn run<M: Machine>(
     requires fits { slice_index node.now.places.items turn.track + 1 < 2 ^ 64 }
     requires next { IsNextAt (lines_of tracks.now) node.now.places.items turn.track line.now }
     requires again { IsTrue again → M.near runner.old node.now.state }
-    ensures keeps { OnOk result (Keeps next.old.nodes.items next.new.nodes.items) }
+    ensures grown { OnOk result ((lines : ℕ → List M.Line) → IsNextAt lines node.now.places.items turn.track line.now → Grows M.steps lines tracks.now node.now next.old next.new (by_turn turn) 1) }
     ensures ran { OnOk result ((new : M) × M.steps node.now.state line.now turn.way new × Has next.new.nodes.items (advanced turn.track node.now.places.items) new) }
-    ensures from { OnOk result ((lines : ℕ → List M.Line) → IsNextAt lines node.now.places.items turn.track line.now → AreFrom M.steps lines node.now next.old.nodes.items next.new.nodes.items) }
-    ensures counted { OnOk result (Gains M.steps tracks.now node.now next.old.nodes.items next.new.nodes.items (by_turn turn)) }
-    ensures charged { OnOk result (IsCharged next.old next.new 1) }
-    ensures broken { IfErr result (λ stop. (order : VecValue TurnValue) → stop ≡ StopValue.Breaks order → (lines : ℕ → List M.Line) → IsNextAt lines node.now.places.items turn.track line.now → IsBreak M.breaks lines node.now order.items) }
     ensures near { OnOk result (M.near runner.new node.now.state) }
+    ensures stopped { IfErr result (λ stop. (lines : ℕ → List M.Line) → IsNextAt lines node.now.places.items turn.track line.now → StopsAt M.breaks lines node.now next.old 1 stop) }
 {
     if !next.limits.step() {
         return Err(Stop::Most);
@@ -85,13 +80,10 @@ fn run_track<M: Machine>(
     requires within { track < length tracks.now }
     requires sized { length node.now.places.items ≡ length tracks.now }
     requires again { IsTrue again → M.near runner.old node.now.state }
-    ensures keeps { OnOk result (Keeps next.old.nodes.items next.new.nodes.items) }
+    ensures grown { OnOk result (Grows M.steps (opening part tracks.now) tracks.now node.now next.old next.new (by_track (opening part tracks.now) node.now.places.items track) (ways_of M.last node.now.state (slice_get (opening part tracks.now track) (slice_index node.now.places.items track)))) }
     ensures tracked { OnOk result (IsTracked M.steps (opening part tracks.now) track node.now next.new.nodes.items) }
-    ensures from { OnOk result (AreFrom M.steps (opening part tracks.now) node.now next.old.nodes.items next.new.nodes.items) }
-    ensures counted { OnOk result (Gains M.steps tracks.now node.now next.old.nodes.items next.new.nodes.items (by_track (opening part tracks.now) node.now.places.items track)) }
-    ensures charged { OnOk result (IsCharged next.old next.new (ways_of M.last node.now.state (slice_get (opening part tracks.now track) (slice_index node.now.places.items track)))) }
-    ensures broken { IfErr result (λ stop. (order : VecValue TurnValue) → stop ≡ StopValue.Breaks order → IsBreak M.breaks (opening part tracks.now) node.now order.items) }
     ensures near { IfOk result (λ near. IsTrue near → M.near runner.new node.now.state) }
+    ensures stopped { IfErr result (StopsAt M.breaks (opening part tracks.now) node.now next.old (ways_of M.last node.now.state (slice_get (opening part tracks.now track) (slice_index node.now.places.items track)))) }
 {
     let Some(line) = next_line(tracks, part, track, node.places[track]) else {
         return Ok(again);
@@ -127,13 +119,10 @@ fn take_turn<M: Machine>(
     requires within { track < length tracks.now }
     requires sized { length node.now.places.items ≡ length tracks.now }
     requires again { IsTrue again → M.near runner.old node.now.state }
-    ensures keeps { OnOk result (Keeps next.old.nodes.items next.new.nodes.items) }
+    ensures grown { OnOk result (Grows M.steps (opening part tracks.now) tracks.now node.now next.old next.new (by_track (own owners.now (length tracks.now) job (opening part tracks.now) index) node.now.places.items track) (ways_of M.last node.now.state (slice_get (own owners.now (length tracks.now) job (opening part tracks.now) index track) (slice_index node.now.places.items track)))) }
     ensures tracked { OnOk result (IsTracked M.steps (own owners.now (length tracks.now) job (opening part tracks.now) index) track node.now next.new.nodes.items) }
-    ensures from { OnOk result (AreFrom M.steps (opening part tracks.now) node.now next.old.nodes.items next.new.nodes.items) }
-    ensures counted { OnOk result (Gains M.steps tracks.now node.now next.old.nodes.items next.new.nodes.items (by_track (own owners.now (length tracks.now) job (opening part tracks.now) index) node.now.places.items track)) }
-    ensures charged { OnOk result (IsCharged next.old next.new (ways_of M.last node.now.state (slice_get (own owners.now (length tracks.now) job (opening part tracks.now) index track) (slice_index node.now.places.items track)))) }
-    ensures broken { IfErr result (λ stop. (order : VecValue TurnValue) → stop ≡ StopValue.Breaks order → IsBreak M.breaks (opening part tracks.now) node.now order.items) }
     ensures near { IfOk result (λ near. IsTrue near → M.near runner.new node.now.state) }
+    ensures stopped { IfErr result (StopsAt M.breaks (opening part tracks.now) node.now next.old (ways_of M.last node.now.state (slice_get (own owners.now (length tracks.now) job (opening part tracks.now) index track) (slice_index node.now.places.items track)))) }
 {
     if !owners.takes(job, index, track, tracks.len()) {
         return Ok(again);
@@ -159,12 +148,9 @@ fn expand<M: Machine>(
     next: &mut Layer<M>,
 ) -> Result<(), Stop>
     requires sized { length node.now.places.items ≡ length tracks.now }
-    ensures keeps { OnOk result (Keeps next.old.nodes.items next.new.nodes.items) }
+    ensures grown { OnOk result (Grows M.steps (opening part tracks.now) tracks.now node.now next.old next.new (by_tracks (own owners.now (length tracks.now) job (opening part tracks.now) index) node.now.places.items (length tracks.now)) (runs_of M.last (own owners.now (length tracks.now) job (opening part tracks.now) index) node.now (length tracks.now))) }
     ensures expanded { OnOk result (IsExpanded M.steps (own owners.now (length tracks.now) job (opening part tracks.now) index) (length tracks.now) node.now next.new.nodes.items) }
-    ensures from { OnOk result (AreFrom M.steps (opening part tracks.now) node.now next.old.nodes.items next.new.nodes.items) }
-    ensures counted { OnOk result (Gains M.steps tracks.now node.now next.old.nodes.items next.new.nodes.items (by_tracks (own owners.now (length tracks.now) job (opening part tracks.now) index) node.now.places.items (length tracks.now))) }
-    ensures charged { OnOk result (IsCharged next.old next.new (runs_of M.last (own owners.now (length tracks.now) job (opening part tracks.now) index) node.now (length tracks.now))) }
-    ensures broken { IfErr result (λ stop. (order : VecValue TurnValue) → stop ≡ StopValue.Breaks order → IsBreak M.breaks (opening part tracks.now) node.now order.items) }
+    ensures stopped { IfErr result (StopsAt M.breaks (opening part tracks.now) node.now next.old (runs_of M.last (own owners.now (length tracks.now) job (opening part tracks.now) index) node.now (length tracks.now))) }
 {
     let mut again = false;
     for track in 0..tracks.len() {
@@ -192,10 +178,8 @@ pub(crate) fn expand_turns<M: Machine, W: Watch>(
     spares: Vec<Node<M>>,
     view: &View<'_, W>,
 ) -> Result<Layer<M>, Stop>
-    requires sized { (n : NodeValue M) → Contains layer.now n → length n.places.items ≡ length tracks.now }
-    ensures next { IfOk result (λ next. IsNextOf M.steps tracks.now (opening part tracks.now) (own owners.now (length tracks.now) job (opening part tracks.now)) layer.now 0 (length layer.now) next.nodes.items) }
-    ensures within { IfOk result (λ next. IsWithin limits next (runs_from M.last (own owners.now (length tracks.now) job (opening part tracks.now)) (length tracks.now) layer.now (length layer.now))) }
-    ensures broken { IfErr result (λ stop. (order : VecValue TurnValue) → stop ≡ StopValue.Breaks order → BreaksNext M.breaks tracks.now part layer.now order.items) }
+    requires { ArePlaced layer.now tracks.now }
+    ensures { MakesBy M.steps M.last M.breaks tracks.now part (own owners.now (length tracks.now) job (opening part tracks.now)) layer.now limits result }
 {
     let mut next = Layer::new(alloc, limits);
     // about as many as the layer has, and no more than there were in an earlier one
@@ -233,16 +217,11 @@ pub(crate) fn expand_all<M: Machine, W: Watch>(
     spares: Vec<Node<M>>,
     view: &View<'_, W>,
 ) -> Result<Layer<M>, Stop>
-    requires sized { (n : NodeValue M) → Contains layer.now n → length n.places.items ≡ length tracks.now }
-    ensures next { IfOk result (λ next. FollowsAll M.steps tracks.now part layer.now next.nodes.items) }
-    ensures within { IfOk result (λ next. IsWithin limits next (runs_behind M.last part tracks.now layer.now)) }
-    ensures broken { IfErr result (λ stop. (order : VecValue TurnValue) → stop ≡ StopValue.Breaks order → BreaksNext M.breaks tracks.now part layer.now order.items) }
+    requires { ArePlaced layer.now tracks.now }
+    ensures { MakesNext M.steps M.last M.breaks tracks.now part layer.now limits result }
 {
     let owners = Owners::none(alloc);
-    match expand_turns(
+    expand_turns(
         alloc, layer, &owners, 0, limits, tracks, part, runner, spares, view,
-    ) {
-        Ok(next) => Ok(next),
-        Err(stop) => Err(stop),
-    }
+    )
 }

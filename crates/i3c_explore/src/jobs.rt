@@ -1,12 +1,9 @@
-ghost use Rattle.std.specs.Prelude.{◌≡◌, ◌<◌, IfErr, IfOk, length};
-ghost use Rattle.std.specs.Global.{Vec as VecValue};
-ghost use Rattle.i3c_explore.specs.declared.stop.Stop.{Stop as StopValue};
-ghost use Rattle.i3c_explore.specs.declared.turn.Turn.{Turn as TurnValue};
-ghost use Rattle.i3c_explore.specs.Nexts.{ArePlaced, BreaksNext, FollowsAll, IsNextOf};
+ghost use Rattle.std.specs.Prelude.{◌<◌, IfOk, length};
+ghost use Rattle.i3c_explore.specs.Explorations.{IsMadeBy, MakesNext};
+ghost use Rattle.i3c_explore.specs.Nexts.{ArePlaced};
 ghost use Rattle.i3c_explore.specs.Parts.{opening};
 ghost use Rattle.i3c_explore.specs.Jobs.{AreJobs};
 ghost use Rattle.i3c_explore.specs.Owners.{own};
-ghost use Rattle.i3c_explore.specs.Runs.{IsWithin, runs_behind, runs_from};
 
 use crate::expand::{expand_all, expand_turns};
 use crate::layer::{Handed, Layer};
@@ -86,9 +83,8 @@ fn expand_job<M: Machine>(
     tracks: &[Vec<M::Line>],
     part: Part,
 ) -> Result<Layer<M>, Stop>
-    requires sized { ArePlaced layer.now tracks.now }
-    ensures next { IfOk result (λ next. IsNextOf M.steps tracks.now (opening part tracks.now) (own owners.now (length tracks.now) job.number (opening part tracks.now)) layer.now 0 (length layer.now) next.nodes.items) }
-    ensures within { IfOk result (λ next. IsWithin limits next (runs_from M.last (own owners.now (length tracks.now) job.number (opening part tracks.now)) (length tracks.now) layer.now (length layer.now))) }
+    requires { ArePlaced layer.now tracks.now }
+    ensures { IfOk result (IsMadeBy M.steps M.last tracks.now part (own owners.now (length tracks.now) job.number (opening part tracks.now)) layer.now limits) }
 {
     let Job {
         number,
@@ -147,8 +143,7 @@ where
     M::Runner: Send,
     requires some { 0 < jobs }
     requires sized { ArePlaced layer.now tracks.now }
-    ensures next { IfOk result (λ next. FollowsAll M.steps tracks.now part layer.now next.nodes.items) }
-    ensures within { IfOk result (λ next. IsWithin limits next (runs_behind M.last part tracks.now layer.now)) }
+    ensures { IfOk result (IsMadeBy M.steps M.last tracks.now part (λ _. opening part tracks.now) layer.now limits) }
 {
     ask_for_room(alloc, MOST);
     let Handed { mut spares, codes } = handed;
@@ -157,8 +152,7 @@ where
     let all = jobs_of(alloc, jobs, spares, surplus)?;
     let expand = |job: Job<M>| -> Result<Layer<M>, Stop>
         requires { ArePlaced layer.now tracks.now }
-        ensures next { IfOk result (λ next. IsNextOf M.steps tracks.entry.now (opening part tracks.entry.now) (own owners (length tracks.entry.now) job.number (opening part tracks.entry.now)) layer.entry.now 0 (length layer.entry.now) next.nodes.items) }
-        ensures within { IfOk result (λ next. IsWithin limits next (runs_from M.last (own owners (length tracks.entry.now) job.number (opening part tracks.entry.now)) (length tracks.entry.now) layer.entry.now (length layer.entry.now))) }
+        ensures { IfOk result (IsMadeBy M.steps M.last tracks.entry.now part (own owners (length tracks.entry.now) job.number (opening part tracks.entry.now)) layer.entry.now limits) }
     { expand_job(alloc, layer, &owners, job, limits, tracks, part) };
     let layers = map_vec(rt, all, &expand)?;
     match joined_by_jobs(rt, alloc, layers, owners.overlap, limits) {
@@ -184,10 +178,8 @@ pub(crate) fn next_by_jobs<R: Threads + Sync, M: Machine + Send + Sync, W: Watch
 where
     M::Line: Sync,
     M::Runner: Send,
-    requires sized { ArePlaced layer.now tracks.now }
-    ensures next { IfOk result (λ next. FollowsAll M.steps tracks.now part layer.now next.nodes.items) }
-    ensures within { IfOk result (λ next. IsWithin limits next (runs_behind M.last part tracks.now layer.now)) }
-    ensures broken { IfErr result (λ stop. (order : VecValue TurnValue) → stop ≡ StopValue.Breaks order → BreaksNext M.breaks tracks.now part layer.now order.items) }
+    requires { ArePlaced layer.now tracks.now }
+    ensures { MakesNext M.steps M.last M.breaks tracks.now part layer.now limits result }
 {
     let useful = jobs.min(layer.len() / FEW);
     if useful > 1 {
@@ -202,8 +194,5 @@ where
         }
     }
     let Handed { spares, codes: _ } = handed;
-    match expand_all(alloc, layer, limits, tracks, part, runner, spares, view) {
-        Ok(next) => Ok(next),
-        Err(stop) => Err(stop),
-    }
+    expand_all(alloc, layer, limits, tracks, part, runner, spares, view)
 }

@@ -2,7 +2,7 @@ ghost use Rattle.std.specs.Prelude.{◌≡◌, ◌<◌, ◌+◌, ◌^◌, ◌++�
 ghost use Rattle.i3c_explore.specs.declared.node.Node.{Node as NodeValue};
 ghost use Rattle.i3c_explore.specs.Layers.{by_way, IsAlikeAt, IsMerged, IsPutBehind};
 ghost use Rattle.i3c_explore.specs.Runs.{IsCharged};
-ghost use Rattle.i3c_explore.specs.Stops.{IsShort};
+ghost use Rattle.i3c_explore.specs.Stops.{IsFull};
 
 use crate::codes::code_of;
 use crate::index::Index;
@@ -224,7 +224,7 @@ impl<M: Machine> Layer<M> {
         requires fits { slice_index node.now.places.items turn.track + 1 < 2 ^ 64 }
         ensures put { OnOk result (IsPutBehind self.old.nodes.items node.now turn (M.shown runner.now) self.new.nodes.items) }
         ensures charged { OnOk result (IsCharged self.old self.new 0) }
-        ensures short { IfErr result IsShort }
+        ensures full { IfErr result (IsFull self.old) }
     {
         let room = mem::replace(&mut self.room, Vec::new(alloc));
         let places = moved_on(room, &node.places, turn.track)?;

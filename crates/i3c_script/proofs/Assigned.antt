@@ -34,9 +34,9 @@ rounds old (answer ∷ later) wire new (mid, first, rest, sent, more, is) = (mid
 
 module _ {P : Type 0} (past : PastKept P) (note : P → Symbol → P → Type 0) (noted : (old new : P) (Is : List Symbol → Type 0) → Tells note old new Is → past.sends old Is new) where
   -- an assignment is a session of the bus, and its wire is kept
-  session : (st new : State) (settings : Settings) (cuts : CutList) (was now : P) (served : Served) (given : List (ℕ × Identity)) (complete : Bool) → Tells note was now (IsAssignment st cuts served given complete new)
+  as_session : (st new : State) (settings : Settings) (cuts : CutList) (was now : P) (served : Served) (given : List (ℕ × Identity)) (complete : Bool) → Tells note was now (IsAssignment st cuts served given complete new)
       → IsSession past (situation st settings cuts was) served given complete (situation new settings no_cuts now)
-  session st new settings cuts was now served given complete (wire, notes, a) = record {
+  as_session st new settings cuts was now served given complete (wire, notes, a) = record {
     opened = a.opened;
     last = a.last;
     opens = a.opens.0;
@@ -56,11 +56,11 @@ module _ {P : Type 0} (past : PastKept P) (note : P → Symbol → P → Type 0)
         → Hears heard (λ pieces refused. Assigns past (situation st settings cuts was) pieces refused (situation new settings no_cuts now)) before after result
     assigned st new settings cuts was now served given complete (Ok done) before after result plays refuses told =
         hears_by heard (IsSessionTold (Ok done) served given complete) (λ pieces refused. Assigns past (situation st settings cuts was) pieces refused (situation new settings no_cuts now))
-        (λ pieces refused is. inl (served, given, complete, session st new settings cuts was now served given complete plays, is)) before after result told
+        (λ pieces refused is. inl (served, given, complete, as_session st new settings cuts was now served given complete plays, is.0, is.1)) before after result told
     assigned st new settings cuts was now served given complete (Err why) before after result plays refuses told =
         hears_by heard (IsSessionTold (Err why) served given complete) (λ pieces refused. Assigns past (situation st settings cuts was) pieces refused (situation new settings no_cuts now))
         (λ pieces refused is.
-            inr (BusRefusal.ActiveStays, moved past st new settings cuts was now (Event.OpenDaa cuts) (Reply.Refused BusRefusal.ActiveStays) refuses.0 (noted was now _ refuses.1), is)) before after result told
+            inr (BusRefusal.ActiveStays, moved past st new settings cuts was now (Event.OpenDaa cuts) (Reply.Refused BusRefusal.ActiveStays) refuses.0 (noted was now _ refuses.1), is.0, is.1)) before after result told
 
     -- while a session is open none is opened
     pub stays_open : (hand : Hand) (session : ℕ) (st : State) (settings : Settings) (cuts : CutList) (was : P) (listener : L) → hand ≡ Hand.Session session → HandFits hand st
@@ -71,7 +71,7 @@ module _ {P : Type 0} (past : PastKept P) (note : P → Symbol → P → Type 0)
         subst (λ b. MatchOption (first_refusal ((b, BusRefusal.SessionOpen) ∷ (cuts_active st cuts, BusRefusal.ActiveStays) ∷ []))
         (IsShort st (Event.OpenDaa cuts) (Reply.Refused BusRefusal.SessionOpen) st ⊎ Acts st (Event.OpenDaa cuts) (Reply.Refused BusRefusal.SessionOpen) st)
         (λ why. (Reply.Refused BusRefusal.SessionOpen ≡ Reply.Refused why) × (st ≡ st))) (sym opened) (refl, refl) in
-        ([], refl, inr (BusRefusal.SessionOpen, unsent past note noted st st settings cuts was (Event.OpenDaa cuts) (Reply.Refused BusRefusal.SessionOpen) refl refused refl, (refl, refl)))
+        ([], refl, inr (BusRefusal.SessionOpen, unsent past note noted st st settings cuts was (Event.OpenDaa cuts) (Reply.Refused BusRefusal.SessionOpen) refl refused refl, refl, refl))
 
 -- a session uses up the cuts that waited
 pub used_up : {P L : Type 0} (past : PastKept P) (heard : L → Piece → L) (old : Situation P) (st new : State) (settings : Settings) (cuts left : CutList) (was now : P) (before after : L) (result : Result (Unit {0}) (Stop Refusal)) → situation st settings cuts was ≡ old

@@ -1,117 +1,51 @@
-use Rattle.std.proofs.Common.{◌≡◌, ◌∙◌, ◌+◌, ℕ, suc, arith, length, subst}
+use Rattle.std.proofs.Common.{◌∙◌, ◌+◌, Err, Ok, ap, refl, subst, sym}
+use Rattle.std.specs.Global.{Vec}
 use Rattle.std.specs.List.{Contains}
-use Rattle.i3c_explore.specs.Layers.{IsBreak}
-use Rattle.i3c_explore.specs.Parts.{Part, opening}
-use Rattle.i3c_explore.specs.Shares.{IsLed, IsSharedNext}
-use Rattle.i3c_explore.proofs.Stopping.{memory_breaks}
-use Rattle.i3c_explore.proofs.Lists.{get_below}
-use Rattle.i3c_explore.proofs.Expanding.{all_passed}
-use Rattle.i3c_explore.proofs.Shares.{shares_all}
-use Rattle.i3c_explore.proofs.Blocks.{AreHeld, AreReached, LeadOn, ends_held, ends_reached, first_break, held_first, held_then, lead_on_first, lead_on_next, no_more, reached_first, reached_then, some_first, some_next}
-use Rattle.i3c_explore.proofs.Ends.{IsCounted, counted_first, counted_next, ends_shared, next_shared}
-use Rattle.i3c_explore.specs.Nexts.{FollowsAll}
-use Rattle.i3c_explore.specs.Runs.{IsWithin, runs_behind}
-use Rattle.i3c_explore.proofs.Layering.{far_first, far_next, far_over}
+use Rattle.i3c_explore.specs.declared.limits.Limits.{Limits}
+use Rattle.i3c_explore.specs.declared.node.Node.{Node}
+use Rattle.i3c_explore.specs.Explorations.{ExploresBlock}
+use Rattle.i3c_explore.specs.Parts.{part_at}
+use Rattle.i3c_explore.proofs.Making.{makes_as}
+use Rattle.i3c_explore.proofs.Stopping.{memory_ends}
+use Rattle.i3c_explore.proofs.Underway.{IsUnderway, underway_first, underway_next, underway_over, underway_stops}
 use Rattle.i3c_explore.proofs.block.explore_block.Goals as goal
-
-one_more : (count : ℕ) → suc count ≡ count + 1
-one_more count = omega arith
 
 pub loop-ran-init : goal.loop-ran-init
 loop-ran-init g c =
-    let steps = g.M.Machine.steps in let part = c.args.part in let tracks = c.args.tracks.now in let starts = c.args.starts.nodes.items in let layer = c.restart_all.new.nodes.items in
-    let made = c.in_ok-restart_all.ensures in record {
-      lead_on = lead_on_first steps part tracks starts;
-      held = held_first steps part tracks starts layer (λ k lt. get_below layer k (omega arith)) made.restarted;
-      reached = reached_first steps part tracks starts layer made.restarted;
-      counted = counted_first steps part tracks starts layer made.restarted made.length;
-      layers = far_first steps g.M.Machine.last part tracks c.args.starts.limits starts layer made.restarted made.length c.requires.narrow;
-      some = some_first part tracks starts layer made.length;
-    }
+    let steps = g.M.Machine.steps in let last = g.M.Machine.last in let tracks = c.args.tracks.now in let layer = c.in_ok-layer.layer in let made = c.in_ok-layer.ensures in
+    subst (λ (left : Limits). IsUnderway steps last c.args.part tracks c.args.starts 0 layer.nodes.items left) (sym made.limits)
+    (underway_first steps last c.args.part tracks c.args.starts layer.nodes.items made.restarted made.length c.requires.narrow)
 
 pub next_layer-requires : goal.next_layer-requires
-next_layer-requires g c = c.requires.accepts _ _ _ _ _ _ (λ n at. (c.loop-ran.invariant.reached n (subst (λ l. Contains l n) c.deref.ensures.value at)).2.0.sized)
+next_layer-requires g c =
+    c.requires.accepts _ _ _ _ _ _ (λ n at. (c.loop-ran.invariant.reached n (subst (λ l. Contains l n) (c.deref.ensures.value ∙ ap (λ (v : Vec (Node g.row.M.Denot)). v.items) c.handed_on-handed.ensures.nodes) at)).2.0.sized)
 
-pub returns-in-Err-clause-broken : goal.returns-in-Err-clause-broken
-returns-in-Err-clause-broken g c order is =
-    let (old, at, broken) = c.requires.breaks _ _ _ _ _ _ _ _ c.in-Err.ensures order is in let was = c.loop-ran.invariant in let tracks = c.args.tracks.now in
-    let here = subst (λ (p : Part). IsBreak g.M.Machine.breaks (opening p tracks) old order.items) c.only_if-opening.ensures broken in
-    first_break g.M.Machine.steps g.M.Machine.breaks c.args.part tracks c.args.starts.nodes.items c.loop-ran.layer.nodes.items c.loop-ran.ran old order.items
-    was.reached was.lead_on (subst (λ l. Contains l old) c.deref.ensures.value at) here
+pub returns-in-Err : goal.returns-in-Err
+returns-in-Err g c =
+    let steps = g.M.Machine.steps in let last = g.M.Machine.last in let breaks = g.M.Machine.breaks in let part = c.args.part in let tracks = c.args.tracks.now in let layer = c.loop-ran.layer in let count = c.loop-ran.ran in
+    underway_stops steps last breaks part tracks c.args.starts count layer.nodes.items layer.limits c.in-Err.stop c.loop-ran.invariant
+    (makes_as steps last breaks tracks c.only_if-opening.result (part_at part count) c.deref.result.now layer.nodes.items c.handed_on-handed.new.layer.limits layer.limits (Err c.in-Err.stop) c.only_if-opening.ensures
+    (c.deref.ensures.value ∙ ap (λ (v : Vec (Node g.row.M.Denot)). v.items) c.handed_on-handed.ensures.nodes) c.handed_on-handed.ensures.limits (c.requires.makes _ _ _ _ _ _ _ _ c.in-Err.ensures))
 
-pub returns-then-is_over-clause-all : goal.returns-then-is_over-clause-all
-returns-then-is_over-clause-all g c s at order prefix fits =
-    let steps = g.M.Machine.steps in let part = c.args.part in let tracks = c.args.tracks.now in let starts = c.args.starts.nodes.items in
-    let layer = c.loop-ran.layer.nodes.items in let next = c.in-Ok.next.nodes.items in let count = c.loop-ran.ran in let was = c.loop-ran.invariant in
-    let made = c.requires.next _ _ _ _ _ _ _ _ c.in-Ok.ensures in
-    let held = held_then steps part tracks starts layer next count c.deref.result.now c.only_if-opening.result c.deref.ensures.value c.only_if-opening.ensures was.reached (all_passed steps (opening c.only_if-opening.result tracks) (length tracks) c.deref.result.now next made.expanded) was.held in
+pub returns-then-is_over : goal.returns-then-is_over
+returns-then-is_over g c =
+    let steps = g.M.Machine.steps in let last = g.M.Machine.last in let breaks = g.M.Machine.breaks in let part = c.args.part in let tracks = c.args.tracks.now in let layer = c.loop-ran.layer in let count = c.loop-ran.ran in
+    let kept = c.handed_on-handed.new.layer in let next = c.in-Ok.next in
+    let was = subst (λ (v : Vec (Node g.row.M.Denot)). IsUnderway steps last part tracks c.args.starts count v.items layer.limits) (sym c.handed_on-handed.ensures.nodes) c.loop-ran.invariant in
+    let made = makes_as steps last breaks tracks c.only_if-opening.result (part_at part count) c.deref.result.now kept.nodes.items kept.limits layer.limits (Ok next) c.only_if-opening.ensures
+    c.deref.ensures.value c.handed_on-handed.ensures.limits (c.requires.makes _ _ _ _ _ _ _ _ c.in-Ok.ensures) in
     let (empty, ended) = c.is_over.ensures.0 c.if-is_over.true in
-    was.lead_on s at order (no_more steps part tracks starts next count s at held empty order prefix fits) prefix fits
-
-pub returns-then-is_over-clause-ends : goal.returns-then-is_over-clause-ends
-returns-then-is_over-clause-ends g c =
-    let steps = g.M.Machine.steps in let part = c.args.part in let tracks = c.args.tracks.now in let starts = c.args.starts.nodes.items in
-    let layer = c.loop-ran.layer.nodes.items in let next = c.in-Ok.next.nodes.items in let count = c.loop-ran.ran in let was = c.loop-ran.invariant in
-    let made = c.requires.next _ _ _ _ _ _ _ _ c.in-Ok.ensures in
-    let held = held_then steps part tracks starts layer next count c.deref.result.now c.only_if-opening.result c.deref.ensures.value c.only_if-opening.ensures was.reached (all_passed steps (opening c.only_if-opening.result tracks) (length tracks) c.deref.result.now next made.expanded) was.held in
-    let (empty, ended) = c.is_over.ensures.0 c.if-is_over.true in
-    ends_held steps part tracks starts layer next count was.reached was.held held empty was.some
-
-pub returns-then-is_over-clause-reached : goal.returns-then-is_over-clause-reached
-returns-then-is_over-clause-reached g c =
-    let steps = g.M.Machine.steps in let part = c.args.part in let tracks = c.args.tracks.now in let starts = c.args.starts.nodes.items in
-    let layer = c.loop-ran.layer.nodes.items in let next = c.in-Ok.next.nodes.items in let count = c.loop-ran.ran in let was = c.loop-ran.invariant in
-    let made = c.requires.next _ _ _ _ _ _ _ _ c.in-Ok.ensures in
-    let held = held_then steps part tracks starts layer next count c.deref.result.now c.only_if-opening.result c.deref.ensures.value c.only_if-opening.ensures was.reached (all_passed steps (opening c.only_if-opening.result tracks) (length tracks) c.deref.result.now next made.expanded) was.held in
-    let (empty, ended) = c.is_over.ensures.0 c.if-is_over.true in
-    ends_reached steps part tracks starts layer next count was.reached held empty ended
-
-pub returns-then-is_over-clause-counted : goal.returns-then-is_over-clause-counted
-returns-then-is_over-clause-counted g c =
-    let steps = g.M.Machine.steps in let part = c.args.part in let tracks = c.args.tracks.now in let starts = c.args.starts.nodes.items in
-    let layer = c.loop-ran.layer.nodes.items in let next = c.in-Ok.next.nodes.items in let count = c.loop-ran.ran in let was = c.loop-ran.invariant in
-    let made = c.requires.next _ _ _ _ _ _ _ _ c.in-Ok.ensures in
-    let held = held_then steps part tracks starts layer next count c.deref.result.now c.only_if-opening.result c.deref.ensures.value c.only_if-opening.ensures was.reached (all_passed steps (opening c.only_if-opening.result tracks) (length tracks) c.deref.result.now next made.expanded) was.held in
-    let (empty, ended) = c.is_over.ensures.0 c.if-is_over.true in
-    λ past shared. ends_shared steps part tracks starts layer next past count was.reached held empty ended was.some shared (was.counted past shared)
+    underway_over steps last part tracks c.args.starts (record kept { limits = next.limits; spares = next.spares }) count layer.limits next was made empty ended refl
 
 pub loop-ran-preserved : goal.loop-ran-preserved
 loop-ran-preserved g c =
-    let steps = g.M.Machine.steps in let part = c.args.part in let tracks = c.args.tracks.now in let starts = c.args.starts.nodes.items in
-    let layer = c.loop-ran.layer.nodes.items in let next = c.in-Ok.next.nodes.items in let count = c.loop-ran.ran in let was = c.loop-ran.invariant in
-    let chosen = c.only_if-opening.result in
-    let made = c.requires.next _ _ _ _ _ _ _ _ c.in-Ok.ensures in
-    let held = held_then steps part tracks starts layer next count c.deref.result.now chosen c.deref.ensures.value c.only_if-opening.ensures was.reached (all_passed steps (opening c.only_if-opening.result tracks) (length tracks) c.deref.result.now next made.expanded) was.held in
-    let reached = reached_then steps part tracks starts layer next count c.deref.result.now chosen c.deref.ensures.value c.only_if-opening.ensures was.reached made.from in
-    let lead = lead_on_next steps part tracks starts next count was.lead_on held in
-    let same = one_more count in
-    record {
-      lead_on = subst (λ (k : ℕ). LeadOn steps part tracks starts k) same lead;
-      held = subst (λ (k : ℕ). AreHeld steps part tracks starts k next) same held;
-      reached = subst (λ (k : ℕ). AreReached steps part tracks starts k next) same reached;
-      counted = λ past shared.
-          let before = was.counted past shared in
-          let then_ = next_shared steps tracks (opening chosen tracks) (length tracks) layer next starts past c.deref.result.now c.deref.ensures.value before.share (shares_all steps tracks (opening chosen tracks) (length tracks) c.deref.result.now next made.counted) before.shared before.meant in
-          let here = subst (λ (p : Part). IsSharedNext (IsLed steps tracks starts past) (opening p tracks) (length tracks) layer next before.share) c.only_if-opening.ensures then_ in
-          let more : IsCounted steps part tracks starts past (suc count) next = counted_next steps part tracks starts past count layer next before here in
-          subst (λ (k : ℕ). IsCounted steps part tracks starts past k next) same more;
-      layers = far_next steps g.M.Machine.last part tracks c.args.starts.limits starts layer count c.loop-ran.layer.limits c.in-Ok.next chosen c.only_if-opening.ensures was.layers
-          (subst (λ l. FollowsAll steps tracks chosen l next) c.deref.ensures.value made)
-          (subst (λ l. IsWithin c.loop-ran.layer.limits c.in-Ok.next (runs_behind g.M.Machine.last chosen tracks l)) c.deref.ensures.value (c.requires.within _ _ _ _ _ _ _ _ c.in-Ok.ensures));
-      some = some_next steps part tracks starts next count held c.requires.begins (λ over. let is = c.is_over.ensures.1 over in cc);
-    }
+    let steps = g.M.Machine.steps in let last = g.M.Machine.last in let breaks = g.M.Machine.breaks in let part = c.args.part in let tracks = c.args.tracks.now in let layer = c.loop-ran.layer in let count = c.loop-ran.ran in
+    let next = c.in-Ok.next in let new = c.behind-layer.result in
+    let made = makes_as steps last breaks tracks c.only_if-opening.result (part_at part count) c.deref.result.now layer.nodes.items c.handed_on-handed.new.layer.limits layer.limits (Ok next) c.only_if-opening.ensures
+    (c.deref.ensures.value ∙ ap (λ (v : Vec (Node g.row.M.Denot)). v.items) c.handed_on-handed.ensures.nodes) c.handed_on-handed.ensures.limits (c.requires.makes _ _ _ _ _ _ _ _ c.in-Ok.ensures) in
+    subst (λ (left : Limits). IsUnderway steps last part tracks c.args.starts (count + 1) new.nodes.items left) (sym c.behind-layer.ensures.limits)
+    (subst (λ (v : Vec (Node g.row.M.Denot)). IsUnderway steps last part tracks c.args.starts (count + 1) v.items next.limits) (sym c.behind-layer.ensures.nodes)
+    (underway_next steps last part tracks c.args.starts count layer.nodes.items layer.limits next c.loop-ran.invariant made c.requires.begins (λ over. let is = c.is_over.ensures.1 over in cc)))
 
-pub returns-in_err-restart_all-clause-broken : goal.returns-in_err-restart_all-clause-broken
-returns-in_err-restart_all-clause-broken g c = memory_breaks _ c.from_residual.result c.from_residual.ensures.1
-
-pub returns-then-is_over-clause-run : goal.returns-then-is_over-clause-run
-returns-then-is_over-clause-run g c =
-    let steps = g.M.Machine.steps in let last = g.M.Machine.last in let tracks = c.args.tracks.now in
-    let layer = c.loop-ran.layer.nodes.items in let left = c.loop-ran.layer.limits in let next = c.in-Ok.next in let chosen = c.only_if-opening.result in
-    let (empty, _) = c.is_over.ensures.0 c.if-is_over.true in
-    far_over steps last c.args.part tracks c.args.starts.limits c.args.starts.nodes.items layer c.loop-ran.ran left next chosen c.only_if-opening.ensures c.loop-ran.invariant.layers
-    (subst (λ l. FollowsAll steps tracks chosen l next.nodes.items) c.deref.ensures.value (c.requires.next _ _ _ _ _ _ _ _ c.in-Ok.ensures))
-    (subst (λ l. IsWithin left next (runs_behind last chosen tracks l)) c.deref.ensures.value (c.requires.within _ _ _ _ _ _ _ _ c.in-Ok.ensures)) empty
-
-pub returns-then-is_over-clause-states : goal.returns-then-is_over-clause-states
-returns-then-is_over-clause-states g c = (c.requires.within _ _ _ _ _ _ _ _ c.in-Ok.ensures).states ∙ c.loop-ran.invariant.layers.states
+pub returns-in_err-layer : goal.returns-in_err-layer
+returns-in_err-layer g c = memory_ends (ExploresBlock g.M.Machine.steps g.M.Machine.last g.M.Machine.breaks c.args.part c.args.tracks.now c.args.starts) c.from_residual.result tt c.from_residual.ensures.1

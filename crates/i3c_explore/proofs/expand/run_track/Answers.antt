@@ -1,98 +1,108 @@
 use borrow.Author.Count.{below_more}
-use Rattle.std.proofs.Common.{◌≡◌, ◌∙◌, ◌<◌, ◌+◌, ℕ, [], Option, ap, arith, length, subst, sym, None, Some}
+use Rattle.std.proofs.Common.{◌≡◌, ◌<◌, ◌+◌, ℕ, [], Option, ap, arith, length, subst, sym, None, Some}
 use Rattle.std.specs.Global.{Vec}
 use Rattle.std.specs.List.{slice_get, slice_index}
 use Rattle.std.proofs.lemmas.Option.{slice_get_within}
+use Rattle.i3c_explore.specs.Explorations.{Grows}
 use Rattle.i3c_explore.specs.Orders.{lines_in}
-use Rattle.i3c_explore.specs.Shares.{IsLed}
-use Rattle.i3c_explore.proofs.Counting.{gains_line, gains_no_line, gains_way}
-use Rattle.i3c_explore.proofs.Sharing.{added_none}
 use Rattle.i3c_explore.specs.Parts.{opening}
-use Rattle.i3c_explore.proofs.Opening.{opened}
+use Rattle.i3c_explore.specs.Runs.{ways_of}
+use Rattle.i3c_explore.specs.Shares.{IsLed, by_track, by_turn, by_ways}
+use Rattle.i3c_explore.proofs.Counting.{gains_line, gains_no_line, gains_way}
+use Rattle.i3c_explore.proofs.Growing.{grows_both, grows_none}
 use Rattle.i3c_explore.proofs.NextLines.{next_at, next_once}
-use Rattle.i3c_explore.proofs.Expanding.{from_more, from_same, keeps_both}
-use Rattle.i3c_explore.proofs.Running.{charged_more, charged_none}
-use Rattle.i3c_explore.specs.Runs.{IsCharged, ways_of}
+use Rattle.i3c_explore.proofs.Opening.{opened}
+use Rattle.i3c_explore.proofs.Sharing.{added_none}
+use Rattle.i3c_explore.proofs.Stopping.{stops_more}
+use Rattle.i3c_explore.proofs.expand.run_track.Given.{Over}
+use Rattle.i3c_explore.proofs.expand.run_track.Goals.{In_default}
 use Rattle.i3c_explore.proofs.expand.run_track.Goals as goal
+
+-- a line that is there runs in each way up to its last one
+ways : {S L : Type 0} (last : S → L → ℕ) (state : S) (there : Option L) (line : L) (count : ℕ) → there ≡ Some line → count ≡ last state line → ways_of last state there ≡ count + 1
+ways {S} {L} last state there line count is ran = let all = ap (λ (o : Option L). ways_of last state o) is in omega arith
+
+-- no line is there
+none : (g : Over) (c : In_default g) → slice_get (opening c.args.part c.args.tracks.now c.args.track) (slice_index c.args.node.now.places.items c.args.track) ≡ None
+none g c =
+    let here : c.args.track < length c.args.node.now.places.items = omega arith in
+    next_at (opening c.args.part c.args.tracks.now) c.args.node.now.places.items c.args.track c.index.result.now None here c.index.ensures c.in_default.ensures
 
 pub run-requires-clause-next : goal.run-requires-clause-next
 run-requires-clause-next g c =
-    let here : c.args.track < length c.args.node.now.places.items = omega arith in
-    (opened c.args.part c.args.tracks.now c.args.node.now.places.items c.args.track c.in-Some.line.now
-    (next_at (opening c.args.part c.args.tracks.now) c.args.node.now.places.items c.args.track c.index.result.now (Some c.in-Some.line.now) here c.index.ensures c.in-Some.ensures)).1
+    let is : slice_get (opening c.args.part c.args.tracks.now c.args.track) (slice_index c.args.node.now.places.items c.args.track) ≡ Some c.in-Some.line.now =
+    next_at (opening c.args.part c.args.tracks.now) c.args.node.now.places.items c.args.track c.index.result.now (Some c.in-Some.line.now) (omega arith) c.index.ensures c.in-Some.ensures in
+    (opened c.args.part c.args.tracks.now c.args.node.now.places.items c.args.track c.in-Some.line.now is).1
 
 pub loop-way-preserved : goal.loop-way-preserved
 loop-way-preserved g c =
-    let here : c.args.track < length c.args.node.now.places.items = omega arith in
-    let next_ = next_at (opening c.args.part c.args.tracks.now) c.args.node.now.places.items c.args.track c.index.result.now (Some c.in-Some.line.now) here c.index.ensures c.in-Some.ensures in
-    let done = c.in-Ok.ensures in let was = c.loop-way.invariant in
-    let old = c.args.next.now.nodes.items in let mid = c.loop-way.next.nodes.items in let new = c.run.new.next.nodes.items in record {
-      keeps = keeps_both old mid new was.keeps done.keeps;
-      ran = below_more _ _ (λ way lt. let (state, step, has) = was.ran way lt in (state, step, done.keeps _ state has)) done.ran;
-      counted = gains_way g.M.Machine.steps c.args.tracks.now c.args.node.now old mid new c.args.track c.loop-way.way was.counted done.counted;
-      charged = charged_more c.args.next.now c.loop-way.next c.run.new.next c.loop-way.way 1 was.charged done.charged;
-      near = λ _. done.near;
-      from = from_more g.M.Machine.steps (opening c.args.part c.args.tracks.now) c.args.node.now old mid new was.from (done.from (opening c.args.part c.args.tracks.now) next_);
+    let is : slice_get (opening c.args.part c.args.tracks.now c.args.track) (slice_index c.args.node.now.places.items c.args.track) ≡ Some c.in-Some.line.now =
+    next_at (opening c.args.part c.args.tracks.now) c.args.node.now.places.items c.args.track c.index.result.now (Some c.in-Some.line.now) (omega arith) c.index.ensures c.in-Some.ensures in
+    let steps = g.M.Machine.steps in let lines = opening c.args.part c.args.tracks.now in let node = c.args.node.now in let way = c.loop-way.way in let was = c.loop-way.invariant in
+    let old = c.args.next.now in let mid = c.loop-way.next in let new = c.run.new.next in
+    let done = c.in-Ok.ensures.grown lines is in record {
+      grown = grows_both steps lines c.args.tracks.now node old mid new (by_ways way c.args.track) (by_turn (record { track = c.args.track; way = way })) (by_ways (way + 1) c.args.track) way 1 was.grown done
+          (gains_way steps c.args.tracks.now node old.nodes.items mid.nodes.items new.nodes.items c.args.track way was.grown.counted done.counted);
+      ran = below_more _ _ (λ way lt. let (state, step, has) = was.ran way lt in (state, step, done.keeps _ state has)) c.in-Ok.ensures.ran;
+      near = λ _. c.in-Ok.ensures.near;
     }
+
+pub loop-way-init : goal.loop-way-init
+loop-way-init g c =
+    let next = c.args.next.now in record {
+      grown = grows_none g.M.Machine.steps (opening c.args.part c.args.tracks.now) c.args.tracks.now c.args.node.now next (by_ways 0 c.args.track)
+          (λ starts past own mine. added_none (IsLed g.M.Machine.steps c.args.tracks.now starts past) next.nodes.items);
+      ran = λ way lt. absurd (omega arith);
+      near = c.requires.again;
+    }
+
+pub returns-clause-grown : goal.returns-clause-grown
+returns-clause-grown g c =
+    let is : slice_get (opening c.args.part c.args.tracks.now c.args.track) (slice_index c.args.node.now.places.items c.args.track) ≡ Some c.in-Some.line.now =
+    next_at (opening c.args.part c.args.tracks.now) c.args.node.now.places.items c.args.track c.index.result.now (Some c.in-Some.line.now) (omega arith) c.index.ensures c.in-Some.ensures in
+    let steps = g.M.Machine.steps in let tracks = c.args.tracks.now in let lines = opening c.args.part tracks in let node = c.args.node.now in let old = c.args.next.now in let new = c.loop-way.next in let was = c.loop-way.invariant.grown in
+    let ran : c.loop-way.way ≡ ways_of g.M.Machine.last node.state (slice_get (lines c.args.track) (slice_index node.places.items c.args.track)) = (let e = ways g.M.Machine.last c.args.node.now.state (slice_get (opening c.args.part c.args.tracks.now c.args.track) (slice_index c.args.node.now.places.items c.args.track)) c.in-Some.line.now c.last_way-last.result is c.last_way-last.ensures.way in omega arith) in
+    let all : Grows steps lines tracks node old new (by_track lines node.places.items c.args.track) c.loop-way.way = record {
+      keeps = was.keeps;
+      from = was.from;
+      counted = gains_line steps tracks lines node old.nodes.items new.nodes.items c.args.track c.loop-way.way c.in-Some.line.now is (omega arith) was.counted;
+      charged = was.charged;
+      few = was.few;
+    } in
+    subst (λ (k : ℕ). Grows steps lines tracks node old new (by_track lines node.places.items c.args.track) k) ran all
 
 pub returns-clause-tracked : goal.returns-clause-tracked
 returns-clause-tracked g c line next way =
-    let steps = g.M.Machine.steps in let node = c.args.node.now in let was = c.loop-way.invariant in let last = c.last_way-last.result in
-    let here : c.args.track < length c.args.node.now.places.items = omega arith in
-    let is = next_at (opening c.args.part c.args.tracks.now) c.args.node.now.places.items c.args.track c.index.result.now (Some c.in-Some.line.now) here c.index.ensures c.in-Some.ensures in
+    let is : slice_get (opening c.args.part c.args.tracks.now c.args.track) (slice_index c.args.node.now.places.items c.args.track) ≡ Some c.in-Some.line.now =
+    next_at (opening c.args.part c.args.tracks.now) c.args.node.now.places.items c.args.track c.index.result.now (Some c.in-Some.line.now) (omega arith) c.index.ensures c.in-Some.ensures in
+    let steps = g.M.Machine.steps in let node = c.args.node.now in let was = c.loop-way.invariant in
     let same : c.in-Some.line.now ≡ line = next_once (opening c.args.part c.args.tracks.now) node.places.items c.args.track c.in-Some.line.now line is next in
     let (tried, le, leads) = c.last_way-last.ensures.last way in
     let before : tried < c.loop-way.way = omega (arith, le) in
     let (new, step, has) = was.ran tried before in (new, subst (λ l. steps node.state l way new) same (leads new step), has)
 
-pub returns-in_default-clause-from : goal.returns-in_default-clause-from
-returns-in_default-clause-from g c = from_same g.M.Machine.steps (opening c.args.part c.args.tracks.now) c.args.node.now c.args.next.now.nodes.items
-
-pub loop-way-init : goal.loop-way-init
-loop-way-init g c = record {
-  keeps = λ places state has. has;
-  ran = λ way lt. absurd (omega arith);
-  counted = λ starts past own mine. added_none (IsLed g.M.Machine.steps c.args.tracks.now starts past) c.args.next.now.nodes.items;
-  charged = charged_none c.args.next.now;
-  near = c.requires.again;
-  from = from_same g.M.Machine.steps (opening c.args.part c.args.tracks.now) c.args.node.now c.args.next.now.nodes.items;
-}
-
-pub returns-in_default-clause-counted : goal.returns-in_default-clause-counted
-returns-in_default-clause-counted g c =
-    let lines = opening c.args.part c.args.tracks.now in
-    let here : c.args.track < length c.args.node.now.places.items = omega arith in
-    gains_no_line g.M.Machine.steps c.args.tracks.now lines c.args.node.now c.args.next.now.nodes.items c.args.track
-    (next_at lines c.args.node.now.places.items c.args.track c.index.result.now None here c.index.ensures c.in_default.ensures)
-
-pub returns-clause-counted : goal.returns-clause-counted
-returns-clause-counted g c =
-    let here : c.args.track < length c.args.node.now.places.items = omega arith in
-    gains_line g.M.Machine.steps c.args.tracks.now (opening c.args.part c.args.tracks.now) c.args.node.now c.args.next.now.nodes.items c.loop-way.next.nodes.items c.args.track c.loop-way.way c.in-Some.line.now
-    (next_at (opening c.args.part c.args.tracks.now) c.args.node.now.places.items c.args.track c.index.result.now (Some c.in-Some.line.now) here c.index.ensures c.in-Some.ensures) (omega arith) c.loop-way.invariant.counted
-
-pub returns-clause-keeps : goal.returns-clause-keeps
-returns-clause-keeps g c = c.loop-way.invariant.keeps
-
-pub returns-clause-from : goal.returns-clause-from
-returns-clause-from g c = c.loop-way.invariant.from
-
 pub returns-clause-near : goal.returns-clause-near
 returns-clause-near g c = c.loop-way.invariant.near
 
-pub returns-in-Err-clause-broken : goal.returns-in-Err-clause-broken
-returns-in-Err-clause-broken g c order is =
-    let here : c.args.track < length c.args.node.now.places.items = omega arith in
-    c.in-Err.ensures.broken order is (opening c.args.part c.args.tracks.now)
-    (next_at (opening c.args.part c.args.tracks.now) c.args.node.now.places.items c.args.track c.index.result.now (Some c.in-Some.line.now) here c.index.ensures c.in-Some.ensures)
+pub returns-in-Err-clause-stopped : goal.returns-in-Err-clause-stopped
+returns-in-Err-clause-stopped g c =
+    let is : slice_get (opening c.args.part c.args.tracks.now c.args.track) (slice_index c.args.node.now.places.items c.args.track) ≡ Some c.in-Some.line.now =
+    next_at (opening c.args.part c.args.tracks.now) c.args.node.now.places.items c.args.track c.index.result.now (Some c.in-Some.line.now) (omega arith) c.index.ensures c.in-Some.ensures in
+    let lines = opening c.args.part c.args.tracks.now in let node = c.args.node.now in let was = c.loop-way.invariant.grown in
+    stops_more g.M.Machine.breaks lines node c.args.next.now c.loop-way.next c.loop-way.way 1 (ways_of g.M.Machine.last node.state (slice_get (lines c.args.track) (slice_index node.places.items c.args.track))) c.in-Err.stop
+    was.charged was.few (let e = ways g.M.Machine.last c.args.node.now.state (slice_get (opening c.args.part c.args.tracks.now c.args.track) (slice_index c.args.node.now.places.items c.args.track)) c.in-Some.line.now c.last_way-last.result is c.last_way-last.ensures.way in omega arith) (c.in-Err.ensures.stopped lines is)
 
-pub returns-in_default-clause-keeps : goal.returns-in_default-clause-keeps
-returns-in_default-clause-keeps g c = λ places state has. has
+pub returns-in_default-clause-grown : goal.returns-in_default-clause-grown
+returns-in_default-clause-grown g c =
+    let steps = g.M.Machine.steps in let tracks = c.args.tracks.now in let lines = opening c.args.part tracks in let node = c.args.node.now in let next = c.args.next.now in
+    let made = by_track lines node.places.items c.args.track in
+    let idle : 0 ≡ ways_of g.M.Machine.last node.state (slice_get (lines c.args.track) (slice_index node.places.items c.args.track)) =
+    sym (ap (λ (o : Option g.row.M-Line.Denot). ways_of g.M.Machine.last node.state o) (none g c)) in
+    subst (λ (k : ℕ). Grows steps lines tracks node next next made k) idle
+    (grows_none steps lines tracks node next made (gains_no_line steps tracks lines node next.nodes.items c.args.track (none g c)))
 
 pub returns-in_default-clause-tracked : goal.returns-in_default-clause-tracked
-returns-in_default-clause-tracked g c line next =
-    let here : c.args.track < length c.args.node.now.places.items = omega arith in
-    let none = next_at (opening c.args.part c.args.tracks.now) c.args.node.now.places.items c.args.track c.index.result.now None here c.index.ensures c.in_default.ensures in absurd (cc)
+returns-in_default-clause-tracked g c line next = let never = none g c in absurd (cc)
 
 pub returns-in_default-clause-near : goal.returns-in_default-clause-near
 returns-in_default-clause-near g c = c.requires.again
@@ -113,22 +123,7 @@ fits_behind (Some lines) place line found = let within = slice_get_within lines.
 
 pub run-requires-clause-fits : goal.run-requires-clause-fits
 run-requires-clause-fits g c =
-    let here : c.args.track < length c.args.node.now.places.items = omega arith in
+    let is : slice_get (opening c.args.part c.args.tracks.now c.args.track) (slice_index c.args.node.now.places.items c.args.track) ≡ Some c.in-Some.line.now =
+    next_at (opening c.args.part c.args.tracks.now) c.args.node.now.places.items c.args.track c.index.result.now (Some c.in-Some.line.now) (omega arith) c.index.ensures c.in-Some.ensures in
     fits_behind (slice_get c.args.tracks.now c.args.track) (slice_index c.args.node.now.places.items c.args.track) c.in-Some.line.now
-    (opened c.args.part c.args.tracks.now c.args.node.now.places.items c.args.track c.in-Some.line.now
-    (next_at (opening c.args.part c.args.tracks.now) c.args.node.now.places.items c.args.track c.index.result.now (Some c.in-Some.line.now) here c.index.ensures c.in-Some.ensures)).1
-
-pub returns-clause-charged : goal.returns-clause-charged
-returns-clause-charged g c =
-    let last = g.M.Machine.last in let node = c.args.node.now in let line = c.in-Some.line.now in
-    let here : c.args.track < length node.places.items = omega arith in
-    let next = next_at (opening c.args.part c.args.tracks.now) node.places.items c.args.track c.index.result.now (Some line) here c.index.ensures c.in-Some.ensures in
-    let ran : c.loop-way.way ≡ ways_of last node.state (Some line) = (let e = c.last_way-last.ensures.way in omega arith) in
-    subst (λ (k : ℕ). IsCharged c.args.next.now c.loop-way.next k) (ran ∙ ap (λ (o : Option g.row.M-Line.Denot). ways_of last node.state o) (sym next)) c.loop-way.invariant.charged
-
-pub returns-in_default-clause-charged : goal.returns-in_default-clause-charged
-returns-in_default-clause-charged g c =
-    let last = g.M.Machine.last in let node = c.args.node.now in
-    let here : c.args.track < length node.places.items = omega arith in
-    let none = next_at (opening c.args.part c.args.tracks.now) node.places.items c.args.track c.index.result.now None here c.index.ensures c.in_default.ensures in
-    subst (λ (k : ℕ). IsCharged c.args.next.now c.args.next.now k) (ap (λ (o : Option g.row.M-Line.Denot). ways_of last node.state o) (sym none)) (charged_none c.args.next.now)
+    (opened c.args.part c.args.tracks.now c.args.node.now.places.items c.args.track c.in-Some.line.now is).1

@@ -1,18 +1,15 @@
 use Rattle.std.proofs.Common.{◌<◌, ℕ}
 use Rattle.std.specs.Prelude.{IsTrue}
-use Rattle.i3c_explore.specs.Shares.{Gains, by_ways}
+use Rattle.i3c_explore.specs.Explorations.{Grows}
+use Rattle.i3c_explore.specs.Shares.{by_ways}
 use Rattle.i3c_explore.specs.Parts.{opening}
-use Rattle.i3c_explore.specs.Layers.{AreFrom, Has, Keeps, advanced}
-use Rattle.i3c_explore.specs.Runs.{IsCharged}
+use Rattle.i3c_explore.specs.Layers.{Has, advanced}
 use Rattle.i3c_explore.proofs.expand.run_track.Given as goal
 
 -- the line ran in the ways so far
 abbrev pub invariant-loop-way : goal.invariant-loop-way
 invariant-loop-way g l = record {
-  keeps : Keeps l.initial.next.nodes.items l.next.nodes.items;
+  grown : Grows g.M.Machine.steps (opening l.fn.part l.fn.tracks) l.fn.tracks l.fn.node l.initial.next l.next (by_ways l.way l.fn.track) l.way;
   ran : (way : ℕ) → way < l.way → (new : g.row.M.Denot) × g.M.Machine.steps l.fn.node.state l.line way new × Has l.next.nodes.items (advanced l.fn.track l.fn.node.places.items) new;
-  counted : Gains g.M.Machine.steps l.fn.tracks l.fn.node l.initial.next.nodes.items l.next.nodes.items (by_ways l.way l.fn.track);
-  charged : IsCharged l.initial.next l.next l.way;
   near : IsTrue l.near → g.M.Machine.near l.runner l.fn.node.state;
-  from : AreFrom g.M.Machine.steps (opening l.fn.part l.fn.tracks) l.fn.node l.initial.next.nodes.items l.next.nodes.items;
 }

@@ -7,5 +7,5 @@ pub returns-clause-put : goal.returns-clause-put
 returns-clause-put g c = (
   c.in-Ok.layer.nodes.items,
   subst (λ (l : List (Node g.row.M.Denot)). ArePut [] l c.in-Ok.layer.nodes.items) c.in_ok-gathered.ensures.nodes c.in-Ok.ensures.put,
-  c.in_ok-order.ensures.moved,
+  c.in_ok-order.ensures,
 )

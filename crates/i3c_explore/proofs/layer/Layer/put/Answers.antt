@@ -2,7 +2,7 @@ use Rattle.std.proofs.Common.{◌∙◌, ap, arith, inl, inr, length, refl}
 use Rattle.i3c_explore.specs.declared.node.Node.{Node}
 use Rattle.std.proofs.lemmas.List.{length-set}
 use Rattle.std.proofs.lemmas.Option.{slice_get_within}
-use Rattle.i3c_explore.proofs.Stopping.{memory_short}
+use Rattle.i3c_explore.proofs.Stopping.{memory_stops}
 use Rattle.i3c_explore.proofs.layer.Layer.put.Goals as goal
 
 pub returns-in-Some-clause-put : goal.returns-in-Some-clause-put
@@ -32,14 +32,14 @@ merge-requires g c = let (held, at, _, _) = c.in-Some.ensures in slice_get_withi
 pub moved_on-requires : goal.moved_on-requires
 moved_on-requires g c = record { within = c.requires.within; fits = c.requires.fits }
 
-pub returns-in_err-new-clause-short : goal.returns-in_err-new-clause-short
-returns-in_err-new-clause-short g c = memory_short c.from_residual-in_err-new.result c.from_residual-in_err-new.ensures.1
+pub returns-in_err-new-clause-full : goal.returns-in_err-new-clause-full
+returns-in_err-new-clause-full g c = memory_stops _ c.from_residual-in_err-new.result tt c.from_residual-in_err-new.ensures.1
 
-pub returns-in_err-places-clause-short : goal.returns-in_err-places-clause-short
-returns-in_err-places-clause-short g c = memory_short c.from_residual.result c.from_residual.ensures.1
+pub returns-in_err-places-clause-full : goal.returns-in_err-places-clause-full
+returns-in_err-places-clause-full g c = memory_stops _ c.from_residual.result tt c.from_residual.ensures.1
 
-pub returns-in_err-push-clause-short : goal.returns-in_err-push-clause-short
-returns-in_err-push-clause-short g c = memory_short c.from_residual-in_err-push.result c.from_residual-in_err-push.ensures.1
+pub returns-in_err-push-clause-full : goal.returns-in_err-push-clause-full
+returns-in_err-push-clause-full g c = memory_stops _ c.from_residual-in_err-push.result tt c.from_residual-in_err-push.ensures.1
 
 pub returns-in-Some-clause-charged : goal.returns-in-Some-clause-charged
 returns-in-Some-clause-charged g c =
