@@ -3,6 +3,7 @@ use Rattle.std.proofs.Common.{min, Result, Err, Ok, ◌≡◌, ◌≢◌, ◌∙
 use Rattle.std.specs.declared.alloc.AllocError.{AllocError}
 use Rattle.std.specs.Prelude.{IfOk}
 use Rattle.std.proofs.Math.Nat.{le-max_left, le-max_right}
+use Rattle.std.proofs.lemmas.Bool.{false≢true}
 use Rattle.std.proofs.lemmas.Bool.Decides.{leb_tells, nat_tests}
 use Rattle.i3c_base.specs.declared.answers.Answer.{Answer}
 use Rattle.i3c_base.specs.declared.datum.Datum.{Datum}
@@ -113,7 +114,7 @@ with_cuts old cuts = seen old.state old.settings cuts old.names
 -- a step of an event is one of another event with other cuts, if both leave the same cuts
 moves_as : (old : Seen) (d : CutList) (e f : Event) (reply : Reply) (new : Seen) → cuts_left e old.cuts ≡ cuts_left f d → (Step old.state e reply new.state → Step old.state f reply new.state)
     → Moves no_past (on_bus old) e reply (on_bus new) → Moves no_past (on_bus (with_cuts old d)) f reply (on_bus new)
-moves_as old d e f reply new left step h = record { sent = h.sent; step = step h.step; sends = tt; settings = h.settings; cuts = h.cuts ∙ left; past = h.past }
+moves_as old d e f reply new left step h = record { sent = h.sent; step = step h.step; sends = λ kept. absurd (false≢true kept); settings = h.settings; cuts = h.cuts ∙ left; past = h.past }
 
 frame_left : (frame : Frame) (policy : Fixed) (c d : CutList) → cuts_left (event_of frame policy c) c ≡ cuts_left (event_of frame policy d) d
 frame_left frame policy c d = all_taken (event_of frame policy c) c (carries_cuts frame policy c) ∙ sym (all_taken (event_of frame policy d) d (carries_cuts frame policy d))
@@ -121,7 +122,7 @@ frame_left frame policy c d = all_taken (event_of frame policy c) c (carries_cut
 -- and in a whole session, in which only the opening frame takes the cuts
 assigns_late : (old : Seen) (pieces : List Piece) (refused : Option Refusal) (new : Seen) (s bit : ℕ) → s ≢ old.state.active → 18 < bit → Assigns no_past (on_bus old) pieces refused (on_bus new)
     → Assigns no_past (on_bus (with_cuts old (cut_at old.cuts s bit))) pieces refused (on_bus new)
-assigns_late old pieces refused new s bit other late (inl (served, given, complete, session, told)) = inl (
+assigns_late old pieces refused new s bit other late (inl (served, given, complete, session, told, is)) = inl (
   served,
   given,
   complete,
@@ -131,17 +132,19 @@ assigns_late old pieces refused new s bit other late (inl (served, given, comple
     opens = step_late old.state (Event.OpenDaa old.cuts) (Reply.Opened served) session.opened s bit other late session.opens;
     gives = session.gives;
     ends = session.ends;
-    sends = tt;
+    sends = λ kept. absurd (false≢true kept);
     settings = session.settings;
     cuts = session.cuts;
   },
   told,
+  is,
 )
-assigns_late old pieces refused new s bit other late (inr (why, moves, told)) = inr (
+assigns_late old pieces refused new s bit other late (inr (why, moves, told, is)) = inr (
   why,
   moves_as old (cut_at old.cuts s bit) (Event.OpenDaa old.cuts) (Event.OpenDaa (cut_at old.cuts s bit)) (Reply.Refused why) new refl
       (step_late old.state (Event.OpenDaa old.cuts) (Reply.Refused why) new.state s bit other late) moves,
   told,
+  is,
 )
 
 -- a command that sends a frame does the same with a late cut

@@ -41,8 +41,8 @@ answered_in old new names name event pieces refused h =
     either (slot_meant known_kept names name) (λ slot. Answers no_past old (event slot) pieces refused new) (λ why. (new ≡ old) × IsRefused why pieces refused) h (λ slot a. a.1.settings) (λ why r. same_kept old old new refl r.0)
 
 assigned : (old new : Situation Unkept) (pieces : List Piece) (refused : Option Refusal) → Assigns no_past old pieces refused new → Keeps old new
-assigned old new pieces refused (inl (served, given, complete, session, told)) = session.settings
-assigned old new pieces refused (inr (why, moves, told)) = moves.settings
+assigned old new pieces refused (inl (served, given, complete, session, told, why)) = session.settings
+assigned old new pieces refused (inr (why, moves, told, is)) = moves.settings
 
 keeps : (old new : Situation Unkept) (names : List Named) (command : Command) (pieces : List Piece) (refused : Option Refusal) → sets_some (Some command) ≡ false → DoesOn no_past known_kept old names command pieces refused new → Keeps old new
 keeps old new names (Command.Frame frame) pieces refused n (fixed, accepts, answers) = answers.1.settings

@@ -25,14 +25,14 @@ use Rattle.i3c_script.specs.Assigning.{Assigns, IsSession, IsSessionTold, Rounds
 use Rattle.i3c_script.specs.Hearing.{Hears}
 use Rattle.i3c_script.specs.Situations.{PastKept, Situation, situation}
 use Rattle.i3c_script.proofs.Hearing.{hears_by}
-use Rattle.i3c_script.proofs.Moving.{moved, unsent}
+use Rattle.i3c_script.proofs.Moving.{moved, sent_by, unsent}
 
 -- the rounds of an assignment are steps
 pub rounds : (old : State) (answers : List RoundReply) (wire : List Symbol) (new : State) → AreRounds old answers wire new → Rounds old answers new
 rounds old [] wire new h = h.1
 rounds old (answer ∷ later) wire new (mid, first, rest, sent, more, is) = (mid, sent.0, rounds mid later rest new more)
 
-module _ {P : Type 0} (past : PastKept P) (note : P → Symbol → P → Type 0) (noted : (old new : P) (Is : List Symbol → Type 0) → Tells note old new Is → past.sends old Is new) where
+module _ {P : Type 0} (past : PastKept P) (note : P → Symbol → P → Type 0) (noted : (old : P) (symbol : Symbol) (new : P) → note old symbol new → past.notes old symbol new) where
   -- an assignment is a session of the bus, and its wire is kept
   as_session : (st new : State) (settings : Settings) (cuts : CutList) (was now : P) (served : Served) (given : List (ℕ × Identity)) (complete : Bool) → Tells note was now (IsAssignment st cuts served given complete new)
       → IsSession past (situation st settings cuts was) served given complete (situation new settings no_cuts now)
@@ -42,36 +42,37 @@ module _ {P : Type 0} (past : PastKept P) (note : P → Symbol → P → Type 0)
     opens = a.opens.0;
     gives = rounds a.opened (map given_reply given ++ last_reply complete ∷ []) a.rounds a.last a.gives;
     ends = a.ends.0;
-    sends = noted was now (IsAssignment st cuts served given complete new) (wire, notes, a);
+    sends = sent_by past note noted was now (IsAssignment st cuts served given complete new) (wire, notes, a);
     settings = refl;
     cuts = refl;
   }
 
   module _ {L : Type 0} (heard : L → Piece → L) where
     -- a session that was played, or whose opening was refused, is heard
-    pub assigned : (st new : State) (settings : Settings) (cuts : CutList) (was now : P) (served : Served) (given : List (ℕ × Identity)) (complete : Bool) (played : Result (Unit {0}) ActiveStays) (before after : L) (result : Result (Unit {0}) (Stop Refusal))
+    pub assigned : {C : Type 0} (st new : State) (settings : Settings) (cuts : CutList) (was now : P) (served : Served) (given : List (ℕ × Identity)) (complete : Bool) (played : Result (Unit {0}) ActiveStays) (before after : L) (result : Result (Unit {0}) (Stop Refusal))
         → OnOk played (Tells note was now (IsAssignment st cuts served given complete new))
-        → IfErr played (λ why. Step st (Event.OpenDaa cuts) (Reply.Refused BusRefusal.ActiveStays) new × Tells note was now (IsWire st (Event.OpenDaa cuts) (Reply.Refused BusRefusal.ActiveStays) new))
+        → (C → Step st (Event.OpenDaa cuts) (Reply.Refused BusRefusal.ActiveStays) new) → (C → Tells note was now (IsWire st (Event.OpenDaa cuts) (Reply.Refused BusRefusal.ActiveStays) new)) → IfErr played (λ why. C)
         → Hears heard (IsSessionTold played served given complete) before after result
         → Hears heard (λ pieces refused. Assigns past (situation st settings cuts was) pieces refused (situation new settings no_cuts now)) before after result
-    assigned st new settings cuts was now served given complete (Ok done) before after result plays refuses told =
+    assigned st new settings cuts was now served given complete (Ok done) before after result plays step tells refuses told =
         hears_by heard (IsSessionTold (Ok done) served given complete) (λ pieces refused. Assigns past (situation st settings cuts was) pieces refused (situation new settings no_cuts now))
         (λ pieces refused is. inl (served, given, complete, as_session st new settings cuts was now served given complete plays, is.0, is.1)) before after result told
-    assigned st new settings cuts was now served given complete (Err why) before after result plays refuses told =
+    assigned st new settings cuts was now served given complete (Err why) before after result plays step tells refuses told =
         hears_by heard (IsSessionTold (Err why) served given complete) (λ pieces refused. Assigns past (situation st settings cuts was) pieces refused (situation new settings no_cuts now))
         (λ pieces refused is.
-            inr (BusRefusal.ActiveStays, moved past st new settings cuts was now (Event.OpenDaa cuts) (Reply.Refused BusRefusal.ActiveStays) refuses.0 (noted was now _ refuses.1), is.0, is.1)) before after result told
+        inr (BusRefusal.ActiveStays, moved past st new settings cuts was now (Event.OpenDaa cuts) (Reply.Refused BusRefusal.ActiveStays) (step refuses) (sent_by past note noted was now _ (tells refuses)), is.0, is.1)) before after result told
 
-    -- while a session is open none is opened
-    pub stays_open : (hand : Hand) (session : ℕ) (st : State) (settings : Settings) (cuts : CutList) (was : P) (listener : L) → hand ≡ Hand.Session session → HandFits hand st
-        → Hears heard (λ pieces refused. Assigns past (situation st settings cuts was) pieces refused (situation st settings no_cuts was)) listener listener (Err (Stop.Refused (Refusal.Bus BusRefusal.SessionOpen)))
-    stays_open hand session st settings cuts was listener is fits =
-        let opened : st.in_session ≡ true = fits.1 ∙ ap is_session is in
-        let refused : Step st (Event.OpenDaa cuts) (Reply.Refused BusRefusal.SessionOpen) st =
-        subst (λ b. MatchOption (first_refusal ((b, BusRefusal.SessionOpen) ∷ (cuts_active st cuts, BusRefusal.ActiveStays) ∷ []))
-        (IsShort st (Event.OpenDaa cuts) (Reply.Refused BusRefusal.SessionOpen) st ⊎ Acts st (Event.OpenDaa cuts) (Reply.Refused BusRefusal.SessionOpen) st)
-        (λ why. (Reply.Refused BusRefusal.SessionOpen ≡ Reply.Refused why) × (st ≡ st))) (sym opened) (refl, refl) in
-        ([], refl, inr (BusRefusal.SessionOpen, unsent past note noted st st settings cuts was (Event.OpenDaa cuts) (Reply.Refused BusRefusal.SessionOpen) refl refused refl, refl, refl))
+module _ {P L : Type 0} (past : PastKept P) (heard : L → Piece → L) where
+  -- while a session is open none is opened
+  pub stays_open : (hand : Hand) (session : ℕ) (st : State) (settings : Settings) (cuts : CutList) (was : P) (listener : L) → hand ≡ Hand.Session session → HandFits hand st
+      → Hears heard (λ pieces refused. Assigns past (situation st settings cuts was) pieces refused (situation st settings no_cuts was)) listener listener (Err (Stop.Refused (Refusal.Bus BusRefusal.SessionOpen)))
+  stays_open hand session st settings cuts was listener is fits =
+      let opened : st.in_session ≡ true = fits.1 ∙ ap is_session is in
+      let refused : Step st (Event.OpenDaa cuts) (Reply.Refused BusRefusal.SessionOpen) st =
+      subst (λ b. MatchOption (first_refusal ((b, BusRefusal.SessionOpen) ∷ (cuts_active st cuts, BusRefusal.ActiveStays) ∷ []))
+      (IsShort st (Event.OpenDaa cuts) (Reply.Refused BusRefusal.SessionOpen) st ⊎ Acts st (Event.OpenDaa cuts) (Reply.Refused BusRefusal.SessionOpen) st)
+      (λ why. (Reply.Refused BusRefusal.SessionOpen ≡ Reply.Refused why) × (st ≡ st))) (sym opened) (refl, refl) in
+      ([], refl, inr (BusRefusal.SessionOpen, unsent past st st settings cuts was (Event.OpenDaa cuts) (Reply.Refused BusRefusal.SessionOpen) refl refused refl, refl, refl))
 
 -- a session uses up the cuts that waited
 pub used_up : {P L : Type 0} (past : PastKept P) (heard : L → Piece → L) (old : Situation P) (st new : State) (settings : Settings) (cuts left : CutList) (was now : P) (before after : L) (result : Result (Unit {0}) (Stop Refusal)) → situation st settings cuts was ≡ old

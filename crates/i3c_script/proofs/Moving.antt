@@ -1,5 +1,5 @@
 -- Steps of a bus on which lines are obeyed.
-use Rattle.std.proofs.Common.{◌≡◌, ◌∙◌, ℕ, ◌+◌, Bool, true, false, cond, List, [], ◌++◌, length, Option, Some, None, Result, Ok, Err, ap, refl, sym, subst}
+use Rattle.std.proofs.Common.{◌≡◌, ◌∙◌, ℕ, ◌+◌, Bool, true, false, cond, List, [], ◌∷◌, ◌++◌, length, Option, Some, None, Result, Ok, Err, ap, refl, sym, subst}
 use Rattle.std.proofs.lemmas.Bool.{false≢true}
 use Rattle.std.specs.Option.{is_some}
 use Rattle.std.specs.Prelude.{MatchResult}
@@ -7,7 +7,7 @@ use Rattle.i3c_base.specs.declared.requests.Fixed.{Fixed}
 use Rattle.i3c_base.specs.Cutting.{CutList, no_cuts}
 use Rattle.i3c_base.specs.State.{State}
 use Rattle.i3c_frame.specs.declared.symbols.Symbol.{Symbol}
-use Rattle.i3c_frame.specs.Taps.{Tells}
+use Rattle.i3c_frame.specs.Taps.{NotesAll, Tells}
 use Rattle.i3c_frame.proofs.TapLaws.{NotesAll-nil}
 use Rattle.i3c_step.specs.declared.events.Command.{Command as Frame}
 use Rattle.i3c_step.specs.declared.events.Event.{Event}
@@ -36,7 +36,7 @@ use Rattle.i3c_script.specs.Pieces.{frame_subject, subject_of}
 use Rattle.i3c_script.specs.Assigning.{Moves, cuts_left, ended_by}
 use Rattle.i3c_script.specs.Accepting.{Accepts}
 use Rattle.i3c_script.specs.Obeying.{Answers, AnswersIn, AnswersOf, IsRefused, Sends}
-use Rattle.i3c_script.specs.Situations.{PastKept, Situation, situation}
+use Rattle.i3c_script.specs.Situations.{PastKept, Sends as IsSent, Situation, situation}
 use Rattle.i3c_script.specs.Telling.{IsTold, Prints}
 use Rattle.i3c_script.proofs.Hearing.{hears_by}
 
@@ -44,9 +44,17 @@ use Rattle.i3c_script.proofs.Hearing.{hears_by}
 pub all_taken : (event : Event) (cuts : CutList) → is_some (cuts_in event) ≡ true → cuts_left event cuts ≡ no_cuts
 all_taken event cuts frame = ap (λ b. cond b no_cuts cuts) frame
 
+-- symbols that were noted are sent
+pub sent_by : {P : Type 0} (past : PastKept P) (note : P → Symbol → P → Type 0) → ((old : P) (symbol : Symbol) (new : P) → note old symbol new → past.notes old symbol new) → (old new : P) (Is : List Symbol → Type 0) → Tells note old new Is → IsSent past old Is new
+sent_by past note noted old new Is (wire, notes, is) = λ kept. (wire, all wire old notes, is)
+  where
+    all : (symbols : List Symbol) (from : _) → NotesAll note from symbols new → NotesAll past.notes from symbols new
+    all [] from same = same
+    all (symbol ∷ rest) from (mid, one, more) = (mid, noted from symbol mid one, all rest mid more)
+
 module _ {P : Type 0} (past : PastKept P) where
   -- a step of the bus, whose wire is kept
-  pub moved : (old new : State) (settings : Settings) (cuts : CutList) (before sent : P) (event : Event) (reply : Reply) → Step old event reply new → past.sends before (IsWire old event reply new) sent
+  pub moved : (old new : State) (settings : Settings) (cuts : CutList) (before sent : P) (event : Event) (reply : Reply) → Step old event reply new → IsSent past before (IsWire old event reply new) sent
       → Moves past (situation old settings cuts before) event reply (situation new settings (cuts_left event cuts) (ended_by past reply old.active (settings.forgotten + length new.records) sent))
   moved old new settings cuts before sent event reply step is = record { sent = sent; step = step; sends = is; settings = refl; cuts = refl; past = refl }
 
@@ -65,7 +73,7 @@ module _ {P : Type 0} (past : PastKept P) where
     answers_framed old mid new event before after result frame same h =
         hears_by heard (λ pieces refused. Answers past mid event pieces refused new) (λ pieces refused. Answers past old event pieces refused new)
         (λ pieces refused a.
-            (a.0, framed old new event a.0 frame (subst (λ r. Moves past r event a.0 new) same a.1), subst (λ (r : Situation P). IsTold (subject_of event) (reply_from r.settings.forgotten a.0) pieces refused) same a.2)) before after result h
+        (a.0, framed old new event a.0 frame (subst (λ r. Moves past r event a.0 new) same a.1), subst (λ (r : Situation P). IsTold (subject_of event) (reply_from r.settings.forgotten a.0) pieces refused) same a.2)) before after result h
 
     -- a step whose reply is heard
     pub answered : (subject : Subject) (old new : Situation P) (event : Event) (reply : Reply) (before after : L) (result : Result (Unit {0}) (Stop Refusal)) → Moves past old event reply new
@@ -143,7 +151,7 @@ unhanded old new frame policy cuts reply step = go (is_handed reply) refl
 module _ {P L : Type 0} (past : PastKept P) (heard : L → Piece → L) where
   -- a frame under the role
   pub sent : (old new : State) (settings : Settings) (fixed : Fixed) (cuts left : CutList) (was now : P) (frame : Frame) (reply : Reply) (before after : L) (result : Result (Unit {0}) (Stop Refusal))
-      → Accepts settings old fixed → left ≡ no_cuts → Step old (event_of frame fixed cuts) reply new → past.sends was (IsWire old (event_of frame fixed cuts) reply new) now
+      → Accepts settings old fixed → left ≡ no_cuts → Step old (event_of frame fixed cuts) reply new → IsSent past was (IsWire old (event_of frame fixed cuts) reply new) now
       → Hears heard (IsTold (frame_subject frame) (reply_from settings.forgotten reply)) before after result
       → Hears heard (λ pieces refused. Sends past (situation old settings cuts was) frame pieces refused (situation new settings left now)) before after result
   sent old new settings fixed cuts left was now frame reply before after result accepts none step wire told =
@@ -158,15 +166,14 @@ module _ {P L : Type 0} (past : PastKept P) (heard : L → Piece → L) where
       (moved past old new settings cuts was now event reply step wire)))
       (subst (λ subject. Hears heard (IsTold subject (reply_from settings.forgotten reply)) before after result) (one_subject frame fixed cuts) told))
 
--- a past that is kept of noted symbols
-module _ {P : Type 0} (past : PastKept P) (note : P → Symbol → P → Type 0) (noted : (old new : P) (Is : List Symbol → Type 0) → Tells note old new Is → past.sends old Is new) where
+module _ {P : Type 0} (past : PastKept P) where
   -- a step that sends nothing
   pub unsent : (old new : State) (settings : Settings) (cuts : CutList) (was : P) (event : Event) (reply : Reply) → is_handed reply ≡ false → Step old event reply new → IsWire old event reply new []
       → Moves past (situation old settings cuts was) event reply (situation new settings (cuts_left event cuts) was)
   unsent old new settings cuts was event reply still step is = record {
     sent = was;
     step = step;
-    sends = noted was was (IsWire old event reply new) ([], NotesAll-nil note was, is);
+    sends = λ kept. ([], NotesAll-nil past.notes was, is);
     settings = refl;
     cuts = refl;
     past = sym (ended_still past reply old.active (settings.forgotten + length new.records) was still);

@@ -87,8 +87,7 @@ session_on steps old new served given complete (gone, many, legal) session =
     (steps_go_on_alike gone old.state session.opened (Event.OpenDaa old.cuts) (Reply.Opened served) session.opens) in
     let played = rounds_on gone (steps ++ opening) session.opened session.last answers opened session.gives in
     let ended = step_more ((steps ++ opening) ++ rounds_made answers) (behind gone session.last) (behind gone new.state) Event.EndDaa Reply.Ended played
-    (steps_go_on_alike gone session.last new.state Event.EndDaa Reply.Ended session.ends) in
-    (
+    (steps_go_on_alike gone session.last new.state Event.EndDaa Reply.Ended session.ends) in (
       gone,
       many ∙ sym (ap (λ (settings : Settings). settings.forgotten) session.settings),
       subst (λ count. AreLegal (steps ++ session_made old.cuts (counted_from count served) given complete) (behind gone new.state)) many
@@ -96,8 +95,8 @@ session_on steps old new served given complete (gone, many, legal) session =
     )
 
 assigns_on : (steps : List Made) (old new : Situation Told) (pieces : List Piece) (refused : Option Refusal) → AreLegalBehind steps old → (h : Assigns told_past old pieces refused new) → AreLegalBehind (steps ++ assigns_made old pieces refused new h) new
-assigns_on steps old new pieces refused r (inl (served, given, complete, session, told)) = session_on steps old new served given complete r session
-assigns_on steps old new pieces refused r (inr (why, m, told)) = moves_on steps old new (Event.OpenDaa old.cuts) (Reply.Refused why) r m
+assigns_on steps old new pieces refused r (inl (served, given, complete, session, told, why)) = session_on steps old new served given complete r session
+assigns_on steps old new pieces refused r (inr (why, m, told, is)) = moves_on steps old new (Event.OpenDaa old.cuts) (Reply.Refused why) r m
 
 in_on : (steps : List Made) (slot : Result ℕ Refusal) (old new : Situation Told) (event : ℕ → Event) (pieces : List Piece) (refused : Option Refusal) → AreLegalBehind steps old
     → (h : MatchResult slot (λ s. Answers told_past old (event s) pieces refused new) (λ why. (new ≡ old) × IsRefused why pieces refused)) → AreLegalBehind (steps ++ slot_made slot old event pieces refused new h) new

@@ -16,7 +16,7 @@ use Rattle.i3c_bus.specs.Wire.{IsWire}
 use Rattle.i3c_lines.specs.declared.refusals.Refusal.{Refusal}
 use Rattle.i3c_script.specs.declared.piece.Piece.{Piece}
 use Rattle.i3c_script.specs.Pieces.{behind_request, session_pieces}
-use Rattle.i3c_script.specs.Situations.{PastKept, Situation, recorded_in}
+use Rattle.i3c_script.specs.Situations.{PastKept, Sends, Situation, recorded_in}
 
 -- the cuts that wait after an event: a frame takes them all
 abbrev pub cuts_left : Event → CutList → CutList
@@ -30,7 +30,7 @@ ended_by kept reply slot records past = if is_handed reply then kept.ends past s
 pub record Moves {P : Type 0} (kept : PastKept P) (old : Situation P) (event : Event) (reply : Reply) (new : Situation P) : Type 0 where
   pub sent : P
   pub step : Step old.state event reply new.state
-  pub sends : kept.sends old.past (IsWire old.state event reply new.state) sent
+  pub sends : Sends kept old.past (IsWire old.state event reply new.state) sent
   pub settings : new.settings ≡ old.settings
   pub cuts : new.cuts ≡ cuts_left event old.cuts
   pub past : new.past ≡ ended_by kept reply old.state.active (recorded_in new) sent
@@ -48,7 +48,7 @@ pub record IsSession {P : Type 0} (kept : PastKept P) (old : Situation P) (serve
   pub opens : Step old.state (Event.OpenDaa old.cuts) (Reply.Opened served) opened
   pub gives : Rounds opened (map given_reply given ++ last_reply complete ∷ []) last
   pub ends : Step last Event.EndDaa Reply.Ended new.state
-  pub sends : kept.sends old.past (IsAssignment old.state old.cuts served given complete new.state) new.past
+  pub sends : Sends kept old.past (IsAssignment old.state old.cuts served given complete new.state) new.past
   pub settings : new.settings ≡ old.settings
   pub cuts : new.cuts ≡ no_cuts
 
@@ -65,5 +65,5 @@ IsSessionTold (Err why) served given complete pieces refused = (pieces ≡ []) �
 abbrev pub Assigns : {P : Type 0} → PastKept P → Situation P → List Piece → Option Refusal → Situation P → Type 0
 Assigns kept old pieces refused new =
     ((served : Served) × (given : List (ℕ × Identity)) × (complete : Bool) × IsSession kept old served given complete new
-        × (pieces ≡ behind_request served (session_pieces given complete)) × (refused ≡ session_refusal complete))
+    × (pieces ≡ behind_request served (session_pieces given complete)) × (refused ≡ session_refusal complete))
     ⊎ ((why : BusRefusal) × Moves kept old (Event.OpenDaa old.cuts) (Reply.Refused why) new × (pieces ≡ []) × (refused ≡ Some (Refusal.Bus why)))

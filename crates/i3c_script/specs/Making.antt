@@ -51,8 +51,8 @@ session_made cuts served given complete = record { event = Event.OpenDaa cuts; r
 -- the events of `daa` with their replies: those of a session, whose opening counts the records that left the log too, or the
 -- refused opening
 abbrev pub assigns_made : (old : Situation Told) (pieces : List Piece) (refused : Option Refusal) (new : Situation Told) → Assigns told_past old pieces refused new → List Made
-assigns_made old pieces refused new (inl (served, given, complete, session, told)) = session_made old.cuts (counted_from old.settings.forgotten served) given complete
-assigns_made old pieces refused new (inr (why, moved, told)) = one (Event.OpenDaa old.cuts) (Reply.Refused why)
+assigns_made old pieces refused new (inl (served, given, complete, session, told, why)) = session_made old.cuts (counted_from old.settings.forgotten served) given complete
+assigns_made old pieces refused new (inr (why, moved, told, is)) = one (Event.OpenDaa old.cuts) (Reply.Refused why)
 
 -- the event that a command asks for, with its reply, which counts the records that left the log too
 abbrev pub answer_made : (subject : Subject) (old : Situation Told) (event : Event) (pieces : List Piece) (refused : Option Refusal) (new : Situation Told) → AnswersOf told_past subject old event pieces refused new → List Made

@@ -1,5 +1,5 @@
 -- What a line finds on a bus, and leaves there.
-use Rattle.std.specs.Prelude.{◌≡◌, ℕ, ◌+◌, List, [], ◌∷◌, ◌++◌, length}
+use Rattle.std.specs.Prelude.{◌≡◌, ℕ, ◌+◌, Bool, true, IsTrue, List, [], ◌∷◌, ◌++◌, length}
 use Rattle.circular_buffer.specs.Buffer.{keep_last}
 use Rattle.i3c_base.specs.Cutting.{CutList}
 use Rattle.i3c_base.specs.State.{State}
@@ -18,13 +18,18 @@ pub record Situation (P : Type 0) : Type 0 where
 abbrev pub situation : {P : Type 0} → State → Settings → CutList → P → Situation P
 situation state settings cuts past = record { state = state; settings = settings; cuts = cuts; past = past }
 
--- how the past is kept: what it becomes behind symbols of which something holds, and behind a tenure of a slot that ended at so
--- many records; and which symbols and tenures it tells
+-- how the past is kept: whether symbols are kept, what it becomes behind one that is noted, and behind a tenure of a slot that
+-- ended at so many records; and which symbols and tenures it tells
 pub record PastKept (P : Type 0) : Type 1 where
-  pub sends : P → (List Symbol → Type 0) → P → Type 0
+  pub keeps_wire : Bool
+  pub notes : P → Symbol → P → Type 0
   pub ends : P → ℕ → ℕ → P
   pub symbols : P → List Symbol
   pub ended : P → List Tenure
+
+-- symbols of a wire with this property were sent: where symbols are kept, they were noted in order
+abbrev pub Sends : {P : Type 0} → PastKept P → P → (List Symbol → Type 0) → P → Type 0
+Sends kept old Is new = IsTrue kept.keeps_wire → Tells kept.notes old new Is
 
 -- how many interrupts were recorded: those that left the log, and those in it
 abbrev pub recorded_in : {P : Type 0} → Situation P → ℕ
@@ -49,7 +54,7 @@ with_tenure told slot records = record told { ended = told.ended ++ record { slo
 
 -- how a script keeps the past: it notes each symbol that is sent
 abbrev pub told_past : PastKept Told
-told_past = record { sends = λ old Is new. Tells notes old new Is; ends = with_tenure; symbols = last_symbols; ended = λ told. told.ended }
+told_past = record { keeps_wire = true; notes = notes; ends = with_tenure; symbols = last_symbols; ended = λ told. told.ended }
 
 -- these symbols are the last ones of a wire, which keeps no more than its last symbols
 abbrev pub IsEnd : List Symbol → List Symbol → Type 0

@@ -72,7 +72,7 @@ impl Past for Journal {
 
     ghost kept = { told_past };
 
-    ghost noted = { λ _ _ _ told. told };
+    ghost noted = { λ _ _ _ noted. noted };
 
     fn end_tenure(&mut self, slot: Slot, records: usize) -> Result<(), AllocError> {
         self.ended.push(Tenure { slot, records })?;
@@ -83,11 +83,7 @@ impl Past for Journal {
         self.wires.hear(listener)
     }
 
-    fn hear_frames<L: Listener>(
-        &mut self,
-        count: u16,
-        listener: &mut L,
-    ) -> Result<(), AllocError> {
+    fn hear_frames<L: Listener>(&mut self, count: u16, listener: &mut L) -> Result<(), AllocError> {
         self.wires.hear_frames(count, listener)
     }
 

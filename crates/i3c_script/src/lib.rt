@@ -8,12 +8,13 @@
 //! * `stage` is where a script is, before its bus and with it. `script_bus` obeys a line's command on a bus, whoever listens,
 //!   however names are kept (`Naming` of `i3c_lines`) and whatever is kept of the past (`past`). `journal` is what scripts
 //!   keep of it. `settings` is what lines have set. `slot_lookup` finds the slots that names mean.
-//! * `replies` has the pieces of a reply and of a whole session, `show` those of the bus, and `details` those of all that it
+//! * `assigning` plays the whole session of a `daa`. `replies` has the pieces of a reply and of such a session, `show` those of the bus, and `details` those of all that it
 //!   is; `tenures` those of the active controllers at the times of recorded interrupts. `wires` keeps the last symbols;
 //!   `symbols` and `frames` have their pieces.
 //! * `outcomes` gives the result of a line, by the bus's reply. `laws` says that lines make legal runs.
 #![tactic(auto)]
 
+mod assigning;
 mod details;
 mod frames;
 mod journal;
@@ -32,8 +33,8 @@ mod symbols;
 mod tenures;
 mod wires;
 
-pub use laws::scripts_are_legal_runs;
 pub use journal::Journal;
+pub use laws::scripts_are_legal_runs;
 pub use past::{Past, Unkept};
 pub use piece::{Deaf, Description, Listener, Piece};
 pub use script_bus::ScriptBus;

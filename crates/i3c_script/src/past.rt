@@ -1,6 +1,5 @@
-ghost use Rattle.std.specs.Prelude.{◌≡◌, List, OnOk};
+ghost use Rattle.std.specs.Prelude.{◌≡◌, OnOk};
 ghost use Rattle.i3c_frame.specs.declared.symbols.Symbol.{Symbol as SymbolValue};
-ghost use Rattle.i3c_frame.specs.Taps.{Tells};
 ghost use Rattle.i3c_script.specs.Hearing.{all_heard};
 ghost use Rattle.i3c_script.specs.Pieces.{frames_pieces, symbols_pieces, tenures_pieces};
 ghost use Rattle.i3c_script.specs.Situations.{PastKept};
@@ -57,8 +56,8 @@ pub trait Past: Tap {
     ) -> Result<(), AllocError>
         ensures { OnOk result (listener.new ≡ all_heard L.heard listener.old (tenures_pieces (kept.ended self.now) active records)) };
 
-    /// Symbols that it was told as a tap were sent.
-    ghost noted: { (old new : Self) (Is : List SymbolValue → Type 0) → Tells Self.Tap.note_gives old new Is → kept.sends old Is new };
+    /// It keeps what it is told as a tap.
+    ghost noted: { (old : Self) (symbol : SymbolValue) (new : Self) → Self.Tap.note_gives old symbol new → kept.notes old symbol new };
 }
 
 /// Keeps nothing of the past.
@@ -86,11 +85,7 @@ impl Past for Unkept {
         hear_line(&[], listener)
     }
 
-    fn hear_frames<L: Listener>(
-        &mut self,
-        count: u16,
-        listener: &mut L,
-    ) -> Result<(), AllocError> {
+    fn hear_frames<L: Listener>(&mut self, count: u16, listener: &mut L) -> Result<(), AllocError> {
         hear_frames(&[], usize::from(count), listener)
     }
 

@@ -322,10 +322,7 @@ pub(crate) fn hear_session<L: Listener>(
 }
 
 /// The addresses that a session gave, in order.
-fn hear_given<L: Listener>(
-    given: &[(Addr7, Identity)],
-    listener: &mut L,
-) -> Result<(), AllocError>
+fn hear_given<L: Listener>(given: &[(Addr7, Identity)], listener: &mut L) -> Result<(), AllocError>
     ensures { OnOk result (listener.new ≡ all_heard L.heard listener.old (given_pieces given.now)) }
 {
     let mut rest = given;
@@ -337,10 +334,7 @@ fn hear_given<L: Listener>(
 }
 
 /// A round of a session.
-fn hear_round<L: Listener>(
-    answer: &RoundReply,
-    listener: &mut L,
-) -> Result<(), AllocError>
+fn hear_round<L: Listener>(answer: &RoundReply, listener: &mut L) -> Result<(), AllocError>
     ensures { OnOk result (listener.new ≡ all_heard L.heard listener.old (round_pieces answer.now)) }
 {
     match answer {

@@ -2,16 +2,16 @@ ghost use Rattle.std.specs.Prelude.{◌≡◌, ◌+◌, Some, None, length, OnOk
 ghost use Rattle.i3c_base.specs.Cutting.{no_cuts};
 ghost use Rattle.i3c_bus.specs.Hands.{HandFits};
 ghost use Rattle.i3c_bus.specs.declared.hand.Hand.{Hand as HandValue};
-ghost use Rattle.i3c_script.specs.Assigning.{IsSessionTold, ended_by};
-ghost use Rattle.i3c_script.specs.Hearing.{Hears};
+ghost use Rattle.i3c_script.specs.Assigning.{ended_by};
 
+use crate::assigning;
 use crate::details::hear_all;
-use crate::outcomes::outcome_of_session;
+use crate::journal::Journal;
 use crate::past::Past;
 use crate::piece::Listener;
 use crate::replies::{
     answer_attached, answer_dropped, answer_frame, answer_join, answer_raised, answer_reply,
-    answer_role, count_from, hear_session, subject_of,
+    answer_role, count_from, subject_of,
 };
 use crate::settings::Settings;
 use crate::show::{hear_bus, hear_bus_behind};
@@ -19,10 +19,8 @@ use crate::slot_lookup::{entrance, slot_of_device, slots_of_devices};
 use crate::tenures::is_handed;
 use arrayvec::ArrayVec;
 use i3c_base::{Addr7, Cuts, Fixed, Setup, Slot};
-use i3c_bus::{
-    ActiveStays, Assignment, Bus, Command as Frame, Event, Hand, Refusal as BusRefusal, Reply,
-    Still,
-};
+use i3c_bus::{Bus, Command as Frame, Event, Hand, Reply, Still};
+use i3c_frame::Symbol;
 use i3c_legacy::Legacies;
 use i3c_lines::{Command, EXCEPTED, Name, Naming, Refusal, slot_meant};
 use i3c_text::Stop;
@@ -92,13 +90,7 @@ impl<P: Past> ScriptBus<P> {
     }
 
     /// A bus with its role or session, these settings, cuts that wait, and what is kept of its past.
-    pub fn of_parts(
-        bus: Bus,
-        hand: Hand,
-        settings: Settings,
-        cuts: Cuts,
-        past: P,
-    ) -> ScriptBus<P>
+    pub fn of_parts(bus: Bus, hand: Hand, settings: Settings, cuts: Cuts, past: P) -> ScriptBus<P>
         requires fits { HandFits hand bus.state }
         ensures { result ≡ situation bus.state settings cuts past }
     {
@@ -137,21 +129,6 @@ impl<P: Past> ScriptBus<P> {
         ensures { result.now ≡ self.now.cuts }
     {
         &self.cuts
-    }
-
-    /// What is kept of its past.
-    pub fn past(&self) -> &P
-        ensures { result.now ≡ self.now.past }
-    {
-        &self.past
-    }
-
-    /// What is kept of its past, to change it.
-    pub(crate) fn past_mut(&mut self) -> &mut P
-        ensures now { result.now ≡ self.old.past }
-        ensures later { self.new ≡ record self.old { past = result.later } }
-    {
-        &mut self.past
     }
 
     /// Obeys a line, and lets a listener hear what it comes to. `K` names the caller, so that each caller has it in line.
@@ -441,32 +418,22 @@ impl<P: Past> ScriptBus<P> {
     fn assign<L: Listener>(&mut self, listener: &mut L) -> Result<(), Stop<Refusal>>
         ensures { Hears L.heard (λ pieces refused. Assigns P.kept self.old pieces refused self.new) listener.old listener.new result }
     {
-        match take(&mut self.hand) {
-            Hand::Role(role) => {
-                let mut all = Assignment::new();
-                let (role, assigned) =
-                    self.bus
-                        .assign_into(role, &mut self.past, &self.cuts, &mut all);
-                self.cuts.clear();
-                give(&mut self.hand, Hand::Role(role));
-                answer_session(assigned, &all, listener)
-            }
-            Hand::Session(session) => {
-                self.cuts.clear();
-                give(&mut self.hand, Hand::Session(session));
-                Err(Stop::Refused(Refusal::Bus(BusRefusal::SessionOpen)))
-            }
-        }
+        let hand = take(&mut self.hand);
+        let (hand, outcome) = assigning::assign(
+            hand,
+            &mut self.bus,
+            &mut self.past,
+            &self.cuts,
+            listener,
+        );
+        self.cuts.clear();
+        give(&mut self.hand, hand);
+        outcome
     }
 
     /// `cut`: whatever device is in the slot by then loses power at a bit of the next frame.
     #[inline(never)]
-    fn cut<N: Naming>(
-        &mut self,
-        names: &N,
-        name: &Name,
-        bit: u16,
-    ) -> Result<(), Stop<Refusal>>
+    fn cut<N: Naming>(&mut self, names: &N, name: &Name, bit: u16) -> Result<(), Stop<Refusal>>
         ensures { MatchResult (slot_of_device N.kept self.old.state names.now name.now)
             (λ slot. (result ≡ Ok tt) × (self.new ≡ record self.old { cuts = cut_at self.old.cuts slot bit }))
             (λ why. (result ≡ Err (Stop.Refused why)) × (self.new ≡ self.old)) }
@@ -482,11 +449,7 @@ impl<P: Past> ScriptBus<P> {
 
     /// `show`: the bus as it is.
     #[inline(never)]
-    fn show<N: Naming, L: Listener>(
-        &self,
-        names: &N,
-        listener: &mut L,
-    ) -> Result<(), Stop<Refusal>>
+    fn show<N: Naming, L: Listener>(&self, names: &N, listener: &mut L) -> Result<(), Stop<Refusal>>
         ensures { Hears L.heard (IsDone (show_pieces N.kept self.now.settings.forgotten self.now.state names.now)) listener.old listener.new result }
     {
         match hear_bus(&self.bus, names, self.settings.forgotten, listener) {
@@ -631,6 +594,27 @@ impl<P: Past> ScriptBus<P> {
     }
 }
 
+impl ScriptBus<Journal> {
+    ghost use Rattle.std.specs.Prelude.{◌≡◌, OnOk};
+    ghost use Rattle.i3c_script.specs.Situations.{IsEnd, last_symbols};
+
+    /// Copies the last symbols of the wire, the oldest first, at most 256. From now on `copy_later` copies those that
+    /// come.
+    pub(crate) fn copy_wire(&mut self, symbols: &mut Vec<Symbol>) -> Result<(), AllocError>
+        ensures same { self.new ≡ self.old }
+        ensures copied { OnOk result (symbols.new.items ≡ last_symbols self.old.past) }
+    {
+        self.past.copy_wire(symbols)
+    }
+
+    /// Copies the symbols that came since `copy_wire`.
+    pub(crate) fn copy_later(&self, symbols: &mut Vec<Symbol>) -> Result<(), AllocError>
+        ensures { OnOk result (IsEnd (last_symbols self.now.past) symbols.new.items) }
+    {
+        self.past.copy_later(symbols)
+    }
+}
+
 /// Ends the tenure of the controller that was active, if the reply says that the role was handed over.
 fn end_tenure<P: Past>(
     past: &mut P,
@@ -646,23 +630,6 @@ fn end_tenure<P: Past>(
     }
     let recorded = settings.recorded(bus.records())?;
     past.end_tenure(active, recorded)
-}
-
-/// Lets a listener hear what a whole session came to.
-fn answer_session<L: Listener>(
-    assigned: Result<(), ActiveStays>,
-    all: &Assignment,
-    listener: &mut L,
-) -> Result<(), Stop<Refusal>>
-    ensures { Hears L.heard (IsSessionTold assigned all.now.served all.now.given.items all.now.complete) listener.old listener.new result }
-{
-    match assigned {
-        Ok(()) => match hear_session(all, listener) {
-            Ok(()) => outcome_of_session(all.complete),
-            Err(_) => Err(Stop::Memory),
-        },
-        Err(ActiveStays) => Err(Stop::Refused(Refusal::Bus(BusRefusal::ActiveStays))),
-    }
 }
 
 /// The role or session, which the bus takes for a while.

@@ -22,11 +22,7 @@ pub(crate) fn entrance<N: Naming>(bus: &Bus, names: &N, name: &Name) -> Result<S
 }
 
 /// The slot of the present device that a name stands for. It answers `NoDevice` where the device is gone.
-pub(crate) fn slot_of_device<N: Naming>(
-    bus: &Bus,
-    names: &N,
-    name: &Name,
-) -> Result<Slot, Refusal>
+pub(crate) fn slot_of_device<N: Naming>(bus: &Bus, names: &N, name: &Name) -> Result<Slot, Refusal>
     ensures { result ≡ slot_of_device N.kept bus.now.state names.now name.now }
 {
     let slot = slot_meant(names, name)?;

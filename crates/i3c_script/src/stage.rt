@@ -117,7 +117,7 @@ impl Stage {
                 symbols.clear();
                 Ok(())
             }
-            Stage::Running(running) => running.past_mut().copy_wire(symbols),
+            Stage::Running(running) => running.copy_wire(symbols),
         }
     }
 
@@ -130,7 +130,7 @@ impl Stage {
                 symbols.clear();
                 Ok(())
             }
-            Stage::Running(running) => running.past().copy_later(symbols),
+            Stage::Running(running) => running.copy_later(symbols),
         }
     }
 

@@ -16,5 +16,5 @@ returns-in-Ok g c =
     let said = c.ask_join-asked.result in
     let event = Event.AskJoin c.in-Ok.slot in
     rw (← c.self.view_is) (in_slot kept heard g.N.Naming.kept (situation old at.settings at.cuts at.past) (situation new at.settings at.cuts at.past) c.args.names.now c.args.name.now Event.AskJoin c.in-Ok.slot c.args.listener.now c.answer_join.new.listener c.answer_join.result c.in-Ok.ensures
-    (quietly kept g.P.Tap.note_gives g.P.Past.noted heard old new at.settings at.cuts at.past event (joins_reply said) c.args.listener.now c.answer_join.new.listener c.answer_join.result refl
+    (quietly kept heard old new at.settings at.cuts at.past event (joins_reply said) c.args.listener.now c.answer_join.new.listener c.answer_join.result refl
     (join_unhanded said) (join_counted at.settings.forgotten said) c.ask_join-asked.ensures.step (join_still old new event said) c.answer_join.ensures))

@@ -16,5 +16,5 @@ returns-in-Ok g c =
     let said = c.ask_role-asked.result in
     let event = Event.AskRole c.in-Ok.slot in
     rw (← c.self.view_is) (in_slot kept heard g.N.Naming.kept (situation old at.settings at.cuts at.past) (situation new at.settings at.cuts at.past) c.args.names.now c.args.name.now Event.AskRole c.in-Ok.slot c.args.listener.now c.answer_role.new.listener c.answer_role.result c.in-Ok.ensures
-    (quietly kept g.P.Tap.note_gives g.P.Past.noted heard old new at.settings at.cuts at.past event (role_reply said) c.args.listener.now c.answer_role.new.listener c.answer_role.result refl
+    (quietly kept heard old new at.settings at.cuts at.past event (role_reply said) c.args.listener.now c.answer_role.new.listener c.answer_role.result refl
     (role_unhanded said) (role_counted at.settings.forgotten said) c.ask_role-asked.ensures.step (role_still old new event said) c.answer_role.ensures))

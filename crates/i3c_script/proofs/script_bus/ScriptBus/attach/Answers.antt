@@ -27,7 +27,7 @@ returns-in-Ok-give_slot g c =
     let subject = Subject.Attached c.args.name.now c.in-Ok.slot in
     let said = c.attach-attached.result in
     let answers = answered past heard subject old new event (attached_reply said) c.args.listener.now c.answer_attached.new.listener c.answer_attached.result
-    (unsent past g.P.Tap.note_gives g.P.Past.noted before after at.settings at.cuts at.past event (attached_reply said) (attached_unhanded said) c.attach-attached.ensures.step (attached_still before after event said))
+    (unsent past before after at.settings at.cuts at.past event (attached_reply said) (attached_unhanded said) c.attach-attached.ensures.step (attached_still before after event said))
     (subst (λ r. Hears heard (IsTold subject r) c.args.listener.now c.answer_attached.new.listener c.answer_attached.result) (sym (attached_counted at.settings.forgotten said)) c.answer_attached.ensures) in
     rw (← c.self.view_is) (hears_by heard (λ pieces refused. AnswersOf past subject old event pieces refused new)
     (λ pieces refused. Enters past kept old names c.args.name.now c.args.setup pieces refused new named)

@@ -16,5 +16,5 @@ returns-in-Ok g c =
     let said = c.drop_off-dropped.result in
     let event = Event.DropOff c.in-Ok.slot in
     rw (← c.self.view_is) (in_slot kept heard g.N.Naming.kept (situation old at.settings at.cuts at.past) (situation new at.settings at.cuts at.past) c.args.names.now c.args.name.now Event.DropOff c.in-Ok.slot c.args.listener.now c.answer_dropped.new.listener c.answer_dropped.result c.in-Ok.ensures
-    (quietly kept g.P.Tap.note_gives g.P.Past.noted heard old new at.settings at.cuts at.past event (dropped_reply said) c.args.listener.now c.answer_dropped.new.listener c.answer_dropped.result refl
+    (quietly kept heard old new at.settings at.cuts at.past event (dropped_reply said) c.args.listener.now c.answer_dropped.new.listener c.answer_dropped.result refl
     (dropped_unhanded said) (dropped_counted at.settings.forgotten said) c.drop_off-dropped.ensures.step (dropped_still old new event said) c.answer_dropped.ensures))

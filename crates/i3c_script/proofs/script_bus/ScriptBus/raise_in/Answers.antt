@@ -12,5 +12,5 @@ returns g c =
     let new = c.raise-raised.new.self.state in
     let said = c.raise-raised.result in
     let event = Event.Raise c.args.slot c.args.byte in
-    rw (← c.self.view_is) (quietly g.P.Past.kept g.P.Tap.note_gives g.P.Past.noted g.L.Listener.heard old new at.settings at.cuts at.past event (raised_reply said) c.args.listener.now c.answer_raised.new.listener c.answer_raised.result refl
+    rw (← c.self.view_is) (quietly g.P.Past.kept g.L.Listener.heard old new at.settings at.cuts at.past event (raised_reply said) c.args.listener.now c.answer_raised.new.listener c.answer_raised.result refl
     (raised_unhanded said) (raised_counted at.settings.forgotten said) c.raise-raised.ensures.step (raised_still old new event said) c.answer_raised.ensures)

@@ -2,7 +2,7 @@
 use Rattle.std.proofs.Common.{◌≡◌, ◌∙◌, ◌+◌, ap, length, subst, sym}
 use Rattle.i3c_script.specs.Assigning.{Moves, cuts_left, ended_by}
 use Rattle.i3c_script.specs.Situations.{Situation, situation}
-use Rattle.i3c_script.proofs.Moving.{moved}
+use Rattle.i3c_script.proofs.Moving.{moved, sent_by}
 use Rattle.i3c_script.proofs.script_bus.ScriptBus.step.Goals as goal
 
 pub returns : goal.returns
@@ -19,4 +19,4 @@ returns g c =
     rw (← c.self.view_is) (subst (λ now. Moves kept (situation old at.settings at.cuts at.past) event reply (situation new at.settings at.cuts now)) (sym is)
     (subst (λ cuts. Moves kept (situation old at.settings at.cuts at.past) event reply (situation new at.settings cuts past))
     (subst (λ (one : Situation _). cuts_left event one.cuts ≡ one.cuts) (sym c.self.view_is) c.requires)
-    (moved kept old new at.settings at.cuts at.past sent event reply c.step-hand.ensures.carried.step (g.P.Past.noted at.past sent _ c.step-hand.ensures.carried.told))))
+    (moved kept old new at.settings at.cuts at.past sent event reply c.step-hand.ensures.carried.step (sent_by kept g.P.Tap.note_gives g.met.P.Past.noted at.past sent _ c.step-hand.ensures.carried.told))))

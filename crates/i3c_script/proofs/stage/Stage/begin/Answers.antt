@@ -23,7 +23,7 @@ returns g c =
       start = start;
       settings = c.new-running.ensures.settings;
       cuts = c.new-running.ensures.cuts;
-      past = c.new-running.ensures.past ∙ c.in_ok-new.ensures;
+      past = c.new-running.ensures.past ∙ c.in_ok-journal.ensures;
       named = subst (λ slot. NamesSlot names named name slot) (sym c.default.ensures.1 ∙ c.default.ensures.2) given;
     } in
     let at : c.address-address.result ≡ address_of (device_at begun.state 0) = c.address-address.ensures ∙ (λ i. address_of (device_at (c.bus.ensures i) ((sym c.default-2.ensures.1 ∙ c.default-2.ensures.2) i))) in
