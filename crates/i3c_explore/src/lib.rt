@@ -25,21 +25,21 @@
 //! not determined, what its `run` doesn't choose is not tried.
 #![tactic(auto)]
 
-mod apart;
 mod block;
 mod boundary;
 mod codes;
 mod expand;
 mod fork;
-mod front;
 mod gathered;
 mod index;
+mod job_layers;
 mod jobs;
 mod layer;
 mod limits;
 mod machine;
 mod merged;
 mod node;
+mod node_queue;
 mod ordered;
 mod owners;
 mod part;
@@ -47,7 +47,7 @@ mod places;
 mod splits;
 mod stop;
 mod turn;
-mod twin;
+mod twin_pair;
 mod walk;
 mod watch;
 
