@@ -6,7 +6,8 @@ use crate::machine::Machine;
 use crate::node::{Node, is_like};
 use std::alloc::{AllocError, Global};
 
-/// Two jobs found equal nodes: at the same places, in the same state. Each is an index among the nodes of all jobs.
+/// A pair of nodes of two jobs, which are at the same places, in the same state. Each is an index among the nodes of all
+/// jobs.
 #[derive(Clone, Copy)]
 pub(crate) struct TwinPair {
     /// The node of the earlier job.
