@@ -14,7 +14,7 @@ pub mod Growing
 pub mod Making
 pub mod Layering
 pub mod Merging
-pub mod Fronts
+pub mod Queues
 mod Moving
 pub mod Turns
 pub mod Splitting

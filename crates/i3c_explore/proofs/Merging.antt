@@ -9,7 +9,7 @@ use Rattle.std.proofs.lemmas.Option.{same_Some}
 use Rattle.i3c_explore.specs.declared.layer.Layer.{Layer}
 use Rattle.i3c_explore.specs.declared.node.Node.{Node}
 use Rattle.i3c_explore.specs.declared.stop.Stop.{Stop}
-use Rattle.i3c_explore.specs.declared.twin.Twin.{Twin}
+use Rattle.i3c_explore.specs.declared.twin_pair.TwinPair.{TwinPair}
 use Rattle.i3c_explore.specs.Layers.{ArePut, IsAlikeAt, IsPut}
 use Rattle.i3c_explore.specs.Jobs.{AreJoined, AreNodesOf}
 use Rattle.i3c_explore.specs.Moves.{AreMoved}
@@ -116,21 +116,21 @@ twin_placed {S} all nodes layer places node before later place was next twins la
     )
 
 -- and so it is for each place that is found
-pub placed_before : {S : Type 0} (all nodes layer : List (Node S)) (places : List ℕ) (node : Node S) (twins : List Twin) (place : Option ℕ)
+pub placed_before : {S : Type 0} (all nodes layer : List (Node S)) (places : List ℕ) (node : Node S) (twins : List TwinPair) (place : Option ℕ)
     → AreMerged all nodes layer places → slice_get all (length nodes) ≡ Some node → AllTwins all twins
-    → IfSome place (λ p. (twin : Twin) × Contains twins twin × (twin.later ≡ length places) × (slice_get places twin.before ≡ Some p)) → IfSome place (λ p. IsAlikeAt layer p node.places.items node.state)
+    → IfSome place (λ p. (twin : TwinPair) × Contains twins twin × (twin.later ≡ length places) × (slice_get places twin.before ≡ Some p)) → IfSome place (λ p. IsAlikeAt layer p node.places.items node.state)
 placed_before all nodes layer places node twins None was next are before = tt
 placed_before all nodes layer places node twins (Some place) was next are (twin, at, last, found) = twin_placed all nodes layer places node twin.before twin.later place was next (are twin at) last found
 
-pub found_more : {E : Type 0} (found : List (Result (Vec Twin) E)) (twins : Vec Twin) (all new : List Twin) → AreFound found all → new ≡ all ++ twins.items → AreFound (found ++ Ok twins ∷ []) new
-found_more [] twins all new none is = ([], is ∙ ap (λ (l : List Twin). l ++ twins.items) none ∙ sym (append-nil twins.items), refl)
+pub found_more : {E : Type 0} (found : List (Result (Vec TwinPair) E)) (twins : Vec TwinPair) (all new : List TwinPair) → AreFound found all → new ≡ all ++ twins.items → AreFound (found ++ Ok twins ∷ []) new
+found_more [] twins all new none is = ([], is ∙ ap (λ (l : List TwinPair). l ++ twins.items) none ∙ sym (append-nil twins.items), refl)
 found_more (Ok first ∷ found) twins all new (later, before, rest) is =
-    (later ++ twins.items, is ∙ ap (λ (l : List Twin). l ++ twins.items) before ∙ append_assoc first.items later twins.items, found_more found twins later (later ++ twins.items) rest refl)
+    (later ++ twins.items, is ∙ ap (λ (l : List TwinPair). l ++ twins.items) before ∙ append_assoc first.items later twins.items, found_more found twins later (later ++ twins.items) rest refl)
 found_more (Err why ∷ found) twins all new never is = absurd never
 
 -- what jobs found are twins, if those of each one are
-pub found_twins : {S E : Type 0} (nodes : List (Node S)) (found : List (Result (Vec Twin) E)) (all : List Twin) → AreFound found all
-    → ((i : ℕ) (one : Result (Vec Twin) E) → i < length found → IfOk (get_or found i one) (λ (twins : Vec Twin). AllTwins nodes twins.items)) → AllTwins nodes all
+pub found_twins : {S E : Type 0} (nodes : List (Node S)) (found : List (Result (Vec TwinPair) E)) (all : List TwinPair) → AreFound found all
+    → ((i : ℕ) (one : Result (Vec TwinPair) E) → i < length found → IfOk (get_or found i one) (λ (twins : Vec TwinPair). AllTwins nodes twins.items)) → AllTwins nodes all
 found_twins nodes [] all none each twin at = let (k, lt, is) = subst (λ l. Contains l twin) none at in absurd (omega arith)
 found_twins nodes (Ok twins ∷ found) all (later, is, rest) each twin at = elim (Contains-append_cases twins.items later twin (subst (λ l. Contains l twin) is at)) [
   | inl here ↦ each 0 (Ok twins) (omega arith) twin here
@@ -139,9 +139,9 @@ found_twins nodes (Ok twins ∷ found) all (later, is, rest) each twin at = elim
 found_twins nodes (Err why ∷ found) all never each twin at = absurd never
 
 -- one more pair is of twins
-pub twins_more : {S : Type 0} (nodes : List (Node S)) (twins new : List Twin) (twin : Twin) → AllTwins nodes twins → AreTwins nodes twin.before twin.later → new ≡ twins ++ twin ∷ [] → AllTwins nodes new
+pub twins_more : {S : Type 0} (nodes : List (Node S)) (twins new : List TwinPair) (twin : TwinPair) → AllTwins nodes twins → AreTwins nodes twin.before twin.later → new ≡ twins ++ twin ∷ [] → AllTwins nodes new
 twins_more {S} nodes twins new twin was here pushed other at =
     let (k, found) = contains_get new other at in elim (push_cases twins twin other k (sym (ap (λ l. slice_get l k) pushed) ∙ found)) [
       | inl before ↦ was other (get_contains twins k other before)
-      | inr (_, same) ↦ subst (λ (t : Twin). AreTwins nodes t.before t.later) (sym same) here
+      | inr (_, same) ↦ subst (λ (t : TwinPair). AreTwins nodes t.before t.later) (sym same) here
     ]

@@ -12,7 +12,7 @@ pub mod Runs
 pub mod Stops
 pub mod Explorations
 pub mod Moves
-pub mod Fronts
+pub mod Queues
 pub mod Owners
 pub mod Jobs
 pub mod Twins

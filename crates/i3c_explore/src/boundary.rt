@@ -5,31 +5,32 @@ use crate::part::Part;
 use crate::places::{Codes, Place, Places};
 use std::alloc::{AllocError, Global};
 
-/// At most this many places are looked at to share out the lines of a layer.
-const LOOKED_AT: usize = 512;
+/// The lines of a layer are shared out by a sample of at most this many places.
+const SAMPLE: usize = 512;
 
-/// Lines that lead to the same places.
+/// Lines that lead to the same places, from a range of nodes.
 #[derive(Clone, Copy)]
 struct Bundle {
-    // the code of the places
+    // the code of the places that they lead to
     target: u64,
-    // the first node that they run from
+    // the first node of the range
     from: usize,
-    // the node behind the last one
+    // the node behind the last one of the range
     to: usize,
-    // how often they run, each in all its ways
+    // the number of runs: each line runs once in each of its ways
     runs: usize,
 }
 
-/// The lines of a layer, by the places that they lead to.
+/// Bundles of a layer's lines, one for each code of the places that lines lead to.
 #[derive(Drop)]
 struct Bundles {
+    // the code of each bundle's places
     codes: Codes,
     all: Vec<Bundle>,
 }
 
 impl Bundles {
-    /// Adds lines that lead to the same places.
+    /// Adds a bundle, or extends the one that leads to the same places.
     fn add(&mut self, alloc: Global, more: Bundle) -> Result<(), AllocError> {
         let index = self.codes.index_of(alloc, more.target)?;
         match self.all.get_mut(index) {
@@ -45,7 +46,7 @@ impl Bundles {
         Ok(())
     }
 
-    /// Adds the lines that run at a place. The first node there stands for the others.
+    /// Adds the lines that run from the nodes at a place. Their ways are those of the first node there.
     fn add_place<M: Machine>(
         &mut self,
         alloc: Global,
@@ -73,7 +74,7 @@ impl Bundles {
     }
 }
 
-/// In how many ways a track's next line runs from a node, if it has one by which orders of a part begin.
+/// The number of ways in which a track's next line runs from a node, or none if no order of the part begins with it.
 fn ways_at<M: Machine>(
     node: &Node<M>,
     track: usize,
@@ -89,7 +90,7 @@ fn ways_at<M: Machine>(
     }
 }
 
-/// The lines that run from nodes at some of the places.
+/// The bundles of the lines that run from nodes at a sample of the places.
 fn bundles_of<M: Machine>(
     alloc: Global,
     layer: &[Node<M>],
@@ -98,7 +99,7 @@ fn bundles_of<M: Machine>(
     tracks: &[Vec<M::Line>],
     part: Part,
 ) -> Result<Vec<Bundle>, AllocError> {
-    let step = places.all.len() / LOOKED_AT + 1;
+    let step = places.all.len() / SAMPLE + 1;
     let mut bundles = Bundles {
         codes: Codes::new(alloc),
         all: Vec::new(alloc),
@@ -111,39 +112,42 @@ fn bundles_of<M: Machine>(
     Ok(bundles.all)
 }
 
-/// Lines that are shared out among some jobs.
+/// A range of jobs, with the lines that they share.
 #[derive(Drop)]
-struct Piece {
+struct JobRange {
     bundles: Vec<Bundle>,
+    // the first job
     from: usize,
+    // the job behind the last one
     to: usize,
 }
 
-/// Places as seen from a track: that track counts most.
-fn seen_from(target: u64, track: u32) -> u64 {
+/// The code of places, rotated so that a track's place is in the highest bits. Codes then compare by that track first.
+fn rotated_to(target: u64, track: u32) -> u64 {
     target.rotate_left(track.wrapping_mul(BITS))
 }
 
-/// The first line of the later jobs. They run the lines to these places from this node or a later one, and all lines to
-/// later places.
+/// Where the lines of the later jobs begin. Lines are in the order of the rotated codes of the places that they lead to, and
+/// then of the nodes that they run from.
 #[derive(Clone, Copy)]
 pub(crate) struct Boundary {
-    // the track that counts most
+    // the track to whose place codes are rotated
     track: u32,
+    // the rotated code of the first line's places
     target: u64,
-    /// 0 unless jobs share these places.
+    /// The node that the first line runs from, or 0 unless jobs share these places.
     pub node: usize,
 }
 
 impl Boundary {
-    /// Whether a line is at the boundary or behind it.
+    /// Whether a line is of the later jobs, by the code of the places that it leads to and the node that it runs from.
     fn is_reached(&self, target: u64, node: usize) -> bool {
-        let target = seen_from(target, self.track);
+        let target = rotated_to(target, self.track);
         (self.target < target) | ((self.target == target) & (self.node <= node))
     }
 }
 
-/// How often all of some lines run.
+/// The number of runs of all lines in some bundles.
 fn runs_of(bundles: &[Bundle]) -> usize {
     let mut runs = 0usize;
     for bundle in bundles {
@@ -152,12 +156,12 @@ fn runs_of(bundles: &[Bundle]) -> usize {
     runs
 }
 
-/// How far apart the places of a track are.
+/// The variance of a track's places in some bundles, times the square of the number of bundles.
 fn spread(bundles: &[Bundle], track: u32) -> u64 {
     let mut sum = 0u64;
     let mut squares = 0u64;
     for bundle in bundles {
-        let place = seen_from(bundle.target, track) >> (64 - BITS);
+        let place = rotated_to(bundle.target, track) >> (64 - BITS);
         sum = sum.wrapping_add(place);
         squares = squares.wrapping_add(place.wrapping_mul(place));
     }
@@ -166,7 +170,7 @@ fn spread(bundles: &[Bundle], track: u32) -> u64 {
         .wrapping_sub(sum.wrapping_mul(sum))
 }
 
-/// The track whose places are farthest apart.
+/// The track whose places vary most, of the first eight.
 fn widest(bundles: &[Bundle], tracks: usize) -> u32 {
     let mut widest = 0u32;
     let mut most = 0u64;
@@ -180,16 +184,16 @@ fn widest(bundles: &[Bundle], tracks: usize) -> u32 {
     widest
 }
 
-/// Where sorted lines are divided in two.
+/// Where a list of sorted bundles is divided in two halves.
 #[derive(Clone, Copy)]
 struct Division {
-    // the first bundle of the later half
+    // the bundle in which the later half begins
     index: usize,
-    // how often lines of this bundle run in the earlier half
+    // the number of this bundle's runs that are in the earlier half
     within: usize,
 }
 
-/// The division that has `due` runs in front of it.
+/// The division with `due` runs in its earlier half.
 fn divided_at(bundles: &[Bundle], due: usize) -> Division {
     let mut left = due;
     for (index, bundle) in bundles.iter().enumerate() {
@@ -207,9 +211,9 @@ fn divided_at(bundles: &[Bundle], due: usize) -> Division {
     }
 }
 
-/// The same division, or one between two bundles, if that moves at most `few` runs to the other half. Lines of one node
-/// stay together.
-fn whole(bundles: &[Bundle], division: Division, few: usize) -> Division {
+/// The nearest division between two bundles, if at most `few` runs change their half by that, or if the divided bundle is of
+/// one node. Otherwise the same division.
+fn rounded(bundles: &[Bundle], division: Division, few: usize) -> Division {
     let Some(bundle) = bundles.get(division.index) else {
         return division;
     };
@@ -226,7 +230,7 @@ fn whole(bundles: &[Bundle], division: Division, few: usize) -> Division {
     Division { index, within: 0 }
 }
 
-/// Divides a bundle at a node: its first part stays.
+/// Divides a bundle at a node, so that about `within` of its runs stay. Answers the bundle of the later nodes.
 fn divide(bundle: &mut Bundle, within: usize) -> Bundle {
     let nodes = bundle.to.saturating_sub(bundle.from);
     let earlier = nodes.saturating_mul(within) / bundle.runs.max(1);
@@ -241,8 +245,8 @@ fn divide(bundle: &mut Bundle, within: usize) -> Bundle {
     later
 }
 
-/// The bundles behind a division. Those before it stay.
-fn behind(bundles: &mut Vec<Bundle>, division: Division) -> Result<Vec<Bundle>, AllocError> {
+/// Removes the later half from some bundles, and answers it.
+fn later_half(bundles: &mut Vec<Bundle>, division: Division) -> Result<Vec<Bundle>, AllocError> {
     let at = division.index.min(bundles.len());
     let mut later = bundles.split_off(at)?;
     if division.within > 0 {
@@ -255,13 +259,12 @@ fn behind(bundles: &mut Vec<Bundle>, division: Division) -> Result<Vec<Bundle>, 
     Ok(later)
 }
 
-/// The boundary in front of some sorted bundles. If the first of them was divided, it is at that bundle's first node.
-/// Otherwise it is in front of all lines of the bundle.
+/// The boundary at which some sorted bundles begin. `divided` says that the first of them is the later part of a bundle.
 fn boundary_before(later: &[Bundle], track: u32, divided: bool) -> Boundary {
     match later.first() {
         Some(first) => Boundary {
             track,
-            target: seen_from(first.target, track),
+            target: rotated_to(first.target, track),
             node: if divided { first.from } else { 0 },
         },
         None => Boundary {
@@ -272,35 +275,36 @@ fn boundary_before(later: &[Bundle], track: u32, divided: bool) -> Boundary {
     }
 }
 
-/// Shares out lines to the halves of some jobs, along the track whose places are farthest apart. Those of the earlier jobs
-/// stay. Answers those of the later jobs, and the boundary where they begin.
+/// Shares out lines between the halves of some jobs, sorted by the track whose places vary most. Keeps those of the earlier
+/// jobs, and answers those of the later jobs, with the boundary at which they begin.
 fn split(
     bundles: &mut Vec<Bundle>,
     tracks: usize,
     jobs: usize,
 ) -> Result<(Vec<Bundle>, Boundary), AllocError> {
     let track = widest(bundles, tracks);
-    bundles.sort_unstable_by_key(|bundle| (seen_from(bundle.target, track), bundle.from));
+    bundles.sort_unstable_by_key(|bundle| (rotated_to(bundle.target, track), bundle.from));
     let each = runs_of(bundles) / jobs.max(1);
     let about = divided_at(bundles, each.saturating_mul(jobs / 2));
-    let at = whole(bundles, about, each / 8);
-    let later = behind(bundles, at)?;
+    let at = rounded(bundles, about, each / 8);
+    let later = later_half(bundles, at)?;
     let boundary = boundary_before(&later, track, at.within > 0);
     Ok((later, boundary))
 }
 
-/// Shares out a piece: in two pieces, unless it is of one job. The boundary is noted at the first job of the later half.
+/// Divides a range of jobs, and its lines, in two ranges, unless it has one job. The boundary is noted at the first job of
+/// the later range.
 fn share_out(
-    piece: Piece,
+    range: JobRange,
     tracks: usize,
     boundaries: &mut Vec<Boundary>,
-    pieces: &mut Vec<Piece>,
+    ranges: &mut Vec<JobRange>,
 ) -> Result<(), AllocError> {
-    let Piece {
+    let JobRange {
         mut bundles,
         from,
         to,
-    } = piece;
+    } = range;
     let jobs = to.saturating_sub(from);
     if jobs < 2 {
         return Ok(());
@@ -310,12 +314,12 @@ fn share_out(
     if let Some(held) = boundaries.get_mut(middle) {
         *held = boundary;
     }
-    pieces.push(Piece {
+    ranges.push(JobRange {
         bundles,
         from,
         to: middle,
     })?;
-    pieces.push(Piece {
+    ranges.push(JobRange {
         bundles: later,
         from: middle,
         to,
@@ -323,8 +327,8 @@ fn share_out(
     Ok(())
 }
 
-/// The boundaries by which the lines of a layer are shared out among jobs. In a range of jobs, that at the middle one says
-/// which lines are of it and of the jobs behind it.
+/// The boundaries by which the lines of a layer are shared out among jobs. In a range of jobs, the boundary of the middle
+/// job divides the lines: the middle job and those behind it run the later ones.
 pub(crate) fn boundaries_of<M: Machine>(
     alloc: Global,
     layer: &[Node<M>],
@@ -340,21 +344,21 @@ pub(crate) fn boundaries_of<M: Machine>(
         node: 0,
     };
     let mut boundaries = vec![in alloc; nowhere; jobs]?;
-    let mut pieces = Vec::new(alloc);
-    pieces.push(Piece {
+    let mut ranges = Vec::new(alloc);
+    ranges.push(JobRange {
         bundles: bundles_of(alloc, layer, places, weights, tracks, part)?,
         from: 0,
         to: jobs,
     })?;
     for _ in 0..jobs.saturating_mul(2) {
-        if let Some(piece) = pieces.pop() {
-            share_out(piece, tracks.len(), &mut boundaries, &mut pieces)?;
+        if let Some(range) = ranges.pop() {
+            share_out(range, tracks.len(), &mut boundaries, &mut ranges)?;
         }
     }
     Ok(boundaries)
 }
 
-/// The job that a line is run by. At each boundary half of the jobs are left.
+/// The job that runs a line. Each boundary leaves half of a range of jobs.
 pub(crate) fn owner_by(boundaries: &[Boundary], target: u64, node: usize) -> usize {
     let mut from = 0usize;
     let mut to = boundaries.len();

@@ -1,12 +1,12 @@
 ghost use Rattle.std.specs.Prelude.{◌≡◌, ◌++◌, IfOk, OnOk};
-ghost use Rattle.i3c_explore.specs.Fronts.{nodes_left};
+ghost use Rattle.i3c_explore.specs.Queues.{nodes_left};
 
-use crate::apart::Apart;
-use crate::front::Front;
+use crate::job_layers::JobLayers;
 use crate::limits::Limits;
 use crate::machine::Machine;
 use crate::node::Node;
-use crate::twin::JobSpan;
+use crate::node_queue::NodeQueue;
+use crate::twin_pair::JobSpan;
 use std::alloc::{AllocError, Global};
 
 /// What all jobs found.
@@ -26,16 +26,16 @@ pub(crate) struct Gathered<M> {
 
 impl<M: Machine> Gathered<M> {
     /// Adds the nodes of a job, none of which was taken yet.
-    fn add(&mut self, front: Front<M>) -> Result<(), AllocError>
-        ensures nodes { OnOk result (self.new.nodes.items ≡ self.old.nodes.items ++ front.nodes.items) }
+    fn add(&mut self, queue: NodeQueue<M>) -> Result<(), AllocError>
+        ensures nodes { OnOk result (self.new.nodes.items ≡ self.old.nodes.items ++ queue.nodes.items) }
         ensures limits { OnOk result (self.new.limits ≡ self.old.limits) }
     {
-        let Front {
+        let NodeQueue {
             nodes,
             index,
             mut ranks,
             ..
-        } = front;
+        } = queue;
         let first = self.nodes.len();
         let mut nodes = Vec::from(nodes);
         self.nodes.append(&mut nodes)?;
@@ -46,25 +46,28 @@ impl<M: Machine> Gathered<M> {
 }
 
 /// The nodes of all jobs, one job's behind the other's.
-pub(crate) fn gather<M: Machine>(alloc: Global, all: Apart<M>) -> Result<Gathered<M>, AllocError>
-    ensures nodes { IfOk result (λ gathered. gathered.nodes.items ≡ nodes_left all.fronts.items) }
+pub(crate) fn gather<M: Machine>(
+    alloc: Global,
+    all: JobLayers<M>,
+) -> Result<Gathered<M>, AllocError>
+    ensures nodes { IfOk result (λ gathered. gathered.nodes.items ≡ nodes_left all.queues.items) }
     ensures limits { IfOk result (λ gathered. gathered.limits ≡ all.limits) }
 {
-    let Apart {
-        fronts,
+    let JobLayers {
+        queues,
         count,
         spares,
         limits,
     } = all;
     let mut gathered = Gathered {
         nodes: Vec::with_capacity(alloc, count)?,
-        spans: Vec::with_capacity(alloc, fronts.len())?,
+        spans: Vec::with_capacity(alloc, queues.len())?,
         ranks: Vec::with_capacity(alloc, count)?,
         spares,
         limits,
     };
-    for front in fronts {
-        gathered.add(front)?;
+    for queue in queues {
+        gathered.add(queue)?;
     }
     Ok(gathered)
 }

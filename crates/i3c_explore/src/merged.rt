@@ -1,28 +1,28 @@
 ghost use Rattle.std.specs.Prelude.{◌≡◌, ◌≤◌, ◌++◌, ◌∷◌, List, Contains, IfOk, IfSome, OnOk, Some, [], length, slice_get};
 ghost use Rattle.i3c_explore.specs.declared.node.Node.{Node as NodeValue};
-ghost use Rattle.i3c_explore.specs.declared.twin.Twin.{Twin as TwinValue};
-ghost use Rattle.i3c_explore.specs.Fronts.{nodes_left};
+ghost use Rattle.i3c_explore.specs.declared.twin_pair.TwinPair.{TwinPair as TwinValue};
+ghost use Rattle.i3c_explore.specs.Queues.{nodes_left};
 ghost use Rattle.i3c_explore.specs.Layers.{ArePut, IsAlikeAt, IsPut};
 ghost use Rattle.i3c_explore.specs.Jobs.{AreJoined, AreTaken};
 ghost use Rattle.i3c_explore.specs.Moves.{AreMoved};
 ghost use Rattle.i3c_explore.specs.Runs.{IsCharged, IsWithin};
 ghost use Rattle.i3c_explore.specs.Twins.{AllTwins};
 
-use crate::apart::{Apart, kept_apart};
-use crate::front::{Ranked, in_order};
 use crate::gathered::{Gathered, gather};
+use crate::job_layers::{JobLayers, layers_of_jobs};
 use crate::layer::{Layer, merge};
 use crate::limits::Limits;
 use crate::machine::Machine;
 use crate::node::Node;
+use crate::node_queue::{OrderedNodes, in_order};
 use crate::ordered::order;
 use crate::stop::Stop;
-use crate::twin::{JobSpan, Twin, all_twins, twins_of};
+use crate::twin_pair::{JobSpan, TwinPair, all_twins, twins_of};
 use std::alloc::{AllocError, Global};
 use std::thread::{Threads, map_indices};
 
 /// Where the node before went that is like the next node, if one is. The nodes so far went to these places.
-fn place_before(twins: &[Twin], next: usize, places: &[usize]) -> Option<usize>
+fn place_before(twins: &[TwinPair], next: usize, places: &[usize]) -> Option<usize>
     ensures { IfSome result (λ place. (twin : TwinValue) × Contains twins.now twin × (twin.later ≡ length places.now) × (slice_get places.now twin.before ≡ Some place)) }
 {
     let twin = twins.get(next)?;
@@ -94,7 +94,7 @@ fn merged<M: Machine>(
     alloc: Global,
     nodes: Vec<Node<M>>,
     ranks: &[usize],
-    twins: &[Twin],
+    twins: &[TwinPair],
     spares: Vec<Node<M>>,
     limits: Limits,
 ) -> Result<Layer<M>, Stop>
@@ -137,7 +137,7 @@ where
     ensures taken { IfOk result (λ both. AreTaken limits both.limits layers.items) }
     ensures narrow { IfOk result (λ both. length both.nodes.items ≤ limits.states) }
 {
-    let all = match kept_apart(alloc, layers, limits) {
+    let all = match layers_of_jobs(alloc, layers, limits) {
         Ok(all) => all,
         Err(stop) => return Err(stop),
     };
@@ -149,12 +149,12 @@ where
 }
 
 /// What all jobs found, as one layer, where no lines of two jobs lead to the same places.
-fn joined<M: Machine>(alloc: Global, all: Apart<M>) -> Result<Layer<M>, Stop>
-    ensures put { IfOk result (λ both. (put : List (NodeValue M)) × ArePut [] (nodes_left all.fronts.items) put × AreMoved put both.nodes.items) }
+fn joined<M: Machine>(alloc: Global, all: JobLayers<M>) -> Result<Layer<M>, Stop>
+    ensures put { IfOk result (λ both. (put : List (NodeValue M)) × ArePut [] (nodes_left all.queues.items) put × AreMoved put both.nodes.items) }
     ensures within { IfOk result (λ both. IsWithin all.limits both 0) }
 {
-    let Apart {
-        fronts,
+    let JobLayers {
+        queues,
         count,
         spares,
         limits,
@@ -162,7 +162,7 @@ fn joined<M: Machine>(alloc: Global, all: Apart<M>) -> Result<Layer<M>, Stop>
     if count > limits.states {
         return Err(Stop::Most);
     }
-    let Ranked { nodes, codes } = in_order(alloc, fronts, count)?;
+    let OrderedNodes { nodes, codes } = in_order(alloc, queues, count)?;
     // none is left uncounted
     if nodes.len() > limits.states {
         return Err(Stop::Most);
@@ -178,12 +178,12 @@ fn joined<M: Machine>(alloc: Global, all: Apart<M>) -> Result<Layer<M>, Stop>
 fn overlapping<R: Threads + Sync, M: Machine + Send + Sync>(
     rt: &R,
     alloc: Global,
-    all: Apart<M>,
+    all: JobLayers<M>,
 ) -> Result<Layer<M>, Stop>
 where
     M::Line: Sync,
     M::Runner: Send,
-    ensures put { IfOk result (λ both. (put : List (NodeValue M)) × ArePut [] (nodes_left all.fronts.items) put × AreMoved put both.nodes.items) }
+    ensures put { IfOk result (λ both. (put : List (NodeValue M)) × ArePut [] (nodes_left all.queues.items) put × AreMoved put both.nodes.items) }
     ensures within { IfOk result (λ both. IsWithin all.limits both 0) }
 {
     let gathered = gather(alloc, all)?;
@@ -240,13 +240,13 @@ fn found_by_jobs<R: Threads + Sync, M: Machine + Send + Sync>(
     alloc: Global,
     nodes: &[Node<M>],
     spans: &[JobSpan],
-) -> Result<Vec<Twin>, AllocError>
+) -> Result<Vec<TwinPair>, AllocError>
 where
     M::Line: Sync,
     M::Runner: Send,
     ensures { IfOk result (λ twins. AllTwins nodes.now twins.items) }
 {
-    let search = |job: usize| -> Result<Vec<Twin>, AllocError>
+    let search = |job: usize| -> Result<Vec<TwinPair>, AllocError>
         ensures { IfOk result (λ twins. AllTwins nodes.entry.now twins.items) }
     {
         let from = search_from(spans, nodes.len(), job);

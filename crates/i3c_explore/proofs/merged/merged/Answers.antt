@@ -3,7 +3,7 @@ use Rattle.std.specs.List.{Contains, slice_get}
 use Rattle.std.proofs.lemmas.Iterator.Adapters.{YieldsList-from_vec}
 use Rattle.std.proofs.lemmas.Iterator.Consumers.{YieldsList-turn}
 use Rattle.std.proofs.lemmas.Option.{slice_get_read}
-use Rattle.i3c_explore.specs.declared.twin.Twin.{Twin}
+use Rattle.i3c_explore.specs.declared.twin_pair.TwinPair.{TwinPair}
 use Rattle.i3c_explore.proofs.Merging.{merged_more, merged_none, placed_before}
 use Rattle.i3c_explore.specs.declared.limits.Limits.{Limits}
 use Rattle.i3c_explore.proofs.Running.{within_more}
@@ -23,7 +23,7 @@ put_at-requires g c =
     let here : slice_get all (length nodes) ≡ Some node = slice_get_read all (length all) (length nodes) node refl turn.0 turn.1 in
     let before = c.place_before-before.result in let twins = c.args.twins.now in let places = c.loop-node.places.items in
     placed_before all nodes c.loop-node.layer.nodes.items places node twins before c.loop-node.invariant.put here c.requires
-    (subst (λ l. IfSome before (λ p. (twin : Twin) × Contains twins twin × (twin.later ≡ length l) × (slice_get l twin.before ≡ Some p))) c.deref.ensures.value c.place_before-before.ensures)
+    (subst (λ l. IfSome before (λ p. (twin : TwinPair) × Contains twins twin × (twin.later ≡ length l) × (slice_get l twin.before ≡ Some p))) c.deref.ensures.value c.place_before-before.ensures)
 
 pub loop-node-preserved : goal.loop-node-preserved
 loop-node-preserved g c =

@@ -3,8 +3,10 @@ use Rattle.std.proofs.Common.{◌≡◌, ℕ, ◌+◌, ◌≤◌, ◌++◌, List
 use Rattle.std.specs.Global.{Vec}
 use Rattle.std.specs.Prelude.{IfOk, OnOk}
 use Rattle.i3c_explore.specs.declared.limits.Limits.{Limits}
+use Rattle.i3c_explore.specs.declared.stop.Stop.{Stop}
 use Rattle.i3c_explore.specs.declared.turn.Turn.{Turn}
 use Rattle.i3c_explore.specs.Blocks.{IsBegun, IsShortestInPart, LeadsOn}
+use Rattle.i3c_explore.specs.Explorations.{Explores}
 use Rattle.i3c_explore.specs.Parts.{IsOfPart, Part}
 use Rattle.i3c_explore.specs.Runs.{IsByLayers}
 use Rattle.i3c_scene.specs.declared.line.Line.{Line}
@@ -21,6 +23,11 @@ use Rattle.i3c_tracks.specs.Refusing.{at_end}
 use Rattle.i3c_tracks.specs.Telling.{refusal_line, script_text}
 use Rattle.i3c_tracks.proofs.exploring.explore_plan.Goals as goal
 
+-- an order that is answered breaks an expectation, and no shorter one does
+shortest_of : (part : Part) (blocks : List (Vec (Vec Line))) (start : Seen) (limits : Limits) (stop : Stop) (order : Vec Turn) → stop ≡ Stop.Breaks order → Explores LineSteps latest_of LineBreaks part blocks start limits (Err stop)
+    → IsShortestInPart LineSteps LineBreaks part blocks start order.items
+shortest_of part blocks start limits stop order is = subst (λ (s : Stop). Explores LineSteps latest_of LineBreaks part blocks start limits (Err s)) is
+
 pub returns-in_ok-push_report-in-Ok-clause-answer : goal.returns-in_ok-push_report-in-Ok-clause-answer
 returns-in_ok-push_report-in-Ok-clause-answer g c =
     subst (λ (s : Seen). (course : List (List Turn)) → IsBegun c.args.plan.now.blocks.items course → IsOfPart c.args.part c.args.plan.now.blocks.items course → (end : Seen) × LeadsOn LineSteps c.args.plan.now.blocks.items s course end) c.in_ok-start.ensures
@@ -31,7 +38,7 @@ returns-in_ok-push_broken-in-Err-Breaks-clause-answer g c =
     let order = c.in-Err-Breaks.order in (
       order.items,
       subst (λ (s : Seen). IsShortestInPart LineSteps LineBreaks c.args.part c.args.plan.now.blocks.items s order.items) c.in_ok-start.ensures
-          (subst (λ (bs : List (Vec (Vec Line))). IsShortestInPart LineSteps LineBreaks c.args.part bs c.in_ok-start.start order.items) c.deref.ensures.value (c.in-Err-Breaks.ensures.broken order c.in-Err-Breaks.field-0-is)),
+          (subst (λ (bs : List (Vec (Vec Line))). IsShortestInPart LineSteps LineBreaks c.args.part bs c.in_ok-start.start order.items) c.deref.ensures.value (shortest_of c.args.part c.deref.result.now c.in_ok-start.start c.in-Some.left c.in-Err-Breaks.field-0 order c.in-Err-Breaks.field-0-is c.in-Err-Breaks.ensures)),
     )
 
 pub push_report-requires : goal.push_report-requires
@@ -63,7 +70,7 @@ returns-in_ok-push_broken-in-Err-Breaks-clause-printed g c is =
     let order = c.in-Err-Breaks.order in
     let plan = c.args.plan.now in
     let shortest = subst (λ (s : Seen). IsShortestInPart LineSteps LineBreaks c.args.part plan.blocks.items s order.items) c.in_ok-start.ensures
-    (subst (λ (bs : List (Vec (Vec Line))). IsShortestInPart LineSteps LineBreaks c.args.part bs c.in_ok-start.start order.items) c.deref.ensures.value (c.in-Err-Breaks.ensures.broken order c.in-Err-Breaks.field-0-is)) in
+    (subst (λ (bs : List (Vec (Vec Line))). IsShortestInPart LineSteps LineBreaks c.args.part bs c.in_ok-start.start order.items) c.deref.ensures.value (shortest_of c.args.part c.deref.result.now c.in_ok-start.start c.in-Some.left c.in-Err-Breaks.field-0 order c.in-Err-Breaks.field-0-is c.in-Err-Breaks.ensures)) in
     let (runs, number, there, found, broken, put) = c.in_ok-push_broken-in-Err-Breaks.ensures in
     let are = subst (λ (turns : List Turn). AreRunsOf plan.blocks.items plan.opened.items turns runs) c.deref-in-Err-Breaks.ensures.value found in
     (script_text c.args.lines.now plan.before.items runs number there, record { plan = plan; is = is; order = order.items; shortest = shortest; runs = runs; are = are; number = number; there = there; broken = broken; script = refl }, put)

@@ -1,5 +1,5 @@
 use Rattle.i3c_explore.specs.Twins.{AllTwins}
-use Rattle.i3c_explore.proofs.twin.twins_of.Given as goal
+use Rattle.i3c_explore.proofs.twin_pair.twins_of.Given as goal
 
 -- those so far are twins
 abbrev pub invariant-loop-later : goal.invariant-loop-later

@@ -1,8 +1,8 @@
 use Rattle.std.proofs.Common.{subst, sym}
 use Rattle.i3c_explore.specs.Twins.{AllTwins}
 use Rattle.i3c_explore.proofs.Merging.{twins_more}
-use Rattle.i3c_explore.proofs.twin.twins_of.Goals as goal
-use Rattle.i3c_explore.proofs.twin.twins_of.Goals.{in-Some+in_ok-push, in_default}
+use Rattle.i3c_explore.proofs.twin_pair.twins_of.Goals as goal
+use Rattle.i3c_explore.proofs.twin_pair.twins_of.Goals.{in-Some+in_ok-push, in_default}
 
 pub loop-later-preserved : goal.loop-later-preserved
 loop-later-preserved g c =

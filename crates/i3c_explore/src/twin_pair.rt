@@ -6,23 +6,26 @@ use crate::machine::Machine;
 use crate::node::{Node, is_like};
 use std::alloc::{AllocError, Global};
 
-/// Two nodes that are alike, of those that all jobs found, by their indices.
+/// A pair of nodes of two jobs, which are at the same places, in the same state. Each is an index among the nodes of all
+/// jobs.
 #[derive(Clone, Copy)]
-pub(crate) struct Twin {
-    /// The one that another job found before.
+pub(crate) struct TwinPair {
+    /// The node of the earlier job.
     pub before: usize,
-    /// The other one.
+    /// The node of the later job.
     pub later: usize,
 }
 
-/// The nodes that one job found, of those of all jobs: where they begin, and the table by which they are found.
+/// The nodes of one job, among those of all jobs.
 #[derive(Drop)]
 pub(crate) struct JobSpan {
+    /// The index of its first node.
     pub first: usize,
+    /// The hash table by which its nodes are found.
     pub index: Index,
 }
 
-/// Whether two of some nodes are alike.
+/// Whether the nodes at two indices are equal.
 fn are_alike<M: Machine>(nodes: &[Node<M>], before: usize, later: usize) -> bool
     ensures { IsTrue result → AreTwins nodes.now before later }
 {
@@ -35,7 +38,7 @@ fn are_alike<M: Machine>(nodes: &[Node<M>], before: usize, later: usize) -> bool
     }
 }
 
-/// The node of a span that is like a later one, which has this key.
+/// The index of a node in a span that equals a later node. The later node has this key.
 fn twin_in<M: Machine>(nodes: &[Node<M>], span: &JobSpan, key: u64, later: usize) -> Option<usize>
     ensures { IfSome result (λ before. AreTwins nodes.now before later) }
 {
@@ -51,7 +54,7 @@ fn twin_in<M: Machine>(nodes: &[Node<M>], span: &JobSpan, key: u64, later: usize
     None
 }
 
-/// The first node of some spans that is like a later one, which has this key.
+/// The index of a node that equals a later node, in the first span that has one. The later node has this key.
 fn twin_of<M: Machine>(
     nodes: &[Node<M>],
     spans: &[JobSpan],
@@ -68,7 +71,7 @@ fn twin_of<M: Machine>(
     None
 }
 
-/// The number of the span that has a node.
+/// The number of the span that a node is in.
 fn span_of(spans: &[JobSpan], node: usize) -> usize {
     let mut begun = 0usize;
     for span in spans {
@@ -79,7 +82,7 @@ fn span_of(spans: &[JobSpan], node: usize) -> usize {
     begun.saturating_sub(1)
 }
 
-/// The first node like this one that another job found before.
+/// The index of an equal node that an earlier job found, of the first such job.
 fn twin_before<M: Machine>(nodes: &[Node<M>], spans: &[JobSpan], later: usize) -> Option<usize>
     ensures { IfSome result (λ before. AreTwins nodes.now before later) }
 {
@@ -90,30 +93,30 @@ fn twin_before<M: Machine>(nodes: &[Node<M>], spans: &[JobSpan], later: usize) -
     twin_of(nodes, earlier, key, later)
 }
 
-/// Of the nodes in `from..to`, those that an earlier job has found too, each with the first such node.
+/// The pairs of the nodes `from..to`. Each node that an earlier job found too is in one, with that job's node.
 pub(crate) fn twins_of<M: Machine>(
     alloc: Global,
     nodes: &[Node<M>],
     spans: &[JobSpan],
     from: usize,
     to: usize,
-) -> Result<Vec<Twin>, AllocError>
+) -> Result<Vec<TwinPair>, AllocError>
     ensures { IfOk result (λ twins. AllTwins nodes.now twins.items) }
 {
     let mut twins = Vec::new(alloc);
     for later in from..to {
         if let Some(before) = twin_before(nodes, spans, later) {
-            twins.push(Twin { before, later })?;
+            twins.push(TwinPair { before, later })?;
         }
     }
     Ok(twins)
 }
 
-/// The twins that all jobs found, one job's behind the other's.
+/// The pairs that all jobs found, in the order of the jobs.
 pub(crate) fn all_twins(
     alloc: Global,
-    found: Vec<Result<Vec<Twin>, AllocError>>,
-) -> Result<Vec<Twin>, AllocError>
+    found: Vec<Result<Vec<TwinPair>, AllocError>>,
+) -> Result<Vec<TwinPair>, AllocError>
     ensures { IfOk result (λ all. AreFound found.items all.items) }
 {
     let mut all = Vec::new(alloc);

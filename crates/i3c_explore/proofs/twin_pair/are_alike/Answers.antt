@@ -1,6 +1,6 @@
 use Rattle.std.proofs.Common.{length, refl}
 use Rattle.std.proofs.lemmas.Option.{slice_get_read}
-use Rattle.i3c_explore.proofs.twin.are_alike.Goals as goal
+use Rattle.i3c_explore.proofs.twin_pair.are_alike.Goals as goal
 
 pub returns-in-Some-get : goal.returns-in-Some-get
 returns-in-Some-get g c sure =

@@ -1,7 +1,7 @@
 use Rattle.std.proofs.Common.{◌++◌, ◌∷◌, [], subst, sym}
 use Rattle.i3c_explore.specs.Twins.{AreFound}
 use Rattle.i3c_explore.proofs.Merging.{found_more}
-use Rattle.i3c_explore.proofs.twin.all_twins.Goals as goal
+use Rattle.i3c_explore.proofs.twin_pair.all_twins.Goals as goal
 
 pub loop-made-preserved : goal.loop-made-preserved
 loop-made-preserved c =
