@@ -398,7 +398,7 @@ fn explain_device(
 ) -> Result<(), AllocError>
     ensures { OnOk result (Adds (IsTwinNote number name.now identity (state_of script.now.stage script.now.names)) text.old text.new) }
 {
-    let Ok(slot) = slot_meant(script.names, name) else {
+    let Ok(slot) = slot_meant(&script.names, name) else {
         return Ok(());
     };
     let Some(twin) = twin_of(&script.stage, slot, &identity) else {

@@ -38,8 +38,7 @@ raise_runs old new command risk before slot byte pieces refused r names answers 
   refused,
   subst (λ (s : Seen). Does s (Command.Raise r.name byte) refused new) (sym (no_cut old risk ways)) (
     pieces,
-    names,
-    subst (λ (s : Result ℕ Refusal). MatchResult s (λ slot. Answers no_past (on_bus old) (Event.Raise slot byte) pieces refused (on_bus new)) (λ why. (on_bus new ≡ on_bus old) × IsRefused why pieces refused)) (sym r.named) answers,
+    (names, subst (λ (s : Result ℕ Refusal). MatchResult s (λ slot. Answers no_past (on_bus old) (Event.Raise slot byte) pieces refused (on_bus new)) (λ why. (on_bus new ≡ on_bus old) × IsRefused why pieces refused)) (sym r.named) answers),
   ),
   came,
 )

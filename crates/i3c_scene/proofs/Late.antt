@@ -28,7 +28,6 @@ use Rattle.i3c_lines.specs.declared.names.Place.{Place}
 use Rattle.i3c_lines.specs.declared.refusals.Refusal.{Refusal}
 use Rattle.i3c_log_laws.specs.Behind.{reply_from}
 use Rattle.i3c_script.specs.declared.piece.Piece.{Piece}
-use Rattle.i3c_script.specs.declared.replies.Subject.{Subject}
 use Rattle.i3c_script.specs.Assigning.{Assigns, Moves, cuts_left}
 use Rattle.i3c_script.specs.Obeying.{cut_at}
 use Rattle.i3c_script.specs.Telling.{IsTold}
@@ -150,51 +149,59 @@ assigns_late old pieces refused new s bit other late (inr (why, moves, told, is)
 -- a command that sends a frame does the same with a late cut
 does_late : (old : Seen) (command : Command) (refused : Option Refusal) (new : Seen) (s bit : ℕ) → sends command ≡ true → s ≢ old.state.active → last_bit old.state command < bit
     → Does old command refused new → Does (with_cuts old (cut_at old.cuts s bit)) command refused new
-does_late old (Command.Frame frame) refused new s bit e other late (pieces, same, (fixed, accepts, (reply, moves, told))) =
+does_late old (Command.Frame frame) refused new s bit e other late (pieces, (same, (fixed, accepts, (reply, moves, told)))) =
     let cuts = cut_at old.cuts s bit in (
       pieces,
-      same,
       (
-        fixed,
-        accepts,
+        same,
         (
-          reply,
-          moves_as old cuts (event_of frame fixed old.cuts) (event_of frame fixed cuts) reply new (frame_left frame fixed old.cuts cuts) (frame_late old.state frame fixed old.cuts reply new.state s bit other late) moves,
-          subst (λ (subject : Subject). IsTold subject (reply_from old.settings.forgotten reply) pieces refused) (sym (one_subject frame fixed old.cuts) ∙ one_subject frame fixed cuts) told,
+          fixed,
+          accepts,
+          (
+            reply,
+            moves_as old cuts (event_of frame fixed old.cuts) (event_of frame fixed cuts) reply new (frame_left frame fixed old.cuts cuts) (frame_late old.state frame fixed old.cuts reply new.state s bit other late) moves,
+            subst (λ subject. IsTold subject (reply_from old.settings.forgotten reply) pieces refused) (sym (one_subject frame fixed old.cuts) ∙ one_subject frame fixed cuts) told,
+          ),
         ),
       ),
     )
-does_late old (Command.HandOver to) refused new s bit e other late (pieces, same, (reply, moves, told)) = (
+does_late old (Command.HandOver to) refused new s bit e other late (pieces, (same, (reply, moves, told))) = (
   pieces,
-  same,
   (
-    reply,
-    moves_as old (cut_at old.cuts s bit) (Event.HandOver to old.cuts) (Event.HandOver to (cut_at old.cuts s bit)) reply new refl
-        (step_late old.state (Event.HandOver to old.cuts) reply new.state s bit other late) moves,
-    told,
+    same,
+    (
+      reply,
+      moves_as old (cut_at old.cuts s bit) (Event.HandOver to old.cuts) (Event.HandOver to (cut_at old.cuts s bit)) reply new refl
+          (step_late old.state (Event.HandOver to old.cuts) reply new.state s bit other late) moves,
+      told,
+    ),
   ),
 )
-does_late old Command.Open refused new s bit e other late (pieces, same, (reply, moves, told)) = (
+does_late old Command.Open refused new s bit e other late (pieces, (same, (reply, moves, told))) = (
   pieces,
-  same,
   (
-    reply,
-    moves_as old (cut_at old.cuts s bit) (Event.OpenDaa old.cuts) (Event.OpenDaa (cut_at old.cuts s bit)) reply new refl
-        (step_late old.state (Event.OpenDaa old.cuts) reply new.state s bit other late) moves,
-    told,
+    same,
+    (
+      reply,
+      moves_as old (cut_at old.cuts s bit) (Event.OpenDaa old.cuts) (Event.OpenDaa (cut_at old.cuts s bit)) reply new refl
+          (step_late old.state (Event.OpenDaa old.cuts) reply new.state s bit other late) moves,
+      told,
+    ),
   ),
 )
-does_late old Command.Round refused new s bit e other late (pieces, same, (reply, moves, told)) = (
+does_late old Command.Round refused new s bit e other late (pieces, (same, (reply, moves, told))) = (
   pieces,
-  same,
   (
-    reply,
-    moves_as old (cut_at old.cuts s bit) (Event.Round old.cuts) (Event.Round (cut_at old.cuts s bit)) reply new refl
-        (step_late old.state (Event.Round old.cuts) reply new.state s bit other late) moves,
-    told,
+    same,
+    (
+      reply,
+      moves_as old (cut_at old.cuts s bit) (Event.Round old.cuts) (Event.Round (cut_at old.cuts s bit)) reply new refl
+          (step_late old.state (Event.Round old.cuts) reply new.state s bit other late) moves,
+      told,
+    ),
   ),
 )
-does_late old Command.Daa refused new s bit e other late (pieces, same, assigns) = (pieces, same, assigns_late old pieces refused new s bit other late assigns)
+does_late old Command.Daa refused new s bit e other late (pieces, (same, assigns)) = (pieces, (same, assigns_late old pieces refused new s bit other late assigns))
 does_late old (Command.Attach name setup) refused new s bit e other late does = absurd cc
 does_late old (Command.DropOff name) refused new s bit e other late does = absurd cc
 does_late old (Command.Raise name byte) refused new s bit e other late does = absurd cc

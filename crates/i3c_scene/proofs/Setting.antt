@@ -9,7 +9,6 @@ use Rattle.i3c_lines.specs.declared.refusals.Refusal.{Refusal}
 use Rattle.i3c_lines.specs.Keeping.{slot_meant}
 use Rattle.i3c_script.specs.declared.past.Unkept.{Unkept}
 use Rattle.i3c_script.specs.declared.piece.Piece.{Piece}
-use Rattle.i3c_script.specs.declared.settings.Settings.{Settings}
 use Rattle.i3c_script.specs.Asking.{slot_of_device}
 use Rattle.i3c_script.specs.Assigning.{Assigns}
 use Rattle.i3c_script.specs.Obeying.{Answers, AnswersIn, Does as DoesOn, IsDone, IsRefused, cut_at}
@@ -72,28 +71,28 @@ keeps old new names (Command.Declare address identity) pieces refused n h = same
 keeps old new names (Command.Main name setup) pieces refused n h = same_kept old old new refl h.0
 
 does_same : (old new : Seen) (command : Command) (refused : Option Refusal) → sets_some (Some command) ≡ false → Does old command refused new → HasSameSettings old new
-does_same old new (Command.Frame frame) refused n (pieces, same, h) = record { settings = keeps (on_bus old) (on_bus new) old.names (Command.Frame frame) pieces refused n h; names = same }
-does_same old new (Command.DropOff name) refused n (pieces, same, h) = record { settings = keeps (on_bus old) (on_bus new) old.names (Command.DropOff name) pieces refused n h; names = same }
-does_same old new (Command.Raise name byte) refused n (pieces, same, h) = record { settings = keeps (on_bus old) (on_bus new) old.names (Command.Raise name byte) pieces refused n h; names = same }
-does_same old new (Command.AskJoin name) refused n (pieces, same, h) = record { settings = keeps (on_bus old) (on_bus new) old.names (Command.AskJoin name) pieces refused n h; names = same }
-does_same old new (Command.AskRole name) refused n (pieces, same, h) = record { settings = keeps (on_bus old) (on_bus new) old.names (Command.AskRole name) pieces refused n h; names = same }
-does_same old new (Command.HandOver to) refused n (pieces, same, h) = record { settings = keeps (on_bus old) (on_bus new) old.names (Command.HandOver to) pieces refused n h; names = same }
-does_same old new (Command.Open) refused n (pieces, same, h) = record { settings = keeps (on_bus old) (on_bus new) old.names (Command.Open) pieces refused n h; names = same }
-does_same old new (Command.Round) refused n (pieces, same, h) = record { settings = keeps (on_bus old) (on_bus new) old.names (Command.Round) pieces refused n h; names = same }
-does_same old new (Command.End) refused n (pieces, same, h) = record { settings = keeps (on_bus old) (on_bus new) old.names (Command.End) pieces refused n h; names = same }
-does_same old new (Command.Daa) refused n (pieces, same, h) = record { settings = keeps (on_bus old) (on_bus new) old.names (Command.Daa) pieces refused n h; names = same }
-does_same old new (Command.Policy kinds) refused n (pieces, same, h) = record { settings = keeps (on_bus old) (on_bus new) old.names (Command.Policy kinds) pieces refused n h; names = same }
-does_same old new (Command.PolicyBut kinds but) refused n (pieces, same, h) = record { settings = keeps (on_bus old) (on_bus new) old.names (Command.PolicyBut kinds but) pieces refused n h; names = same }
-does_same old new (Command.Cut name bit) refused n (pieces, same, h) = record { settings = keeps (on_bus old) (on_bus new) old.names (Command.Cut name bit) pieces refused n h; names = same }
-does_same old new (Command.Show) refused n (pieces, same, h) = record { settings = keeps (on_bus old) (on_bus new) old.names (Command.Show) pieces refused n h; names = same }
-does_same old new (Command.ShowAll) refused n (pieces, same, h) = record { settings = keeps (on_bus old) (on_bus new) old.names (Command.ShowAll) pieces refused n h; names = same }
-does_same old new (Command.ShowFrom first) refused n (pieces, same, h) = record { settings = keeps (on_bus old) (on_bus new) old.names (Command.ShowFrom first) pieces refused n h; names = same }
-does_same old new (Command.Forget last) refused n (pieces, same, h) = record { settings = keeps (on_bus old) (on_bus new) old.names (Command.Forget last) pieces refused n h; names = same }
-does_same old new (Command.Symbols) refused n (pieces, same, h) = record { settings = keeps (on_bus old) (on_bus new) old.names (Command.Symbols) pieces refused n h; names = same }
-does_same old new (Command.Frames count) refused n (pieces, same, h) = record { settings = keeps (on_bus old) (on_bus new) old.names (Command.Frames count) pieces refused n h; names = same }
-does_same old new (Command.Legacy name address lvr) refused n (pieces, same, h) = record { settings = keeps (on_bus old) (on_bus new) old.names (Command.Legacy name address lvr) pieces refused n h; names = same }
-does_same old new (Command.Declare address identity) refused n (pieces, same, h) = record { settings = keeps (on_bus old) (on_bus new) old.names (Command.Declare address identity) pieces refused n h; names = same }
-does_same old new (Command.Main name setup) refused n (pieces, same, h) = record { settings = keeps (on_bus old) (on_bus new) old.names (Command.Main name setup) pieces refused n h; names = same }
+does_same old new (Command.Frame frame) refused n (pieces, (same, h)) = record { settings = keeps (on_bus old) (on_bus new) old.names (Command.Frame frame) pieces refused n h; names = same }
+does_same old new (Command.DropOff name) refused n (pieces, (same, h)) = record { settings = keeps (on_bus old) (on_bus new) old.names (Command.DropOff name) pieces refused n h; names = same }
+does_same old new (Command.Raise name byte) refused n (pieces, (same, h)) = record { settings = keeps (on_bus old) (on_bus new) old.names (Command.Raise name byte) pieces refused n h; names = same }
+does_same old new (Command.AskJoin name) refused n (pieces, (same, h)) = record { settings = keeps (on_bus old) (on_bus new) old.names (Command.AskJoin name) pieces refused n h; names = same }
+does_same old new (Command.AskRole name) refused n (pieces, (same, h)) = record { settings = keeps (on_bus old) (on_bus new) old.names (Command.AskRole name) pieces refused n h; names = same }
+does_same old new (Command.HandOver to) refused n (pieces, (same, h)) = record { settings = keeps (on_bus old) (on_bus new) old.names (Command.HandOver to) pieces refused n h; names = same }
+does_same old new (Command.Open) refused n (pieces, (same, h)) = record { settings = keeps (on_bus old) (on_bus new) old.names (Command.Open) pieces refused n h; names = same }
+does_same old new (Command.Round) refused n (pieces, (same, h)) = record { settings = keeps (on_bus old) (on_bus new) old.names (Command.Round) pieces refused n h; names = same }
+does_same old new (Command.End) refused n (pieces, (same, h)) = record { settings = keeps (on_bus old) (on_bus new) old.names (Command.End) pieces refused n h; names = same }
+does_same old new (Command.Daa) refused n (pieces, (same, h)) = record { settings = keeps (on_bus old) (on_bus new) old.names (Command.Daa) pieces refused n h; names = same }
+does_same old new (Command.Policy kinds) refused n (pieces, (same, h)) = record { settings = keeps (on_bus old) (on_bus new) old.names (Command.Policy kinds) pieces refused n h; names = same }
+does_same old new (Command.PolicyBut kinds but) refused n (pieces, (same, h)) = record { settings = keeps (on_bus old) (on_bus new) old.names (Command.PolicyBut kinds but) pieces refused n h; names = same }
+does_same old new (Command.Cut name bit) refused n (pieces, (same, h)) = record { settings = keeps (on_bus old) (on_bus new) old.names (Command.Cut name bit) pieces refused n h; names = same }
+does_same old new (Command.Show) refused n (pieces, (same, h)) = record { settings = keeps (on_bus old) (on_bus new) old.names (Command.Show) pieces refused n h; names = same }
+does_same old new (Command.ShowAll) refused n (pieces, (same, h)) = record { settings = keeps (on_bus old) (on_bus new) old.names (Command.ShowAll) pieces refused n h; names = same }
+does_same old new (Command.ShowFrom first) refused n (pieces, (same, h)) = record { settings = keeps (on_bus old) (on_bus new) old.names (Command.ShowFrom first) pieces refused n h; names = same }
+does_same old new (Command.Forget last) refused n (pieces, (same, h)) = record { settings = keeps (on_bus old) (on_bus new) old.names (Command.Forget last) pieces refused n h; names = same }
+does_same old new (Command.Symbols) refused n (pieces, (same, h)) = record { settings = keeps (on_bus old) (on_bus new) old.names (Command.Symbols) pieces refused n h; names = same }
+does_same old new (Command.Frames count) refused n (pieces, (same, h)) = record { settings = keeps (on_bus old) (on_bus new) old.names (Command.Frames count) pieces refused n h; names = same }
+does_same old new (Command.Legacy name address lvr) refused n (pieces, (same, h)) = record { settings = keeps (on_bus old) (on_bus new) old.names (Command.Legacy name address lvr) pieces refused n h; names = same }
+does_same old new (Command.Declare address identity) refused n (pieces, (same, h)) = record { settings = keeps (on_bus old) (on_bus new) old.names (Command.Declare address identity) pieces refused n h; names = same }
+does_same old new (Command.Main name setup) refused n (pieces, (same, h)) = record { settings = keeps (on_bus old) (on_bus new) old.names (Command.Main name setup) pieces refused n h; names = same }
 does_same old new (Command.Attach name setup) refused n h = absurd (false≢true (sym n))
 
 cut_in_same : (old : Seen) (slot : Option ℕ) (way : ℕ) → HasSameSettings old (cut_in old slot way)

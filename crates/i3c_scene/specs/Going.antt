@@ -13,7 +13,7 @@ use Rattle.i3c_scene.specs.Scenes.{Seen, known_kept, seen}
 
 -- a scene without its names, as a bus of which no past is kept
 abbrev pub on_bus : Seen → Situation Unkept
-on_bus scene = situation scene.state scene.settings scene.cuts (record { })
+on_bus scene = situation scene.state scene.settings scene.cuts (record {})
 
 -- what a command does, and why it is refused, if it is: what it does on any bus, whatever it comes to
 abbrev pub Does : Seen → Command → Option Refusal → Seen → Type 0
