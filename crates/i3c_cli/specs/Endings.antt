@@ -6,7 +6,6 @@ use Rattle.i3c_streams.specs.declared.tally.Tally.{Tally}
 use Rattle.i3c_stress.specs.declared.report.StressFault.{StressFault}
 use Rattle.i3c_task.specs.declared.words_fault.WordsFault.{WordsFault}
 use Rattle.i3c_wave.specs.declared.capture_fault.CaptureFault.{CaptureFault}
-use Rattle.i3c_wave.specs.declared.fault.WaveFault.{WaveFault}
 use Rattle.i3c_cli.specs.declared.fault.Fault.{Fault}
 
 -- a script's fault, as standard error is told
@@ -20,13 +19,6 @@ told_as ScriptFault.TooLarge = Fault.TooLarge
 abbrev pub stress_told_as : StressFault → Fault
 stress_told_as StressFault.Memory = Fault.Memory
 stress_told_as StressFault.NotBalanced = Fault.NotBalanced
-
--- the program's fault for a fault of a waveform
-abbrev pub wave_told_as : WaveFault → Fault
-wave_told_as WaveFault.Memory = Fault.Memory
-wave_told_as WaveFault.Read = Fault.Read
-wave_told_as WaveFault.Write = Fault.Write
-wave_told_as WaveFault.TooLarge = Fault.TooLarge
 
 -- the program's fault for a fault of a capture
 abbrev pub capture_told_as : CaptureFault → Fault
@@ -52,8 +44,8 @@ flushed_ending (Ok tally) true = Ok tally
 flushed_ending (Ok tally) false = Err Fault.Write
 
 -- a waveform's own fault comes first; a trace with a fault is a refused line
-abbrev pub wave_ending : Result (Option TraceFault) WaveFault → Bool → Result Tally Fault
-wave_ending (Err fault) flushed = Err (wave_told_as fault)
+abbrev pub wave_ending : Result (Option TraceFault) ScriptFault → Bool → Result Tally Fault
+wave_ending (Err fault) flushed = Err (told_as fault)
 wave_ending (Ok fault) false = Err Fault.Write
 wave_ending (Ok None) true = Ok (record { refused = 0; unmet = 0 })
 wave_ending (Ok (Some fault)) true = Ok (record { refused = 1; unmet = 0 })

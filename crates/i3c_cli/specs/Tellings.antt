@@ -1,19 +1,21 @@
 -- What goes out of a trace that is told.
-use Rattle.std.specs.Prelude.{◌≡◌, ◌⊎◌, ℕ, Bool, true, false, List, [], Option, Some, IfSome, Result, Ok, Err, IsErr}
-use Rattle.std.specs.Io.KnownBytes.{Appends, Keeps}
+use Rattle.std.specs.Prelude.{◌≡◌, ◌⊎◌, ℕ, ◌<◌, Bool, true, false, List, [], Option, Some, None, IfSome, Result, Err, IsErr}
+use Rattle.i3c_ccc.specs.declared.codes.CodeSet.{CodeSet}
+use Rattle.i3c_frame.specs.declared.frames.Frames.{Frames}
+use Rattle.i3c_frame.specs.declared.symbols.Symbol.{Symbol}
 use Rattle.i3c_streams.specs.declared.faults.ScriptFault.{ScriptFault}
+use Rattle.i3c_streams.specs.declared.reading.TheConstants.{MOST_BYTES}
 use Rattle.i3c_streams.specs.declared.tally.Tally.{Tally}
-use Rattle.i3c_streams.specs.Outcomes.{AppendsSome}
 use Rattle.i3c_task.specs.declared.task.Capturing.{Capturing}
 use Rattle.i3c_task.specs.declared.task.Telling.{Telling}
 use Rattle.i3c_traces.specs.Linted.{GoesOutAs, GoesOutLinted}
+use Rattle.i3c_traces.specs.Symbols.{AreFrames, FramesGo, text_size}
 use Rattle.i3c_traces.specs.Traces.{GoesOut}
 use Rattle.i3c_wave.specs.declared.stamped.Stamped.{Stamped}
-use Rattle.i3c_wave.specs.declared.timed.LinePlace.{LinePlace}
-use Rattle.i3c_wave.specs.CaptureTexts.{HasSymbols, lines_of}
-use Rattle.i3c_wave.specs.Timed.{start_times, timed}
+use Rattle.i3c_wave.specs.CaptureTexts.{HasSymbols}
+use Rattle.i3c_wave.specs.Timed.{start_times, symbols_of}
 use Rattle.i3c_cli.specs.declared.fault.Fault.{Fault}
-use Rattle.i3c_cli.specs.Endings.{told_as}
+use Rattle.i3c_cli.specs.Endings.{ending}
 
 -- what goes out of a trace that is told in this way: with `Ok` all of its lines
 abbrev pub TellsAs : Telling → Option (List ℕ) → Option (List ℕ) → Option (List ℕ) → Result Tally ScriptFault → Type 0
@@ -21,28 +23,34 @@ TellsAs (Telling.Plain known) trace old new result = GoesOut known trace old new
 TellsAs (Telling.Lint legacies) trace old new result = GoesOutLinted legacies.0 trace old new result
 TellsAs (Telling.Explain known legacies) trace old new result = GoesOutAs known legacies trace old new result
 
--- what goes out of a trace whose frames begin at these times: with `Ok` all of its lines, with the times
-abbrev pub TellsTimed : Telling → List ℕ → Option (List ℕ) → Option (List ℕ) → Option (List ℕ) → Result Tally Fault → Type 0
-TellsTimed telling times trace old new (Ok tally) =
-    (lines : List ℕ) × TellsAs telling trace (Some []) (Some lines) (Ok tally) × Appends old new (timed LinePlace.Begin times lines)
-TellsTimed telling times trace old new (Err fault) = Keeps old new ⊎ ((lines : List ℕ) × AppendsSome old new (timed LinePlace.Begin times lines))
+-- what goes out of frames that begin at these times and are told in this way
+abbrev pub TellsFrames : Telling → Frames → List ℕ → Option (List ℕ) → Option (List ℕ) → Result Tally ScriptFault → Type 0
+TellsFrames (Telling.Plain known) frames times old new result = FramesGo known None frames times old new result
+TellsFrames (Telling.Lint legacies) frames times old new result = FramesGo CodeSet.Extended (Some legacies) frames times old new result
+TellsFrames (Telling.Explain known legacies) frames times old new result = FramesGo known legacies frames times old new result
 
--- the same without times: with `Ok` all of its lines, and a script's fault is told as the program's
-abbrev pub TellsPlain : Telling → Option (List ℕ) → Option (List ℕ) → Option (List ℕ) → Result Tally Fault → Type 0
-TellsPlain telling trace old new (Ok tally) = TellsAs telling trace old new (Ok tally)
-TellsPlain telling trace old new (Err fault) = (cause : ScriptFault) × (fault ≡ told_as cause) × TellsAs telling trace old new (Err cause)
+-- the times that are told of the frames of symbols: those at which they begin, if they are asked for
+abbrev pub told_times : Bool → List Stamped → List ℕ
+told_times true symbols = start_times symbols
+told_times false symbols = []
 
--- want of memory before the first line
-abbrev pub TellsNothing : Option (List ℕ) → Option (List ℕ) → Result Tally Fault → Type 0
-TellsNothing old new result = (result ≡ Err Fault.Memory) × (new ≡ old)
+-- nothing is told for want of memory, or of symbols whose text would be longer than a trace may be
+abbrev pub TellsNothing : List Symbol → Option (List ℕ) → Option (List ℕ) → Result Tally Fault → Type 0
+TellsNothing symbols old new result =
+    ((result ≡ Err Fault.Memory) ⊎ ((result ≡ Err Fault.TooLarge) × (MOST_BYTES < text_size symbols))) × (new ≡ old)
+
+-- the frames of symbols were told, with these times; a script's fault is told as the program's
+pub record ToldFrames (telling : Telling) (symbols : List Symbol) (times : List ℕ) (old new : Option (List ℕ)) (result : Result Tally Fault) : Type 0 where
+  pub frames : Frames
+  pub are : AreFrames symbols frames
+  pub outcome : Result Tally ScriptFault
+  pub told : TellsFrames telling frames times old new outcome
+  pub same : result ≡ ending outcome true
 
 -- what goes out of symbols, with the times of their frames or without
-abbrev pub TellsTrace : Bool → Telling → List Stamped → Option (List ℕ) → Option (List ℕ) → Result Tally Fault → Type 0
-TellsTrace true telling symbols old new result = TellsTimed telling (start_times symbols) (Some (lines_of symbols)) old new result
-TellsTrace false telling symbols old new result = TellsPlain telling (Some (lines_of symbols)) old new result
-
 abbrev pub TellsSymbols : Bool → Telling → List Stamped → Option (List ℕ) → Option (List ℕ) → Result Tally Fault → Type 0
-TellsSymbols numbers telling symbols old new result = TellsNothing old new result ⊎ TellsTrace numbers telling symbols old new result
+TellsSymbols numbers telling symbols old new result =
+    TellsNothing (symbols_of symbols) old new result ⊎ ToldFrames telling (symbols_of symbols) (told_times numbers symbols) old new result
 
 -- the symbols of a known capture, if it could be read
 abbrev pub ReadsAs : Capturing → List ℕ → List Stamped → Type 0

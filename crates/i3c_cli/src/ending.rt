@@ -4,7 +4,6 @@ ghost use Rattle.i3c_cli.specs.Endings.{ending, flushed_ending, tally_status, wa
 use crate::fault::Fault;
 use i3c_frame::TraceFault;
 use i3c_streams::{ScriptFault, Tally};
-use i3c_wave::WaveFault;
 
 /// The exit status if a script was run to its end, no line was refused, and each expectation was met; or if all holds in
 /// every order.
@@ -46,7 +45,7 @@ pub(crate) fn flushed_tally(outcome: Result<Tally, Fault>, flushed: bool) -> Res
 
 /// The ending of a waveform: whether its trace had a fault, and whether its output was taken whole.
 pub(crate) fn wave_ending(
-    outcome: Result<Option<TraceFault>, WaveFault>,
+    outcome: Result<Option<TraceFault>, ScriptFault>,
     flushed: bool,
 ) -> Result<Tally, Fault>
     ensures { result ≡ wave_ending outcome flushed }

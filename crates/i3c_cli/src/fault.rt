@@ -1,6 +1,6 @@
 use i3c_streams::ScriptFault;
 use i3c_task::WordsFault;
-use i3c_wave::{CaptureFault, WaveFault};
+use i3c_wave::CaptureFault;
 use std::alloc::AllocError;
 use thiserror::Error;
 
@@ -40,22 +40,6 @@ impl From<ScriptFault> for Fault {
             ScriptFault::Read => Fault::Read,
             ScriptFault::Write => Fault::Write,
             ScriptFault::TooLarge => Fault::TooLarge,
-        }
-    }
-}
-
-impl From<WaveFault> for Fault {
-    ghost use Rattle.std.specs.Prelude.{◌≡◌};
-    ghost use Rattle.i3c_cli.specs.Endings.{wave_told_as};
-
-    ghost from_gives = { λ fault told. told ≡ wave_told_as fault };
-
-    fn from(fault: WaveFault) -> Fault {
-        match fault {
-            WaveFault::Memory => Fault::Memory,
-            WaveFault::Read => Fault::Read,
-            WaveFault::Write => Fault::Write,
-            WaveFault::TooLarge => Fault::TooLarge,
         }
     }
 }

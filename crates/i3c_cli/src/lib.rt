@@ -23,6 +23,6 @@ pub use fault::Fault;
 pub use output::{Output, tell_fault};
 pub use run::{reading_fault, run_capture, run_file};
 pub use stressing::run_stress;
-pub use telling::{tell_capture, tell_timed, tell_trace};
+pub use telling::{tell_capture, tell_trace};
 pub use version::print_version;
 pub use waving::wave_script;

@@ -1,14 +1,17 @@
-ghost use Rattle.std.specs.Prelude.{◌≡◌, IfOk, Err, Ok};
-ghost use Rattle.i3c_cli.specs.Tellings.{HasFailed, TellsAs, TellsCapture, TellsSymbols, TellsTimed};
+ghost use Rattle.std.specs.Prelude.{◌≡◌, Err, IfOk};
+ghost use Rattle.i3c_cli.specs.Tellings.{HasFailed, TellsAs, TellsCapture, TellsFrames, TellsSymbols, told_times};
 
 use crate::ending::tally_of;
 use crate::fault::Fault;
-use i3c_streams::{ScriptFault, Tally, write_out};
+use i3c_ccc::CodeSet;
+use i3c_frame::Frames;
+use i3c_streams::{ScriptFault, Tally};
 use i3c_task::{Capturing, Telling};
-use i3c_text::Text;
-use i3c_traces::{run_explained_knowing, run_lint, run_trace_knowing};
-use i3c_wave::{Source, Stamped, frame_times, push_timed, read_capture, symbols_text};
-use std::alloc::Global;
+use i3c_traces::{
+    explain_frames, frames_of, run_explained_knowing, run_lint, run_trace_knowing, tell_frames,
+};
+use i3c_wave::{Source, Stamped, frame_times, read_capture, symbols_of};
+use std::alloc::{AllocError, Global};
 use std::io::{Read, Write};
 
 /// Tells the trace of a reader in this way, and `notes` why its lines are refused, if that is asked for.
@@ -30,25 +33,6 @@ pub fn tell_trace<S: Read, W: Write>(
     }
 }
 
-/// Tells the same with the times at which the frames begin. What is told is gathered, and goes out on a fault too.
-pub fn tell_timed<S: Read, W: Write>(
-    alloc: Global,
-    telling: Telling,
-    times: &[u64],
-    input: &mut S,
-    out: &mut W,
-    notes: &mut String,
-) -> Result<Tally, Fault>
-    ensures { TellsTimed telling times.now (S.remaining input.old) (W.contents out.old) (W.contents out.new) result }
-{
-    let mut told = Vec::new(alloc);
-    let outcome = gathered_tally(tell_trace(alloc, telling, input, &mut told, notes));
-    let mut text = Text::new(alloc);
-    push_timed(times, &told, &mut text)?;
-    let written = write_out(text.as_bytes(), out).is_ok();
-    tally_of(outcome, written)
-}
-
 /// Tells the symbols of a reader's capture, with `notes` as above. A read that fails is told as such.
 pub fn tell_capture<S: Read, W: Write>(
     alloc: Global,
@@ -64,7 +48,7 @@ pub fn tell_capture<S: Read, W: Write>(
     let scl = capturing.scl.as_bytes();
     let sda = capturing.sda.as_bytes();
     let symbols = read_capture(alloc, capturing.legacies, scl, sda, input)?;
-    tell_symbols(alloc, capturing.numbers, telling, &symbols, out, notes)
+    tell_symbols(alloc, capturing.numbers, telling, symbols, out, notes)
 }
 
 /// Tells the symbols of a capture, with the times at which the frames begin or without.
@@ -72,30 +56,52 @@ fn tell_symbols<W: Write>(
     alloc: Global,
     numbers: bool,
     telling: Telling,
-    symbols: &[Stamped],
+    stamped: Vec<Stamped>,
     out: &mut W,
     notes: &mut String,
 ) -> Result<Tally, Fault>
-    ensures { TellsSymbols numbers telling symbols.now (W.contents out.old) (W.contents out.new) result }
+    ensures { TellsSymbols numbers telling stamped.items (W.contents out.old) (W.contents out.new) result }
 {
-    let text = symbols_text(alloc, symbols)?;
-    let mut trace = text.as_bytes();
+    let times = told_times(alloc, numbers, &stamped)?;
+    let symbols = symbols_of(alloc, &stamped)?;
+    drop(stamped);
+    let frames = frames_of(symbols)?;
+    tally_of(
+        tell_whole(alloc, telling, &frames, &times, out, notes),
+        true,
+    )
+}
+
+/// The times that are told of the frames of symbols: those at which they begin, if they are asked for.
+fn told_times(alloc: Global, numbers: bool, symbols: &[Stamped]) -> Result<Vec<u64>, AllocError>
+    ensures { IfOk result (λ times. times.items ≡ told_times numbers symbols.now) }
+{
     if numbers {
-        let times = frame_times(alloc, symbols)?;
-        return tell_timed(alloc, telling, &times, &mut trace, out, notes);
-    }
-    match tell_trace(alloc, telling, &mut trace, out, notes) {
-        Ok(tally) => Ok(tally),
-        Err(fault) => Err(Fault::from(fault)),
+        frame_times(alloc, symbols)
+    } else {
+        Ok(Vec::new(alloc))
     }
 }
 
-/// The result of lines whose output is gathered: it is lost only for want of memory.
-fn gathered_tally(outcome: Result<Tally, ScriptFault>) -> Result<Tally, ScriptFault>
-    ensures { IfOk result (λ tally. outcome ≡ Ok tally) }
+/// Tells frames in this way, and `notes` why they are refused, if that is asked for. The frames begin at these times.
+fn tell_whole<W: Write>(
+    alloc: Global,
+    telling: Telling,
+    frames: &Frames<'_>,
+    times: &[u64],
+    out: &mut W,
+    notes: &mut String,
+) -> Result<Tally, ScriptFault>
+    ensures { TellsFrames telling frames.now times.now (W.contents out.old) (W.contents out.new) result }
 {
-    match outcome {
-        Err(ScriptFault::Write) => Err(ScriptFault::Memory),
-        outcome => outcome,
+    match telling {
+        Telling::Plain(codes) => tell_frames(alloc, codes, None, frames, times, out),
+        Telling::Lint(legacies) => {
+            tell_frames(alloc, CodeSet::Extended, Some(legacies), frames, times, out)
+        }
+        Telling::Explain(codes, legacies) => {
+            explain_frames(alloc, codes, legacies, frames, notes);
+            tell_frames(alloc, codes, legacies, frames, times, out)
+        }
     }
 }

@@ -1,19 +1,16 @@
-ghost use Rattle.std.specs.Prelude.{◌≡◌, ◌++◌, MatchResult, OnOk};
+ghost use Rattle.std.specs.Prelude.{◌≡◌, ◌++◌, OnOk};
 ghost use Rattle.i3c_wave.specs.Dump.{symbols_dump};
-ghost use Rattle.i3c_streams.specs.Outcomes.{AppendsSome, PutsOrFails, WritesFront, output};
+ghost use Rattle.i3c_streams.specs.Outcomes.{PutsOrFails, output};
 ghost use Rattle.i3c_cli.specs.Wavings.{GoesLast, IsWaved, after_wire, line_dump};
 
 use i3c_base::Addresses;
 use i3c_frame::Symbol;
 use i3c_runner::{Viewer, run_viewed};
-use i3c_streams::{ScriptFault, Tally, write_out};
+use i3c_streams::{ScriptFault, Tally, write_gathered, write_out};
 use i3c_text::Text;
 use i3c_wave::{Wave, push_script_line, push_script_preamble, push_served};
 use std::alloc::{AllocError, Global};
 use std::io::{Read, Write};
-
-/// A dump is written out once this many bytes of it are gathered.
-const GATHERED: usize = 1024;
 
 /// Runs a script, and writes the value change dump (IEEE 1364) of its wire, with its lines and what they printed, to a writer that
 /// it gives back. Legacy targets have these addresses. What lines sent before a fault goes out too.
@@ -127,24 +124,6 @@ fn gather<W: Write>(dump: &[u8], text: &mut Text, out: &mut W) -> Result<(), Scr
     match text.push(dump) {
         Ok(()) => write_gathered(text, out),
         Err(_) => Err(ScriptFault::Memory),
-    }
-}
-
-/// Writes out what is gathered, once it is long enough.
-fn write_gathered<W: Write>(text: &mut Text, out: &mut W) -> Result<(), ScriptFault>
-    ensures { MatchResult result
-        (λ _. WritesFront (W.contents out.old) (W.contents out.new) text.old text.new)
-        (λ fault. (fault ≡ ScriptFault.Write) × AppendsSome (W.contents out.old) (W.contents out.new) text.old) }
-{
-    if text.as_bytes().len() < GATHERED {
-        return Ok(());
-    }
-    match write_out(text.as_bytes(), out) {
-        Ok(()) => {
-            text.clear();
-            Ok(())
-        }
-        Err(fault) => Err(fault),
     }
 }
 

@@ -1,5 +1,5 @@
 -- What is told as a linter goes on.
-use Rattle.std.proofs.Common.{◌≡◌, ◌≤◌, ◌∙◌, ℕ, zero, suc, ◌+◌, List, [], ◌∷◌, ◌++◌, length, drop, map, Option, Some, None, Result, Ok, Err, IfOk, ap, sym, arith}
+use Rattle.std.proofs.Common.{◌≡◌, ◌≤◌, ◌∙◌, ℕ, zero, suc, ◌+◌, List, [], ◌∷◌, ◌++◌, length, drop, map, Option, Some, None, Result, Ok, Err, IfOk, ap, refl, sym, arith}
 use Rattle.std.specs.Option.{option_to_list}
 use Rattle.i3c_ccc.specs.declared.codes.CodeSet.{CodeSet}
 use Rattle.i3c_frame.specs.declared.symbols.Symbol.{Symbol}
@@ -11,7 +11,8 @@ use Rattle.i3c_monitor.specs.declared.lint_fault.LintFault.{LintFault}
 use Rattle.i3c_monitor.specs.declared.report.Report.{Report}
 use Rattle.i3c_monitor.specs.Known.{learned_of}
 use Rattle.i3c_monitor.specs.Lint.{LintLine, header_faults, linted, mode_at, settled, told_at}
-use Rattle.i3c_monitor.specs.Lint.LintLine.{Shown}
+use Rattle.i3c_monitor.specs.Lint.LintLine.{Faulty, Shown}
+use Rattle.i3c_monitor.specs.LintLines.{fault_line, faults_text, lint_text}
 use Rattle.i3c_monitor.specs.Linting.{reported}
 use Rattle.i3c_monitor.specs.Told.{told}
 use Rattle.i3c_monitor.specs.Trace.{behind, count_behind, header_in}
@@ -96,3 +97,8 @@ headed_on legacies mode frames before known faults header rest front back count 
     ∙ ap (λ known. map Shown (option_to_list found.decoded) ++ linted legacies found.mode frames (before + length front) known all 0 back) (sym known_is)
     ∙ ap (λ faults. map Shown (option_to_list found.decoded) ++ linted legacies found.mode frames (before + length front) known_then faults 0 back) (sym faults_is)
     ∙ ap (λ shown. shown ++ linted legacies found.mode frames (before + length front) known_then faults_then 0 back) (sym shown_is)
+
+-- faults that are told together have the lines of a report
+pub faults_told : (trace : List Symbol) (times : List ℕ) (faults : List LintFault) → lint_text trace times (map Faulty faults) ≡ faults_text trace faults
+faults_told trace times [] = refl
+faults_told trace times (fault ∷ rest) = ap (λ lines. fault_line trace fault ++ lines) (faults_told trace times rest)

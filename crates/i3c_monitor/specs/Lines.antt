@@ -1,5 +1,5 @@
 -- The lines that are printed.
-use Rattle.std.specs.Prelude.{ℕ, Bool, true, false, List, [], ◌∷◌, ◌++◌, codes, drop, take, Option, Some, None}
+use Rattle.std.specs.Prelude.{ℕ, ◌-◌, Bool, true, false, List, [], ◌∷◌, ◌++◌, codes, drop, slice_get, take, Option, Some, None}
 use Rattle.std.specs.Fmt.{decimal}
 use Rattle.i3c_base.specs.declared.datum.Datum.{Datum}
 use Rattle.i3c_base.specs.declared.datum.Direction.{Direction}
@@ -110,25 +110,34 @@ fault_text (Fault.List ListFault.Count) = codes "Count"
 fault_text (Fault.List (ListFault.Address number)) = number_text (codes "Address ") number
 fault_text (Fault.List ListFault.Twice) = codes "Twice"
 
--- what is decoded, of this trace
-abbrev pub decoded_text : List Symbol → Decoded → List ℕ
-decoded_text trace (Decoded.FrameStart number) = number_text (codes "frame ") number
-decoded_text trace (Decoded.Request request accepted byte) = request_text request ++ (verdict_text accepted ++ byte_after byte)
-decoded_text trace (Decoded.Enec kinds) = words_text (codes "ENEC ") kinds
-decoded_text trace (Decoded.Disec kinds) = words_text (codes "DISEC ") kinds
-decoded_text trace Decoded.Rstdaa = codes "RSTDAA"
-decoded_text trace Decoded.Entdaa = codes "ENTDAA"
-decoded_text trace (Decoded.Deftgts count) = number_text (codes "DEFTGTS ") count ++ codes " entries"
-decoded_text trace (Decoded.Other byte) = words_text (codes "Other ") byte
-decoded_text trace (Decoded.Round identity byte taken) = codes "round " ++ (hex_text 16 identity ++ (words_text (codes " ") byte ++ taken_text taken))
-decoded_text trace Decoded.RoundsDone = codes "round done"
-decoded_text trace (Decoded.Single command address byte) = words_text (command_text command) address ++ answer_text byte
-decoded_text trace (Decoded.SetLength way bytes) = words_text (length_name way) bytes.0 ++ words_text (codes " ") bytes.1
-decoded_text trace (Decoded.SetLengthDirect way address bytes) = words_text (length_name way) address ++ length_text bytes
-decoded_text trace (Decoded.Get what address span) = words_text (datum_name what) address ++ bytes_text span trace
-decoded_text trace (Decoded.Transfer address read span) = words_text (transfer_text read) address ++ bytes_text span trace
-decoded_text trace (Decoded.Refused fault) = codes "refused " ++ fault_text fault
+-- the time at which a frame begins, if it is known
+abbrev pub time_text : Option ℕ → List ℕ
+time_text None = []
+time_text (Some time) = number_text (codes " at ") time
+
+-- a frame, and its time
+abbrev pub frame_text : List ℕ → ℕ → List ℕ
+frame_text times number = number_text (codes "frame ") number ++ time_text (slice_get times (number - 1))
+
+-- what is decoded, of this trace, whose frames begin at these times
+abbrev pub decoded_text : List Symbol → List ℕ → Decoded → List ℕ
+decoded_text trace times (Decoded.FrameStart number) = frame_text times number
+decoded_text trace times (Decoded.Request request accepted byte) = request_text request ++ (verdict_text accepted ++ byte_after byte)
+decoded_text trace times (Decoded.Enec kinds) = words_text (codes "ENEC ") kinds
+decoded_text trace times (Decoded.Disec kinds) = words_text (codes "DISEC ") kinds
+decoded_text trace times Decoded.Rstdaa = codes "RSTDAA"
+decoded_text trace times Decoded.Entdaa = codes "ENTDAA"
+decoded_text trace times (Decoded.Deftgts count) = number_text (codes "DEFTGTS ") count ++ codes " entries"
+decoded_text trace times (Decoded.Other byte) = words_text (codes "Other ") byte
+decoded_text trace times (Decoded.Round identity byte taken) = codes "round " ++ (hex_text 16 identity ++ (words_text (codes " ") byte ++ taken_text taken))
+decoded_text trace times Decoded.RoundsDone = codes "round done"
+decoded_text trace times (Decoded.Single command address byte) = words_text (command_text command) address ++ answer_text byte
+decoded_text trace times (Decoded.SetLength way bytes) = words_text (length_name way) bytes.0 ++ words_text (codes " ") bytes.1
+decoded_text trace times (Decoded.SetLengthDirect way address bytes) = words_text (length_name way) address ++ length_text bytes
+decoded_text trace times (Decoded.Get what address span) = words_text (datum_name what) address ++ bytes_text span trace
+decoded_text trace times (Decoded.Transfer address read span) = words_text (transfer_text read) address ++ bytes_text span trace
+decoded_text trace times (Decoded.Refused fault) = codes "refused " ++ fault_text fault
 
 -- the line that a decoded part prints
-abbrev pub line_text : List Symbol → Decoded → List ℕ
-line_text trace decoded = decoded_text trace decoded ++ 10 ∷ []
+abbrev pub line_text : List Symbol → List ℕ → Decoded → List ℕ
+line_text trace times decoded = decoded_text trace times decoded ++ 10 ∷ []

@@ -41,15 +41,19 @@ breach_text Breach.Parity = codes "wrong parity"
 abbrev pub fault_line : List Symbol → LintFault → List ℕ
 fault_line trace fault = place_text trace fault.frame fault.symbol ++ (breach_text fault.breach ++ 10 ∷ [])
 
--- a line, of this trace
-abbrev pub lint_line_text : List Symbol → LintLine → List ℕ
-lint_line_text trace (Shown decoded) = line_text trace decoded
-lint_line_text trace (Faulty fault) = fault_line trace fault
+-- the lines of several
+abbrev pub faults_text : List Symbol → List LintFault → List ℕ
+faults_text trace faults = flat_map (fault_line trace) faults
+
+-- a line, of this trace, whose frames begin at these times
+abbrev pub lint_line_text : List Symbol → List ℕ → LintLine → List ℕ
+lint_line_text trace times (Shown decoded) = line_text trace times decoded
+lint_line_text trace times (Faulty fault) = fault_line trace fault
 
 -- the lines that a linter prints
-abbrev pub lint_text : List Symbol → List LintLine → List ℕ
-lint_text trace lines = flat_map (lint_line_text trace) lines
+abbrev pub lint_text : List Symbol → List ℕ → List LintLine → List ℕ
+lint_text trace times lines = flat_map (lint_line_text trace times) lines
 
 -- the lines that a report prints
-abbrev pub report_text : List Symbol → Report → List ℕ
-report_text trace report = lint_text trace (report_lines report)
+abbrev pub report_text : List Symbol → List ℕ → Report → List ℕ
+report_text trace times report = lint_text trace times (report_lines report)

@@ -1,6 +1,5 @@
-ghost use Rattle.std.specs.Prelude.{◌≡◌, ◌++◌, ◌-◌, OnOk, codes, map, slice_get};
-ghost use Rattle.i3c_monitor.specs.Lint.LintLine.{Faulty};
-ghost use Rattle.i3c_monitor.specs.LintLines.{address_text, breach_text, lint_text, place_text, symbol_text};
+ghost use Rattle.std.specs.Prelude.{◌≡◌, ◌++◌, ◌-◌, OnOk, codes, slice_get};
+ghost use Rattle.i3c_monitor.specs.LintLines.{address_text, breach_text, faults_text, place_text, symbol_text};
 
 use crate::lint_fault::{Breach, LintFault};
 use crate::printing::{push_address, push_number};
@@ -14,12 +13,12 @@ impl Report {
     ghost use Rattle.std.specs.Prelude.{◌≡◌, ◌++◌, OnOk};
     ghost use Rattle.i3c_monitor.specs.LintLines.{report_text};
 
-    /// Appends its lines to a text, of this trace.
-    pub fn push(&self, trace: &[Symbol], text: &mut Text) -> Result<(), AllocError>
-        ensures { OnOk result (text.new ≡ text.old ++ report_text trace.now self.now) }
+    /// Appends its lines to a text, of this trace. Its frames begin at these times, as far as these go.
+    pub fn push(&self, trace: &[Symbol], times: &[u64], text: &mut Text) -> Result<(), AllocError>
+        ensures { OnOk result (text.new ≡ text.old ++ report_text trace.now times.now self.now) }
     {
         match self {
-            Report::Decoded(decoded) => decoded.push(trace, text),
+            Report::Decoded(decoded) => decoded.push(trace, times, text),
             Report::Faults(faults) => push_faults(faults, trace, text),
         }
     }
@@ -27,7 +26,7 @@ impl Report {
 
 /// Appends the lines of faults.
 fn push_faults(faults: &[LintFault], trace: &[Symbol], text: &mut Text) -> Result<(), AllocError>
-    ensures { OnOk result (text.new ≡ text.old ++ lint_text trace.now (map Faulty faults.now)) }
+    ensures { OnOk result (text.new ≡ text.old ++ faults_text trace.now faults.now) }
 {
     let mut rest = faults;
     while let [fault, more @ ..] = rest {

@@ -1,5 +1,5 @@
-ghost use Rattle.std.specs.Prelude.{◌≡◌, ◌++◌, OnOk, codes};
-ghost use Rattle.i3c_monitor.specs.Lines.{answer_text, byte_after, byte_of, bytes_text, command_text, data_text, datum_name, fault_text, length_name, length_text, number_text, request_text, taken_text, transfer_text, verdict_text, words_text};
+ghost use Rattle.std.specs.Prelude.{◌≡◌, ◌++◌, ◌-◌, OnOk, codes, slice_get};
+ghost use Rattle.i3c_monitor.specs.Lines.{answer_text, byte_after, byte_of, bytes_text, command_text, data_text, datum_name, fault_text, frame_text, length_name, length_text, number_text, request_text, taken_text, transfer_text, verdict_text, words_text};
 ghost use Rattle.i3c_text.specs.Hex.{hex_text};
 
 use crate::decoded::{Decoded, Direct, Fault, Span};
@@ -13,22 +13,22 @@ impl Decoded {
     ghost use Rattle.std.specs.Prelude.{◌≡◌, ◌++◌, OnOk};
     ghost use Rattle.i3c_monitor.specs.Lines.{line_text, decoded_text};
 
-    /// Appends its line to a text, of this trace.
+    /// Appends its line to a text, of this trace. Its frames begin at these times, as far as these go.
     #[inline(always)]
-    pub fn push(&self, trace: &[Symbol], text: &mut Text) -> Result<(), AllocError>
-        ensures { OnOk result (text.new ≡ text.old ++ line_text trace.now self.now) }
+    pub fn push(&self, trace: &[Symbol], times: &[u64], text: &mut Text) -> Result<(), AllocError>
+        ensures { OnOk result (text.new ≡ text.old ++ line_text trace.now times.now self.now) }
     {
-        self.push_words(trace, text)?;
+        self.push_words(trace, times, text)?;
         text.end()
     }
 
     /// Appends it without a line's end.
     #[inline(always)]
-    fn push_words(&self, trace: &[Symbol], text: &mut Text) -> Result<(), AllocError>
-        ensures { OnOk result (text.new ≡ text.old ++ decoded_text trace.now self.now) }
+    fn push_words(&self, trace: &[Symbol], times: &[u64], text: &mut Text) -> Result<(), AllocError>
+        ensures { OnOk result (text.new ≡ text.old ++ decoded_text trace.now times.now self.now) }
     {
         match self {
-            Decoded::FrameStart(number) => push_number(b"frame ", *number, text),
+            Decoded::FrameStart(number) => push_frame(*number, times, text),
             Decoded::Request {
                 request,
                 accepted,
@@ -67,6 +67,39 @@ impl Decoded {
             Decoded::Refused(fault) => push_refusal(fault, text),
         }
     }
+}
+
+/// Appends a frame, and the time at which it begins, if that is known.
+#[inline(always)]
+fn push_frame(number: usize, times: &[u64], text: &mut Text) -> Result<(), AllocError>
+    ensures { OnOk result (text.new ≡ text.old ++ frame_text times.now number) }
+{
+    push_number(b"frame ", number, text)?;
+    match time_of(times, number) {
+        Some(time) => push_time(time, text),
+        None => Ok(()),
+    }
+}
+
+/// The time at which the frame of this number begins.
+#[inline(always)]
+fn time_of(times: &[u64], number: usize) -> Option<u64>
+    ensures { result ≡ slice_get times.now (number - 1) }
+{
+    match times.get(number.saturating_sub(1)) {
+        Some(time) => Some(*time),
+        None => None,
+    }
+}
+
+/// Appends a time.
+#[cold]
+#[inline(never)]
+fn push_time(time: u64, text: &mut Text) -> Result<(), AllocError>
+    ensures { OnOk result (text.new ≡ text.old ++ number_text (codes " at ") time) }
+{
+    text.push(b" at ")?;
+    text.push_decimal(time)
 }
 
 /// Appends a prefix and a number.

@@ -1,5 +1,5 @@
 -- What was read, chunk by chunk.
-use Rattle.std.proofs.Common.{◌≡◌, ◌<◌, ◌∙◌, ℕ, ◌+◌, List, [], ◌∷◌, ◌++◌, length, arith, Option, Some, None, IfSome, ap, append_assoc, append-nil, length-append, subst, sym}
+use Rattle.std.proofs.Common.{◌≡◌, ◌∙◌, ℕ, List, [], ◌∷◌, ◌++◌, Option, Some, None, IfSome, ap, append_assoc, append-nil, subst, sym}
 use Rattle.std.specs.Io.KnownBytes.{Consumes, IsAtEnd}
 
 pub none_read : (a : Option (List ℕ)) (items : List ℕ) → items ≡ [] → Consumes a a items
@@ -13,26 +13,11 @@ more_read (Some xs) (Some ys) None first piece all one two is = absurd two
 more_read (Some xs) (Some ys) (Some zs) first piece all one two is =
     one ∙ ap (λ bytes. first ++ bytes) two ∙ sym (append_assoc first piece zs) ∙ ap (λ bytes. bytes ++ zs) (sym is)
 
--- where more comes than may come
-pub too_many : (a b : Option (List ℕ)) (items : List ℕ) (left most : ℕ) → Consumes a b items → length items + left ≡ most
-    → IfSome b (λ bytes. left < length bytes) → IfSome a (λ bytes. most < length bytes)
-too_many None b items left most one room over = tt
-too_many (Some xs) None items left most one room over = absurd one
-too_many (Some xs) (Some ys) items left most one room over =
-    let all : length xs ≡ length (items ++ ys) = ap length one in omega (arith, all, length-append items ys, room, over)
-
 -- a text that was read to its end was read whole
 pub all_read : (a b : Option (List ℕ)) (items : List ℕ) (P : List ℕ → Type 0) → Consumes a b items → IsAtEnd b → P items → IfSome a P
 all_read None b items P one end h = tt
 all_read (Some xs) None items P one end h = absurd one
 all_read (Some xs) (Some ys) items P one end h = subst P (sym (one ∙ ap (λ bytes. items ++ bytes) end ∙ append-nil items)) h
-
--- where nothing more came
-pub read_on : (a b c : Option (List ℕ)) (items : List ℕ) → Consumes a b items → Consumes b c [] → Consumes a c items
-read_on None b c items one two = tt
-read_on (Some xs) None c items one two = absurd one
-read_on (Some xs) (Some ys) None items one two = absurd two
-read_on (Some xs) (Some ys) (Some zs) items one two = one ∙ ap (λ bytes. items ++ bytes) two
 
 -- the known bytes that are left
 pub unread : Option (List ℕ) → List ℕ

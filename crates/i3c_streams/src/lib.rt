@@ -1,7 +1,7 @@
 //! The lines of a script, each as soon as it was read, and output that is written whole.
 //!
 //! * `script_lines` reads one line after another.
-//! * `reading` reads bytes, up to those that a script or a trace may have.
+//! * `reading` reads bytes, up to those that a script or a trace may have, and `whole` an input to its end.
 //! * `output` finds where lines end, and writes what is printed.
 //! * `faults` has why reading or writing was given up, and `tally` what a run to the end counts.
 //! * `watching` says what is shown of a script's lines, and `form` how the answer to a line is written.
@@ -14,6 +14,7 @@ mod reading;
 mod script_lines;
 mod tally;
 mod watching;
+mod whole;
 
 pub use faults::ScriptFault;
 pub use form::Form;
@@ -22,3 +23,4 @@ pub use reading::{CHUNK, MOST_BYTES, Piece, read_piece};
 pub use script_lines::ScriptLines;
 pub use tally::Tally;
 pub use watching::Watching;
+pub use whole::{read_noted, read_whole};

@@ -1,11 +1,9 @@
 -- What goes out of a trace with its faults.
-use Rattle.std.proofs.Common.{◌≡◌, ◌∙◌, ℕ, ◌+◌, List, [], ◌∷◌, ◌++◌, length, map, arith, inr, Option, IfSome, MatchResult, OnOk, Result, Ok, Err, ap, append_assoc, min, refl}
+use Rattle.std.proofs.Common.{◌≡◌, ◌∙◌, ℕ, ◌+◌, List, [], ◌∷◌, ◌++◌, length, map, arith, inr, Option, MatchResult, OnOk, Result, Ok, Err, ap, append_assoc, min, refl}
 use Rattle.std.proofs.lemmas.Grind.{flat_map-append}
 use Rattle.std.specs.Io.KnownBytes.{Appends}
 use Rattle.i3c_frame.specs.declared.frames.Frames.{Frames}
 use Rattle.i3c_frame.specs.declared.symbols.Symbol.{Symbol}
-use Rattle.i3c_frame.specs.Frames.{IsRead}
-use Rattle.i3c_frame.specs.Parts.{parts}
 use Rattle.i3c_monitor.specs.declared.lint_fault.LintFault.{LintFault}
 use Rattle.i3c_monitor.specs.declared.report.Report.{Report}
 use Rattle.i3c_monitor.specs.Lint.{LintLine}
@@ -15,9 +13,9 @@ use Rattle.i3c_monitor.specs.Linting.{report_lines}
 use Rattle.i3c_streams.specs.declared.faults.ScriptFault.{ScriptFault}
 use Rattle.i3c_streams.specs.declared.tally.Tally.{Tally}
 use Rattle.i3c_streams.specs.Faults.{IsLineFault}
-use Rattle.i3c_traces.specs.Linted.{GoesOutLinted, all_faults, faults_in, frames_faults, frames_text}
+use Rattle.i3c_traces.specs.Linted.{AreLinted, all_faults, faults_in, frames_faults, frames_text}
 use Rattle.i3c_streams.specs.Outcomes.{AppendsSome}
-use Rattle.i3c_traces.specs.Traces.{ascii}
+use Rattle.i3c_traces.specs.Traces.{Goes}
 use Rattle.i3c_streams.proofs.WrittenOn.{count_on, gathered_on}
 
 -- three texts, one behind the other, if the last was pushed
@@ -33,17 +31,17 @@ four (Ok done) t a b c d x1 x2 x3 x4 e1 e2 e3 e4 =
 four (Err e) t a b c d x1 x2 x3 x4 e1 e2 e3 e4 = tt
 
 -- the lines of a report are gathered behind what went out and a text
-pub reported_on : (trace : List Symbol) (all first text tail : List ℕ) (come lines rest : List LintLine) → come ≡ lines ++ rest
-    → all ≡ first ++ (text ++ (lint_text trace come ++ tail)) → all ≡ first ++ ((text ++ lint_text trace lines) ++ (lint_text trace rest ++ tail))
-reported_on trace all first text tail come lines rest is told =
-    gathered_on all first text (lint_text trace lines) (lint_text trace rest ++ tail)
-    (told ∙ ap (λ lines. first ++ (text ++ (lint_text trace lines ++ tail))) is
-    ∙ ap (λ lines. first ++ (text ++ (lines ++ tail))) (flat_map-append (lint_line_text trace) lines rest)
-    ∙ ap (λ rest. first ++ (text ++ rest)) (append_assoc (lint_text trace lines) (lint_text trace rest) tail))
+pub reported_on : (trace : List Symbol) (times all first text tail : List ℕ) (come lines rest : List LintLine) → come ≡ lines ++ rest
+    → all ≡ first ++ (text ++ (lint_text trace times come ++ tail)) → all ≡ first ++ ((text ++ lint_text trace times lines) ++ (lint_text trace times rest ++ tail))
+reported_on trace times all first text tail come lines rest is told =
+    gathered_on all first text (lint_text trace times lines) (lint_text trace times rest ++ tail)
+    (told ∙ ap (λ lines. first ++ (text ++ (lint_text trace times lines ++ tail))) is
+    ∙ ap (λ lines. first ++ (text ++ (lines ++ tail))) (flat_map-append (lint_line_text trace times) lines rest)
+    ∙ ap (λ rest. first ++ (text ++ rest)) (append_assoc (lint_text trace times lines) (lint_text trace times rest) tail))
 
 -- where nothing is left but what follows the frames
-pub ended_on : (trace : List Symbol) (all first text tail : List ℕ) (come : List LintLine) → come ≡ [] → all ≡ first ++ (text ++ (lint_text trace come ++ tail)) → all ≡ first ++ (text ++ tail)
-ended_on trace all first text tail come none told = told ∙ ap (λ lines. first ++ (text ++ (lint_text trace lines ++ tail))) none
+pub ended_on : (trace : List Symbol) (times all first text tail : List ℕ) (come : List LintLine) → come ≡ [] → all ≡ first ++ (text ++ (lint_text trace times come ++ tail)) → all ≡ first ++ (text ++ tail)
+ended_on trace times all first text tail come none told = told ∙ ap (λ lines. first ++ (text ++ (lint_text trace times lines ++ tail))) none
 
 faulty_all : (faults : List LintFault) → all_faults (map Faulty faults) ≡ length faults
 faulty_all [] = refl
@@ -66,13 +64,10 @@ counted_on counted next broken come report rest is counts =
     let sum : all_faults come + broken ≡ faults_in report + (all_faults rest + broken) = omega (arith, more, reported_all report) in
     ap (λ n. min (counted + n) 18446744073709551615) sum ∙ count_on counted (faults_in report) next (all_faults rest + broken) counts
 
--- a text that was read
-pub frames_out : (legacies : ℕ) (known old new : Option (List ℕ)) (result : Result Tally ScriptFault) (text : List ℕ) (frames : Frames)
-    → IfSome known (λ bytes. text ≡ map ascii bytes) → IsRead (parts text) frames
-    → MatchResult result (λ tally. (tally.refused ≡ min (frames_faults legacies frames) 18446744073709551615) × Appends old new (frames_text legacies frames))
-    (λ fault. IsLineFault fault × AppendsSome old new (frames_text legacies frames))
-    → GoesOutLinted legacies known old new result
-frames_out legacies known old new (Ok tally) text frames read is tells =
-    (frames_text legacies frames, record { text = text; read = read; frames = frames; is_read = is; told = refl; counted = tells.0 }, tells.1)
-frames_out legacies known old new (Err fault) text frames read is tells =
-    inr (frames_text legacies frames, min (frames_faults legacies frames) 18446744073709551615, record { text = text; read = read; frames = frames; is_read = is; told = refl; counted = refl }, tells.1)
+-- frames that were told
+pub linted_out : (legacies : ℕ) (frames : Frames) (times : List ℕ) (old new : Option (List ℕ)) (result : Result Tally ScriptFault)
+    → MatchResult result (λ tally. (tally.refused ≡ min (frames_faults legacies frames) 18446744073709551615) × Appends old new (frames_text legacies frames times))
+    (λ fault. IsLineFault fault × AppendsSome old new (frames_text legacies frames times))
+    → Goes (AreLinted legacies frames times) old new result
+linted_out legacies frames times old new (Ok tally) tells = (frames_text legacies frames times, (refl, tells.0), tells.1)
+linted_out legacies frames times old new (Err fault) tells = inr (frames_text legacies frames times, min (frames_faults legacies frames) 18446744073709551615, (refl, refl), tells.1)

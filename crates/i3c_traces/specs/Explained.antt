@@ -94,13 +94,13 @@ abbrev pub frames_reasons : CodeSet → Option Addresses → Frames → List ℕ
 frames_reasons codes None frames = told_reasons codes frames.symbols.items frames.broken
 frames_reasons codes (Some legacies) frames = reasons_in 0 (decoded_in (trace_linted legacies.0 frames.symbols.items))
 
--- a text has these reasons
-abbrev pub AreReasons : CodeSet → Option Addresses → List ℕ → List ℕ → Type 0
-AreReasons codes legacies text reasons = (frames : Frames) × IsRead (parts text) frames × (reasons ≡ frames_reasons codes legacies frames)
+-- notes grow by reasons, or for want of memory stay as they were
+abbrev pub GrowsOrNot : List ℕ → List ℕ → List ℕ → Type 0
+GrowsOrNot reasons old new = (new ≡ old) ⊎ (new ≡ old ++ reasons)
 
--- notes grow by the reasons of a text, or for want of memory stay as they were
+-- the same of the reasons of a text
 abbrev pub AreNoted : CodeSet → Option Addresses → List ℕ → List ℕ → List ℕ → Type 0
-AreNoted codes legacies text old new = (new ≡ old) ⊎ ((reasons : List ℕ) × AreReasons codes legacies text reasons × (new ≡ old ++ reasons))
+AreNoted codes legacies text old new = (new ≡ old) ⊎ ((frames : Frames) × IsRead (parts text) frames × GrowsOrNot (frames_reasons codes legacies frames) old new)
 
 -- the same of the text that known bytes are
 abbrev pub IsExplained : CodeSet → Option Addresses → Option (List ℕ) → List ℕ → List ℕ → Type 0

@@ -1,3 +1,4 @@
 pub mod Traces
 pub mod Linted
+pub mod Symbols
 pub mod Explained

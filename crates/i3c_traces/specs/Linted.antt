@@ -1,6 +1,5 @@
 -- The lines that a trace comes to with its faults.
-use Rattle.std.specs.Prelude.{◌≡◌, ◌⊎◌, ℕ, ◌+◌, nat_lt, ◌||◌, List, [], ◌∷◌, ◌++◌, codes, length, map, min, take, option_copied, Option, Some, None, IfSome, Result, MatchResult, if◌then◌else◌}
-use Rattle.std.specs.Io.KnownBytes.{Appends, Keeps}
+use Rattle.std.specs.Prelude.{◌≡◌, ℕ, ◌+◌, nat_lt, ◌||◌, List, [], ◌∷◌, ◌++◌, codes, length, map, min, take, option_copied, Option, Some, None, Result, if◌then◌else◌}
 use Rattle.i3c_base.specs.declared.addresses.Addresses.{Addresses}
 use Rattle.i3c_ccc.specs.declared.codes.CodeSet.{CodeSet}
 use Rattle.i3c_frame.specs.declared.frames.Break.{Break}
@@ -15,8 +14,7 @@ use Rattle.i3c_monitor.specs.Lint.LintLine.{Shown, Faulty}
 use Rattle.i3c_monitor.specs.LintLines.{lint_text}
 use Rattle.i3c_streams.specs.declared.faults.ScriptFault.{ScriptFault}
 use Rattle.i3c_streams.specs.declared.tally.Tally.{Tally}
-use Rattle.i3c_streams.specs.Outcomes.{AppendsSome}
-use Rattle.i3c_traces.specs.Traces.{ascii, refusals_in, GoesOut}
+use Rattle.i3c_traces.specs.Traces.{CameTo, Goes, IsTold, refusals_in}
 
 -- the symbol expected at the point where a text stops being a trace
 abbrev pub due_text : Due → List ℕ
@@ -75,31 +73,32 @@ abbrev pub faults_in : Report → ℕ
 faults_in (Report.Decoded decoded) = refusals_in decoded
 faults_in (Report.Faults faults) = length faults.items
 
--- the lines of frames, and of the text behind them
-abbrev pub frames_text : ℕ → Frames → List ℕ
-frames_text legacies frames = lint_text frames.symbols.items (trace_linted legacies frames.symbols.items) ++ break_text frames.broken
+-- the lines of frames that begin at these times, and of the text behind them
+abbrev pub frames_text : ℕ → Frames → List ℕ → List ℕ
+frames_text legacies frames times = lint_text frames.symbols.items times (trace_linted legacies frames.symbols.items) ++ break_text frames.broken
 
 -- how many faults these are
 abbrev pub frames_faults : ℕ → Frames → ℕ
 frames_faults legacies frames = all_faults (trace_linted legacies frames.symbols.items) + breaks frames.broken
 
--- the known bytes give these lines, and this number of faults
-pub record CameToLinted (legacies : ℕ) (known : Option (List ℕ)) (lines : List ℕ) (faults : ℕ) : Type 0 where
-  pub text : List ℕ
-  pub read : IfSome known (λ bytes. text ≡ map ascii bytes)
-  pub frames : Frames
-  pub is_read : IsRead (parts text) frames
-  pub told : lines ≡ frames_text legacies frames
-  pub counted : faults ≡ min (frames_faults legacies frames) 18446744073709551615
+-- frames that begin at these times give these lines, and this number of faults
+abbrev pub AreLinted : ℕ → Frames → List ℕ → List ℕ → ℕ → Type 0
+AreLinted legacies frames times lines faults =
+    (lines ≡ frames_text legacies frames times) × (faults ≡ min (frames_faults legacies frames) 18446744073709551615)
 
--- what goes out of known bytes: their lines, all of them with `Ok`, and otherwise none or the beginning
+-- the text gives these lines, and this number of faults
+abbrev pub IsLinted : ℕ → List ℕ → List ℕ → ℕ → Type 0
+IsLinted legacies text lines faults = (frames : Frames) × IsRead (parts text) frames × AreLinted legacies frames [] lines faults
+
+-- what goes out of known bytes
 abbrev pub GoesOutLinted : ℕ → Option (List ℕ) → Option (List ℕ) → Option (List ℕ) → Result Tally ScriptFault → Type 0
-GoesOutLinted legacies known old new result =
-    MatchResult result
-    (λ tally. (lines : List ℕ) × CameToLinted legacies known lines tally.refused × Appends old new lines)
-    (λ _. Keeps old new ⊎ ((lines : List ℕ) × (faults : ℕ) × CameToLinted legacies known lines faults × AppendsSome old new lines))
+GoesOutLinted legacies known old new result = Goes (CameTo (IsLinted legacies) known) old new result
 
--- the output with faults, given the addresses of legacy targets, or without, where these codes are known by name
+-- the lines with faults, given the addresses of legacy targets, or without, where these codes are known by name
+abbrev pub IsToldAs : CodeSet → Option Addresses → List ℕ → List ℕ → ℕ → Type 0
+IsToldAs codes None text lines refused = IsTold codes text lines refused
+IsToldAs codes (Some legacies) text lines refused = IsLinted legacies.0 text lines refused
+
+-- what goes out of known bytes
 abbrev pub GoesOutAs : CodeSet → Option Addresses → Option (List ℕ) → Option (List ℕ) → Option (List ℕ) → Result Tally ScriptFault → Type 0
-GoesOutAs codes None known old new result = GoesOut codes known old new result
-GoesOutAs codes (Some legacies) known old new result = GoesOutLinted legacies.0 known old new result
+GoesOutAs codes legacies known old new result = Goes (CameTo (IsToldAs codes legacies) known) old new result

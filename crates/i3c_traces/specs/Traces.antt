@@ -18,13 +18,13 @@ use Rattle.i3c_streams.specs.Outcomes.{AppendsSome}
 abbrev pub ascii : ℕ → ℕ
 ascii byte = if nat_lt byte 128 then byte else 63
 
--- the lines of the decoded parts of a trace
-abbrev pub lines_text : List Symbol → List Decoded → List ℕ
-lines_text trace decoded = flat_map (line_text trace) decoded
+-- the lines of the decoded parts of a trace, whose frames begin at these times
+abbrev pub lines_text : List Symbol → List ℕ → List Decoded → List ℕ
+lines_text trace times decoded = flat_map (line_text trace times) decoded
 
 -- the lines of a trace
-abbrev pub trace_text : CodeSet → List Symbol → List ℕ
-trace_text codes trace = lines_text trace (trace_told codes trace)
+abbrev pub trace_text : CodeSet → List Symbol → List ℕ → List ℕ
+trace_text codes trace times = lines_text trace times (trace_told codes trace)
 
 -- how many refusals one line is
 abbrev pub refusals_in : Decoded → ℕ
@@ -49,7 +49,7 @@ pub record IsTraceTold (codes : CodeSet) (text lines : List ℕ) (refused : ℕ)
   pub is_trace : IsTrace trace
   pub in_range : All IsInRange trace
   pub same : map text_of trace ≡ parts text
-  pub told : lines ≡ trace_text codes trace
+  pub told : lines ≡ trace_text codes trace []
   pub counted : refused ≡ min (refused_in (trace_told codes trace)) 18446744073709551615
 
 -- the text is none, with the line of its first fault
@@ -59,15 +59,22 @@ pub record IsFaultTold (text lines : List ℕ) (refused : ℕ) : Type 0 where
   pub told : lines ≡ fault_line fault
   pub counted : refused ≡ 1
 
--- the known bytes give these lines, and this number of refusals
-pub record CameTo (codes : CodeSet) (known : Option (List ℕ)) (lines : List ℕ) (refused : ℕ) : Type 0 where
-  pub text : List ℕ
-  pub read : IfSome known (λ bytes. text ≡ map ascii bytes)
-  pub told : IsTraceTold codes text lines refused ⊎ IsFaultTold text lines refused
+-- the text gives these lines, and this number of refusals
+abbrev pub IsTold : CodeSet → List ℕ → List ℕ → ℕ → Type 0
+IsTold codes text lines refused = IsTraceTold codes text lines refused ⊎ IsFaultTold text lines refused
 
--- what goes out of known bytes: their lines, all of them with `Ok`, and otherwise none or the beginning
-abbrev pub GoesOut : CodeSet → Option (List ℕ) → Option (List ℕ) → Option (List ℕ) → Result Tally ScriptFault → Type 0
-GoesOut codes known old new result =
+-- the text as which known bytes are read gives these lines, and this number of refusals
+abbrev pub CameTo : (List ℕ → List ℕ → ℕ → Type 0) → Option (List ℕ) → List ℕ → ℕ → Type 0
+CameTo Gives known lines refused = (text : List ℕ) × IfSome known (λ bytes. text ≡ map ascii bytes) × Gives text lines refused
+
+-- what goes out where there may be these lines with this number of refusals: all of them with `Ok`, and otherwise none or the
+-- beginning
+abbrev pub Goes : (List ℕ → ℕ → Type 0) → Option (List ℕ) → Option (List ℕ) → Result Tally ScriptFault → Type 0
+Goes May old new result =
     MatchResult result
-    (λ tally. (lines : List ℕ) × CameTo codes known lines tally.refused × Appends old new lines)
-    (λ _. Keeps old new ⊎ ((lines : List ℕ) × (refused : ℕ) × CameTo codes known lines refused × AppendsSome old new lines))
+    (λ tally. (lines : List ℕ) × May lines tally.refused × Appends old new lines)
+    (λ _. Keeps old new ⊎ ((lines : List ℕ) × (refused : ℕ) × May lines refused × AppendsSome old new lines))
+
+-- what goes out of known bytes
+abbrev pub GoesOut : CodeSet → Option (List ℕ) → Option (List ℕ) → Option (List ℕ) → Result Tally ScriptFault → Type 0
+GoesOut codes known old new result = Goes (CameTo (IsTold codes) known) old new result

@@ -1,15 +1,17 @@
-ghost use Rattle.std.specs.Prelude.{◌≡◌, ◌⊎◌, ◌<◌, ◌≤◌, ◌++◌, length, IfOk, IfSome, OnOk};
+ghost use Rattle.std.specs.Prelude.{◌≡◌, ◌<◌, ◌≤◌, ◌++◌, length, IfErr, IfOk, IfSome, OnOk};
 ghost use Rattle.std.specs.Io.KnownBytes.{IsAtEnd};
 ghost use Rattle.std.specs.String.{string_bytes};
 ghost use Rattle.i3c_ccc.specs.declared.codes.CodeSet.{CodeSet};
 ghost use Rattle.i3c_monitor.specs.Lint.{trace_linted};
 ghost use Rattle.i3c_monitor.specs.Trace.{trace_told};
-ghost use Rattle.i3c_traces.specs.Explained.{AreNoted, AreReasons, IsExplained, decoded_in, frames_reasons, reasons_in};
-ghost use Rattle.i3c_traces.specs.Linted.{GoesOutAs};
+ghost use Rattle.i3c_traces.specs.Explained.{AreNoted, GrowsOrNot, IsExplained, decoded_in, frames_reasons, reasons_in};
+ghost use Rattle.i3c_streams.specs.Faults.{IsLineFault};
+ghost use Rattle.i3c_traces.specs.Linted.{GoesOutAs, IsToldAs};
+ghost use Rattle.i3c_traces.specs.Traces.{Goes};
 
-use crate::linting::run_lint;
+use crate::linting::lint_text;
 use crate::reasons::{frame_after, frame_behind, push_break, push_decoded, push_report};
-use crate::trace::{read_text, run_trace_knowing};
+use crate::trace::{read_text, tell_text};
 use i3c_base::{Addresses, Request};
 use i3c_ccc::CodeSet;
 use i3c_frame::{Frames, Symbol, read_frames};
@@ -63,25 +65,24 @@ pub fn run_explained_knowing<R: Read, W: Write>(
 {
     let text = read_text(alloc, reader)?;
     note_reasons(alloc, codes, legacies, &text, notes);
-    tell_text(alloc, codes, legacies, &text, writer)
+    tell_text_as(alloc, codes, legacies, &text, writer)
 }
 
 /// Tells a text as a trace, with its faults if legacy targets are named. A trace has no expectations, so none is unmet.
-fn tell_text<W: Write>(
+fn tell_text_as<W: Write>(
     alloc: Global,
     codes: CodeSet,
     legacies: Option<Addresses>,
     text: &[u8],
     writer: &mut W,
 ) -> Result<Tally, ScriptFault>
-    ensures large { result ≡ Err ScriptFault.TooLarge → MOST_BYTES < length text.now }
-    ensures lines { GoesOutAs codes legacies (Some text.now) (W.contents writer.old) (W.contents writer.new) result }
+    ensures lines { Goes (IsToldAs codes legacies text.now) (W.contents writer.old) (W.contents writer.new) result }
+    ensures faults { IfErr result IsLineFault }
     ensures unmet { IfOk result (λ tally. tally.unmet ≡ 0) }
 {
-    let mut bytes = text;
     match legacies {
-        Some(legacies) => run_lint(alloc, legacies, &mut bytes, writer),
-        None => run_trace_knowing(alloc, codes, &mut bytes, writer),
+        Some(legacies) => lint_text(alloc, legacies, text, writer),
+        None => tell_text(alloc, codes, text, writer),
     }
 }
 
@@ -95,8 +96,26 @@ fn note_reasons(
 )
     ensures { AreNoted codes legacies text.now (string_bytes notes.old) (string_bytes notes.new) }
 {
-    match reasons_of(alloc, codes, legacies, text) {
-        Ok(reasons) => note(&reasons, notes),
+    match read_frames(alloc, text) {
+        Ok(frames) => explain_frames(alloc, codes, legacies, &frames, notes),
+        // what can't be told isn't missed
+        Err(_) => {}
+    }
+}
+
+/// Appends to the notes why the frames of symbols are refused, or nothing for want of memory.
+pub fn explain_frames(
+    alloc: Global,
+    codes: CodeSet,
+    legacies: Option<Addresses>,
+    frames: &Frames<'_>,
+    notes: &mut String,
+)
+    ensures { GrowsOrNot (frames_reasons codes legacies frames.now) (string_bytes notes.old) (string_bytes notes.new) }
+{
+    let mut reasons = Text::new(alloc);
+    match explain(alloc, codes, legacies, frames, &mut reasons) {
+        Ok(()) => note(&reasons, notes),
         // what can't be told isn't missed
         Err(_) => {}
     }
@@ -104,27 +123,12 @@ fn note_reasons(
 
 /// Appends the reasons to the notes, or nothing for want of memory.
 fn note(reasons: &Text, notes: &mut String)
-    ensures { (string_bytes notes.new ≡ string_bytes notes.old) ⊎ (string_bytes notes.new ≡ string_bytes notes.old ++ reasons.now) }
+    ensures { GrowsOrNot reasons.now (string_bytes notes.old) (string_bytes notes.new) }
 {
     if let Ok(text) = str::from_utf8(reasons.as_bytes()) {
         // what can't be told isn't missed
         let _ = notes.push_str(text);
     }
-}
-
-/// Says of each refused line of a text, which is told as a trace, why it is refused.
-fn reasons_of(
-    alloc: Global,
-    codes: CodeSet,
-    legacies: Option<Addresses>,
-    text: &[u8],
-) -> Result<Text, AllocError>
-    ensures { IfOk result (λ reasons. AreReasons codes legacies text.now reasons) }
-{
-    let frames = read_frames(alloc, text)?;
-    let mut reasons = Text::new(alloc);
-    explain(alloc, codes, legacies, &frames, &mut reasons)?;
-    Ok(reasons)
 }
 
 /// Explains the whole frames of a text that is told with its faults, or of another its break, or else its refusals.

@@ -4,8 +4,9 @@ ghost use Rattle.i3c_monitor.specs.Linting.{left, reported, to_come};
 ghost use Rattle.i3c_monitor.specs.Lines.{number_text};
 ghost use Rattle.i3c_monitor.specs.LintLines.{report_text};
 ghost use Rattle.i3c_streams.specs.Faults.{IsLineFault};
-ghost use Rattle.i3c_traces.specs.Linted.{GoesOutLinted, break_text, breaks, broken_text, cause_text, due_text, faults_in, frames_faults, frames_text, more_text, part_text, parted_text, printable};
+ghost use Rattle.i3c_traces.specs.Linted.{GoesOutLinted, IsLinted, break_text, breaks, broken_text, cause_text, due_text, faults_in, frames_faults, frames_text, more_text, part_text, parted_text, printable};
 ghost use Rattle.i3c_streams.specs.Outcomes.{AppendsSome};
+ghost use Rattle.i3c_traces.specs.Traces.{Goes};
 
 use crate::trace::read_text;
 use i3c_base::Addresses;
@@ -35,30 +36,45 @@ pub fn run_lint<R: Read, W: Write>(
     ensures lines { GoesOutLinted legacies.0 (R.remaining reader.old) (W.contents writer.old) (W.contents writer.new) result }
     ensures unmet { IfOk result (λ tally. tally.unmet ≡ 0) }
 {
-    let bytes = read_text(alloc, reader)?;
-    match read_frames(alloc, &bytes) {
-        Ok(frames) => tell_frames(alloc, legacies, &frames, writer),
+    let text = read_text(alloc, reader)?;
+    lint_text(alloc, legacies, &text, writer)
+}
+
+/// Tells a text as a trace with its faults.
+pub(crate) fn lint_text<W: Write>(
+    alloc: Global,
+    legacies: Addresses,
+    text: &[u8],
+    writer: &mut W,
+) -> Result<Tally, ScriptFault>
+    ensures lines { Goes (IsLinted legacies.0 text.now) (W.contents writer.old) (W.contents writer.new) result }
+    ensures faults { IfErr result IsLineFault }
+    ensures unmet { IfOk result (λ tally. tally.unmet ≡ 0) }
+{
+    match read_frames(alloc, text) {
+        Ok(frames) => lint_frames(alloc, legacies, &frames, &[], writer),
         Err(_) => Err(ScriptFault::Memory),
     }
 }
 
-/// Writes the lines of the frames of a text, and that of its break.
-fn tell_frames<W: Write>(
+/// Writes the lines of frames, and that of their break. They begin at these times, as far as these go.
+pub(crate) fn lint_frames<W: Write>(
     alloc: Global,
     legacies: Addresses,
     frames: &Frames<'_>,
+    times: &[u64],
     out: &mut W,
 ) -> Result<Tally, ScriptFault>
     ensures unmet { IfOk result (λ tally. tally.unmet ≡ 0) }
     ensures told { MatchResult result
-        (λ tally. (tally.refused ≡ min (frames_faults legacies.0 frames.now) u64.MAX) × Appends (W.contents out.old) (W.contents out.new) (frames_text legacies.0 frames.now))
-        (λ fault. IsLineFault fault × AppendsSome (W.contents out.old) (W.contents out.new) (frames_text legacies.0 frames.now)) }
+        (λ tally. (tally.refused ≡ min (frames_faults legacies.0 frames.now) u64.MAX) × Appends (W.contents out.old) (W.contents out.new) (frames_text legacies.0 frames.now times.now))
+        (λ fault. IsLineFault fault × AppendsSome (W.contents out.old) (W.contents out.new) (frames_text legacies.0 frames.now times.now)) }
 {
     let mut linter = Linter::new(alloc, legacies, &frames.symbols);
     let mut text = Text::new(alloc);
     let mut refused: u64 = 0;
     while let Some(report) = next_report(&mut linter)? {
-        push_report(&report, &frames.symbols, &mut text)?;
+        push_report(&report, &frames.symbols, times, &mut text)?;
         refused = refused.saturating_add(faults_of(&report));
         write_gathered(&mut text, out)?;
     }
@@ -93,11 +109,16 @@ fn faults_of(report: &Report) -> u64
 }
 
 /// Appends the lines of a report.
-fn push_report(report: &Report, trace: &[Symbol], text: &mut Text) -> Result<(), ScriptFault>
-    ensures { MatchResult result (λ _. text.new ≡ text.old ++ report_text trace.now report.now)
+fn push_report(
+    report: &Report,
+    trace: &[Symbol],
+    times: &[u64],
+    text: &mut Text,
+) -> Result<(), ScriptFault>
+    ensures { MatchResult result (λ _. text.new ≡ text.old ++ report_text trace.now times.now report.now)
         (λ fault. fault ≡ ScriptFault.Memory) }
 {
-    match report.push(trace, text) {
+    match report.push(trace, times, text) {
         Ok(()) => Ok(()),
         Err(_) => Err(ScriptFault::Memory),
     }

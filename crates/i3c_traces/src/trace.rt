@@ -1,18 +1,16 @@
 ghost use Rattle.std.specs.Prelude.{◌≡◌, ◌<◌, ◌≤◌, [], ◌++◌, length, map, min, option_to_list, IfErr, IfOk, IfSome, IsErr, MatchResult, OnOk};
-ghost use Rattle.std.specs.Io.KnownBytes.{Appends, Consumes, IsAtEnd, Keeps};
+ghost use Rattle.std.specs.Io.KnownBytes.{Appends, IsAtEnd, Keeps};
 ghost use Rattle.i3c_ccc.specs.declared.codes.CodeSet.{CodeSet};
 ghost use Rattle.i3c_monitor.specs.Lines.{line_text};
 ghost use Rattle.i3c_monitor.specs.Trace.{to_come, trace_told};
 ghost use Rattle.i3c_streams.specs.Outcomes.{AppendsSome};
 ghost use Rattle.i3c_streams.specs.Faults.{IsLineFault};
-ghost use Rattle.i3c_traces.specs.Traces.{ascii, fault_line, refusals_in, refused_in, trace_text, GoesOut};
+ghost use Rattle.i3c_traces.specs.Traces.{ascii, fault_line, refusals_in, refused_in, trace_text, Goes, GoesOut, IsTold};
 
 use i3c_ccc::CodeSet;
 use i3c_frame::{Symbol, TraceFault, read_trace_bytes};
 use i3c_monitor::{Decoded, Monitor};
-use i3c_streams::{
-    CHUNK, MOST_BYTES, Piece, ScriptFault, Tally, read_piece, write_gathered, write_out,
-};
+use i3c_streams::{MOST_BYTES, ScriptFault, Tally, read_whole, write_gathered, write_out};
 use i3c_text::Text;
 use std::alloc::{AllocError, Global};
 use std::io::{Read, Write};
@@ -53,8 +51,22 @@ pub fn run_trace_knowing<R: Read, W: Write>(
     ensures unmet { IfOk result (λ tally. tally.unmet ≡ 0) }
 {
     let text = read_text(alloc, reader)?;
-    match read_trace_bytes(alloc, &text) {
-        Ok(symbols) => tell_trace(alloc, codes, &symbols, writer),
+    tell_text(alloc, codes, &text, writer)
+}
+
+/// Tells a text as a trace that knows these codes.
+pub(crate) fn tell_text<W: Write>(
+    alloc: Global,
+    codes: CodeSet,
+    text: &[u8],
+    writer: &mut W,
+) -> Result<Tally, ScriptFault>
+    ensures lines { Goes (IsTold codes text.now) (W.contents writer.old) (W.contents writer.new) result }
+    ensures faults { IfErr result IsLineFault }
+    ensures unmet { IfOk result (λ tally. tally.unmet ≡ 0) }
+{
+    match read_trace_bytes(alloc, text) {
+        Ok(symbols) => tell_trace(alloc, codes, &symbols, &[], writer),
         Err(fault) => tell_fault(alloc, &fault, writer),
     }
 }
@@ -66,43 +78,10 @@ pub(crate) fn read_text<R: Read>(alloc: Global, reader: &mut R) -> Result<Vec<u8
     ensures fits { OnOk result (IfSome (R.remaining reader.old) (λ bytes. length bytes ≤ MOST_BYTES)) }
     ensures large { result ≡ Err ScriptFault.TooLarge → IfSome (R.remaining reader.old) (λ bytes. MOST_BYTES < length bytes) }
 {
-    let Ok(mut chunk) = vec![in alloc; 0u8; CHUNK] else {
-        return Err(ScriptFault::Memory);
-    };
-    let mut bytes = read_whole(alloc, reader, &mut chunk)?;
+    let mut has_failed = false;
+    let mut bytes = read_whole(alloc, reader, MOST_BYTES, &mut has_failed)?;
     mark_unknown(&mut bytes);
     Ok(bytes)
-}
-
-/// Reads an input to its end, by chunks.
-fn read_whole<R: Read>(
-    alloc: Global,
-    reader: &mut R,
-    chunk: &mut [u8],
-) -> Result<Vec<u8>, ScriptFault>
-    requires { 0 < length chunk.old }
-    ensures whole { OnOk result (IsAtEnd (R.remaining reader.new)) }
-    ensures bytes { IfOk result (λ read. Consumes (R.remaining reader.old) (R.remaining reader.new) read.items) }
-    ensures fits { IfOk result (λ read. length read.items ≤ MOST_BYTES) }
-    ensures large { result ≡ Err ScriptFault.TooLarge → IfSome (R.remaining reader.old) (λ bytes. MOST_BYTES < length bytes) }
-{
-    let Ok(mut bytes) = Vec::with_capacity(alloc, MOST_BYTES) else {
-        return Err(ScriptFault::Memory);
-    };
-    let mut left = MOST_BYTES;
-    for _ in 0..u64::MAX {
-        match read_piece(reader, chunk, left)? {
-            Piece::End => return Ok(bytes),
-            Piece::Within(count) => {
-                let Ok(()) = bytes.extend_from_slice(&chunk[..count]) else {
-                    return Err(ScriptFault::Memory);
-                };
-                left -= count;
-            }
-            Piece::Beyond(_) => return Err(ScriptFault::TooLarge),
-        }
-    }
-    unreachable!()
 }
 
 /// Puts a question mark in place of each byte that isn't ASCII.
@@ -122,23 +101,24 @@ fn ascii_byte(byte: u8) -> u8
     if byte < 128 { byte } else { UNKNOWN }
 }
 
-/// Writes the lines of a trace, one after another.
-fn tell_trace<W: Write>(
+/// Writes the lines of a trace, one after another. Its frames begin at these times, as far as these go.
+pub(crate) fn tell_trace<W: Write>(
     alloc: Global,
     codes: CodeSet,
     trace: &[Symbol],
+    times: &[u64],
     out: &mut W,
 ) -> Result<Tally, ScriptFault>
     ensures unmet { IfOk result (λ tally. tally.unmet ≡ 0) }
     ensures told { MatchResult result
-        (λ tally. (tally.refused ≡ min (refused_in (trace_told codes trace.now)) u64.MAX) × Appends (W.contents out.old) (W.contents out.new) (trace_text codes trace.now))
-        (λ fault. IsLineFault fault × AppendsSome (W.contents out.old) (W.contents out.new) (trace_text codes trace.now)) }
+        (λ tally. (tally.refused ≡ min (refused_in (trace_told codes trace.now)) u64.MAX) × Appends (W.contents out.old) (W.contents out.new) (trace_text codes trace.now times.now))
+        (λ fault. IsLineFault fault × AppendsSome (W.contents out.old) (W.contents out.new) (trace_text codes trace.now times.now)) }
 {
     let mut monitor = Monitor::knowing(alloc, codes, trace);
     let mut text = Text::new(alloc);
     let mut refused: u64 = 0;
     while let Some(decoded) = next_decoded(&mut monitor)? {
-        push_decoded(&decoded, trace, &mut text)?;
+        push_decoded(&decoded, trace, times, &mut text)?;
         refused = refused.saturating_add(refusals(&decoded));
         write_gathered(&mut text, out)?;
     }
@@ -171,18 +151,23 @@ fn refusals(decoded: &Decoded) -> u64
 
 /// Appends the line of a decoded part.
 #[inline(always)]
-fn push_decoded(decoded: &Decoded, trace: &[Symbol], text: &mut Text) -> Result<(), ScriptFault>
-    ensures { MatchResult result (λ _. text.new ≡ text.old ++ line_text trace.now decoded.now)
+fn push_decoded(
+    decoded: &Decoded,
+    trace: &[Symbol],
+    times: &[u64],
+    text: &mut Text,
+) -> Result<(), ScriptFault>
+    ensures { MatchResult result (λ _. text.new ≡ text.old ++ line_text trace.now times.now decoded.now)
         (λ fault. fault ≡ ScriptFault.Memory) }
 {
-    match decoded.push(trace, text) {
+    match decoded.push(trace, times, text) {
         Ok(()) => Ok(()),
         Err(_) => Err(ScriptFault::Memory),
     }
 }
 
 /// Writes the line of a text that is no trace.
-fn tell_fault<W: Write>(
+pub(crate) fn tell_fault<W: Write>(
     alloc: Global,
     fault: &TraceFault,
     out: &mut W,

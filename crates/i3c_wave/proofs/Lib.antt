@@ -1,8 +1,6 @@
 pub mod LevelLaws
 pub mod ClockLaws
 pub mod DumpLaws
-pub mod Written
-pub mod ReadLaws
 pub mod RunLaws
 pub mod EdgeLaws
 pub mod BitLaws

@@ -19,12 +19,11 @@ use Rattle.i3c_wave.specs.declared.levels.Level.{Level}
 use Rattle.i3c_wave.specs.declared.reader.Reading.{Reading}
 use Rattle.i3c_wave.specs.declared.stamped.Stamped.{Stamped}
 use Rattle.i3c_wave.specs.Captures.{Heard, at_level, at_time, changed, heard, heard_by, is_same_level, read_as, read_if, settled, with_line}
-use Rattle.i3c_wave.specs.CaptureTexts.{Input, Taken, byte_read, bytes_read, closed_as, goes_on, is_space, item_heard, item_taken, kept, parted, said_taken, text_ended, time_taken, word_ended}
+use Rattle.i3c_wave.specs.CaptureTexts.{Input, Taken, TellsRead, byte_read, bytes_read, closed_as, goes_on, is_space, item_heard, item_taken, kept, parted, said_taken, text_ended, time_taken, word_ended}
 use Rattle.i3c_wave.specs.Dumps.{begun_word, coded, command_said, defined, definitions_ended, ended, ended_at, ended_from, inside, inside_from, is_ended, led_word, missing, scale_word, scaled_by, scaled_unit, time_said, word_from}
 use Rattle.i3c_wave.specs.DumpWords.{command_of, digits_in, lead_of, magnitude_of, number_of, unit_setup}
 use Rattle.i3c_wave.specs.Edges.{mark_at}
 use Rattle.i3c_wave.specs.Reading.{turn}
-use Rattle.i3c_wave.specs.Sources.{CaptureTellsRead}
 
 -- a result without a fault of reading
 abbrev IsOfText : {A : Type 0} → Result A CaptureFault → Type 0
@@ -224,7 +223,7 @@ ending_fault : (scl sda : List ℕ) (input : Input) → text_ended scl sda input
 ending_fault scl sda input is = subst (λ (r : Result Input CaptureFault). IsOfText r) is (of_end scl sda input)
 
 -- other faults are told where no read failed
-pub tells_other : (A : Type 0) (old new : Bool) (fault : CaptureFault) → new ≡ old → (fault ≡ CaptureFault.Read → ⊥) → CaptureTellsRead {A = A} old new (Err fault)
+pub tells_other : (A : Type 0) (old new : Bool) (fault : CaptureFault) → new ≡ old → (fault ≡ CaptureFault.Read → ⊥) → TellsRead {A = A} old new (Err fault)
 tells_other A old new CaptureFault.Memory same other = same
 tells_other A old new CaptureFault.Read same other = absurd (other refl)
 tells_other A old new CaptureFault.NoScl same other = same

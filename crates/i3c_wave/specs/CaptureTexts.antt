@@ -1,7 +1,6 @@
 -- The text of a capture: its words, the symbols that are read of them, and its first fault.
-use Rattle.std.specs.Prelude.{◌≡◌, ◌⊎◌, ℕ, ◌+◌, ◌==◌, min, nat_lt, Bool, not, ◌&&◌, List, [], ◌∷◌, ◌++◌, length, position, unwrap_or, option_to_list, ⊤, Option, Some, None, Result, Ok, Err, MatchResult, if◌then◌else◌}
+use Rattle.std.specs.Prelude.{◌≡◌, ◌⊎◌, ℕ, ◌+◌, ◌==◌, min, nat_lt, Bool, true, not, ◌&&◌, List, [], ◌∷◌, ◌++◌, length, position, unwrap_or, option_to_list, ⊤, Option, Some, None, Result, Ok, Err, MatchResult, if◌then◌else◌}
 use Rattle.i3c_base.specs.declared.addresses.Addresses.{Addresses}
-use Rattle.i3c_frame.specs.Texts.{text_of}
 use Rattle.i3c_wave.specs.declared.capture.Capture.{Capture}
 use Rattle.i3c_wave.specs.declared.capture_fault.CaptureFault.{CaptureFault}
 use Rattle.i3c_wave.specs.declared.capture_text.CaptureWords.{CaptureWords}
@@ -9,7 +8,6 @@ use Rattle.i3c_wave.specs.declared.dump.Item.{Item}
 use Rattle.i3c_wave.specs.declared.dump.DumpStep.{DumpStep}
 use Rattle.i3c_wave.specs.declared.stamped.Stamped.{Stamped}
 use Rattle.i3c_wave.specs.Captures.{Heard, at_time, changed, heard, new_capture, with_line}
-use Rattle.i3c_wave.specs.Dump.{line}
 use Rattle.i3c_wave.specs.Dumps.{is_ended, new_dump, word_said}
 
 -- what is read of a text: its whole words, the letters of a word that is open, and the symbols
@@ -151,7 +149,8 @@ Takes outcome reached result = MatchResult result (λ symbol. outcome ≡ Ok (re
 abbrev pub IsOfReading : CaptureFault → Type 0
 IsOfReading fault = (fault ≡ CaptureFault.Memory) ⊎ (fault ≡ CaptureFault.Read)
 
--- the texts of symbols, each on a line of its own
-abbrev pub lines_of : List Stamped → List ℕ
-lines_of [] = []
-lines_of (stamped ∷ rest) = line (text_of stamped.symbol) ++ lines_of rest
+-- `Read` is told where a read failed, and anything else where none did: whether one had failed before, and after
+abbrev pub TellsRead : {A : Type 0} → Bool → Bool → Result A CaptureFault → Type 0
+TellsRead old new (Ok value) = new ≡ old
+TellsRead old new (Err CaptureFault.Read) = new ≡ true
+TellsRead old new (Err fault) = new ≡ old

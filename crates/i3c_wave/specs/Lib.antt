@@ -8,10 +8,8 @@ pub mod Dumps
 pub mod Edges
 pub mod Laws
 pub mod Levels
-pub mod Output
 pub mod Reading
 pub mod Runs
 pub mod Scripts
-pub mod Sources
 pub mod Timed
 pub mod Timing

@@ -6,13 +6,9 @@ use Rattle.i3c_frame.specs.declared.traces.TraceFault.{TraceFault}
 use Rattle.i3c_frame.specs.Parts.{parts}
 use Rattle.i3c_frame.specs.Texts.{IsInRange, text_of}
 use Rattle.i3c_frame.specs.Traces.{IsFirstFault, IsTrace}
-use Rattle.i3c_wave.specs.declared.fault.WaveFault.{WaveFault}
+use Rattle.i3c_streams.specs.declared.faults.ScriptFault.{ScriptFault}
+use Rattle.i3c_streams.specs.Outcomes.{AppendsSome}
 use Rattle.i3c_wave.specs.Dump.{dump_text, line}
-use Rattle.i3c_wave.specs.Output.{AppendsSome}
-
--- a fault of writing, or of the written text
-abbrev pub IsWriteFault : WaveFault → Type 0
-IsWriteFault fault = (fault ≡ WaveFault.Memory) ⊎ (fault ≡ WaveFault.Write)
 
 -- the line of a text that is no trace: want of memory has none
 abbrev pub fault_line : TraceFault → List ℕ
@@ -41,7 +37,7 @@ pub record CameTo (legacies : ℕ) (known : Option (List ℕ)) (fault : Option T
   pub comes : ComesTo legacies text fault lines
 
 -- the output of known bytes: with `Ok` their whole result, and otherwise nothing or a prefix of it
-abbrev pub GoesOut : ℕ → Option (List ℕ) → Option (List ℕ) → Option (List ℕ) → Result (Option TraceFault) WaveFault → Type 0
+abbrev pub GoesOut : ℕ → Option (List ℕ) → Option (List ℕ) → Option (List ℕ) → Result (Option TraceFault) ScriptFault → Type 0
 GoesOut legacies known old new result =
     MatchResult result
     (λ fault. (lines : List ℕ) × CameTo legacies known fault lines × Appends old new lines)

@@ -1,13 +1,12 @@
 ghost use Rattle.std.specs.Prelude.{◌≡◌, ◌⊎◌, ◌<◌, Err, Ok, IfSome, length, MatchResult};
-ghost use Rattle.i3c_wave.specs.CaptureTexts.{Closed, Ended, HasSymbols, IsOfReading, Reads, bytes_read, closed, input, text_ended, text_read};
-ghost use Rattle.i3c_wave.specs.Sources.{CaptureTellsRead};
+ghost use Rattle.i3c_wave.specs.CaptureTexts.{Closed, Ended, HasSymbols, IsOfReading, Reads, TellsRead, bytes_read, closed, input, text_ended, text_read};
 
 use crate::capture_fault::CaptureFault;
 use crate::capture_text::{CaptureWords, letters_in};
-use crate::reading::CHUNK;
 use crate::source::Source;
 use crate::stamped::{Stamped, keep_symbol};
 use i3c_base::Addresses;
+use i3c_streams::CHUNK;
 use i3c_text::Text;
 use std::alloc::Global;
 use std::io::Read;
@@ -25,7 +24,7 @@ pub fn read_capture<R: Read>(
     ensures symbols { MatchResult result
         (λ symbols. IfSome (R.remaining source.old.reader) (λ text. HasSymbols legacies scl.now sda.now text symbols.items))
         (λ fault. IsOfReading fault ⊎ IfSome (R.remaining source.old.reader) (λ text. text_read legacies scl.now sda.now text ≡ Err fault)) }
-    ensures read { CaptureTellsRead source.old.has_failed source.new.has_failed result }
+    ensures read { TellsRead source.old.has_failed source.new.has_failed result }
 {
     let Ok(mut chunk) = vec![in alloc; 0u8; CHUNK] else {
         return Err(CaptureFault::Memory);
@@ -46,7 +45,7 @@ fn read_chunks<R: Read>(
     ensures symbols { MatchResult result
         (λ symbols. IfSome (R.remaining source.old.reader) (λ text. HasSymbols legacies scl.now sda.now text symbols.items))
         (λ fault. IsOfReading fault ⊎ IfSome (R.remaining source.old.reader) (λ text. text_read legacies scl.now sda.now text ≡ Err fault)) }
-    ensures read { CaptureTellsRead source.old.has_failed source.new.has_failed result }
+    ensures read { TellsRead source.old.has_failed source.new.has_failed result }
 {
     let mut word = Text::new(alloc);
     let mut symbols = Vec::new(alloc);

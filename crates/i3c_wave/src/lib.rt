@@ -2,11 +2,11 @@
 //!
 //! `levels` is what the two lines are at, symbol by symbol. `timing` says for how long, and `wave` is the dump (IEEE 1364)
 //! of one symbol after another. `script_wave` has the lines of a script and what they print. `run` writes the dump of a
-//! trace as a stream, by `reading` and `output`. `source` is a reader that knows whether it failed. `edges` is a watcher of
+//! trace as a stream. `source` is a reader that knows whether it failed. `edges` is a watcher of
 //! the two lines. `laws` says that SDA has a symbol's bits where SCL rises, and what is heard of a trace's levels;
 //! `clock_laws` says the same of whole frames, bit by bit. `dump_word` and `dump` say what the words of a dump say of two
 //! signals, `capture` reads symbols of the signals' levels, each with its time (`stamped`), and `capture_text` and
-//! `capture_run` those of a whole text. `timed` puts the times of frames behind what is told of them.
+//! `capture_run` those of a whole text.
 #![tactic(auto)]
 
 mod awaited;
@@ -18,18 +18,13 @@ mod clock_laws;
 mod dump;
 mod dump_word;
 mod edges;
-mod fault;
 mod laws;
 mod levels;
-mod output;
 mod reader;
-mod reading;
 mod run;
 mod script_wave;
 mod source;
 mod stamped;
-mod symbol_lines;
-mod timed;
 mod timing;
 mod wave;
 
@@ -41,15 +36,12 @@ pub use clock_laws::{
     bits_have_their_numbers, frames_have_the_bits_in_order, rising_edges_are_in_order,
 };
 pub use edges::{Edges, Mark};
-pub use fault::WaveFault;
 pub use laws::{edges_give_the_marks, rising_edges_have_the_bits, symbols_are_read_back};
 pub use levels::{Level, Levels};
 pub use reader::{Reader, Reading};
 pub use run::run_wave;
 pub use script_wave::{push_script_line, push_script_preamble, push_served};
 pub use source::Source;
-pub use stamped::{Stamped, frame_times};
-pub use symbol_lines::symbols_text;
-pub use timed::{LinePlace, push_timed};
+pub use stamped::{Stamped, frame_times, symbols_of};
 pub use timing::Timing;
 pub use wave::Wave;

@@ -1,17 +1,16 @@
 ghost use Rattle.std.specs.Prelude.{◌≡◌, ◌⊎◌, ◌≤◌, ◌<◌, ◌++◌, length, IfOk, IfSome, IsErr, MatchResult, OnOk};
 ghost use Rattle.std.specs.Io.KnownBytes.{Appends};
 ghost use Rattle.i3c_wave.specs.Dump.{after_symbol, dump_text, preamble, symbol_dump};
-ghost use Rattle.i3c_wave.specs.Output.{AppendsSome, WritesFront};
-ghost use Rattle.i3c_wave.specs.Runs.{GoesOut, IsWriteFault, fault_line};
-ghost use Rattle.i3c_wave.specs.Sources.{TellsRead};
+ghost use Rattle.i3c_streams.specs.Faults.{IsLineFault};
+ghost use Rattle.i3c_streams.specs.Outcomes.{AppendsSome, WritesFront};
+ghost use Rattle.i3c_streams.specs.Reading.{TellsRead};
+ghost use Rattle.i3c_wave.specs.Runs.{GoesOut, fault_line};
 
-use crate::fault::WaveFault;
-use crate::output::{write_gathered, write_out};
-use crate::reading::{MOST_BYTES, read_text};
 use crate::source::Source;
 use crate::wave::Wave;
 use i3c_base::Addresses;
 use i3c_frame::{Symbol, TraceFault, read_trace_bytes};
+use i3c_streams::{MOST_BYTES, ScriptFault, write_gathered, write_out};
 use i3c_text::Text;
 use std::alloc::{AllocError, Global};
 use std::io::{Read, Write};
@@ -24,13 +23,13 @@ pub fn run_wave<R: Read, W: Write>(
     legacies: Addresses,
     source: &mut Source<R>,
     writer: &mut W,
-) -> Result<Option<TraceFault>, WaveFault>
+) -> Result<Option<TraceFault>, ScriptFault>
     ensures fits { OnOk result (IfSome (R.remaining source.old.reader) (λ bytes. length bytes ≤ MOST_BYTES)) }
-    ensures large { result ≡ Err WaveFault.TooLarge → IfSome (R.remaining source.old.reader) (λ bytes. MOST_BYTES < length bytes) }
+    ensures large { result ≡ Err ScriptFault.TooLarge → IfSome (R.remaining source.old.reader) (λ bytes. MOST_BYTES < length bytes) }
     ensures lines { GoesOut legacies.0 (R.remaining source.old.reader) (W.contents writer.old) (W.contents writer.new) result }
     ensures read { TellsRead source.old.has_failed source.new.has_failed result }
 {
-    let text = read_text(alloc, source)?;
+    let text = source.read_text(alloc)?;
     match read_trace_bytes(alloc, &text) {
         Ok(trace) => {
             write_dump(alloc, legacies, &trace, writer)?;
@@ -49,10 +48,10 @@ fn write_dump<W: Write>(
     legacies: Addresses,
     trace: &[Symbol],
     out: &mut W,
-) -> Result<(), WaveFault>
+) -> Result<(), ScriptFault>
     ensures { MatchResult result
         (λ _. Appends (W.contents out.old) (W.contents out.new) (dump_text legacies.0 trace.now))
-        (λ fault. IsWriteFault fault × AppendsSome (W.contents out.old) (W.contents out.new) (dump_text legacies.0 trace.now)) }
+        (λ fault. IsLineFault fault × AppendsSome (W.contents out.old) (W.contents out.new) (dump_text legacies.0 trace.now)) }
 {
     let mut text = Text::new(alloc);
     push_preamble(&mut text)?;
@@ -64,12 +63,12 @@ fn write_dump<W: Write>(
 }
 
 /// Appends what a dump has before its first symbol.
-fn push_preamble(text: &mut Text) -> Result<(), WaveFault>
-    ensures { MatchResult result (λ _. text.new ≡ text.old ++ preamble) (λ fault. fault ≡ WaveFault.Memory) }
+fn push_preamble(text: &mut Text) -> Result<(), ScriptFault>
+    ensures { MatchResult result (λ _. text.new ≡ text.old ++ preamble) (λ fault. fault ≡ ScriptFault.Memory) }
 {
     match Wave::push_preamble(text) {
         Ok(()) => Ok(()),
-        Err(_) => Err(WaveFault::Memory),
+        Err(_) => Err(ScriptFault::Memory),
     }
 }
 
@@ -80,29 +79,29 @@ fn write_symbol<W: Write>(
     symbol: Symbol,
     text: &mut Text,
     out: &mut W,
-) -> Result<(), WaveFault>
+) -> Result<(), ScriptFault>
     ensures wave { OnOk result (wave.new ≡ after_symbol legacies.0 wave.old symbol) }
     ensures out { MatchResult result
         (λ _. WritesFront (W.contents out.old) (W.contents out.new) (text.old ++ symbol_dump legacies.0 wave.old symbol) text.new)
-        (λ fault. IsWriteFault fault × AppendsSome (W.contents out.old) (W.contents out.new) (text.old ++ symbol_dump legacies.0 wave.old symbol)) }
+        (λ fault. IsLineFault fault × AppendsSome (W.contents out.old) (W.contents out.new) (text.old ++ symbol_dump legacies.0 wave.old symbol)) }
 {
     match wave.push_symbol(legacies, symbol, text) {
         Ok(()) => write_gathered(text, out),
-        Err(_) => Err(WaveFault::Memory),
+        Err(_) => Err(ScriptFault::Memory),
     }
 }
 
 /// Writes the line of a text that is no trace. Want of memory has none, and stays what it is.
-fn write_fault<W: Write>(alloc: Global, fault: TraceFault, out: &mut W) -> Result<(), WaveFault>
+fn write_fault<W: Write>(alloc: Global, fault: TraceFault, out: &mut W) -> Result<(), ScriptFault>
     ensures line { MatchResult result
         (λ _. Appends (W.contents out.old) (W.contents out.new) (fault_line fault))
-        (λ stop. IsWriteFault stop × AppendsSome (W.contents out.old) (W.contents out.new) (fault_line fault)) }
+        (λ stop. IsLineFault stop × AppendsSome (W.contents out.old) (W.contents out.new) (fault_line fault)) }
     ensures memory { fault ≡ TraceFault.OutOfMemory → IsErr result }
 {
     let mut text = Text::new(alloc);
     match push_fault(fault, &mut text) {
         Ok(()) => write_out(text.as_bytes(), out),
-        Err(_) => Err(WaveFault::Memory),
+        Err(_) => Err(ScriptFault::Memory),
     }
 }
 

@@ -1,9 +1,11 @@
-ghost use Rattle.std.specs.Prelude.{◌≡◌, false, true, MatchResult};
+ghost use Rattle.std.specs.Prelude.{◌≡◌, ◌≤◌, ◌<◌, Err, false, true, length, IfOk, IfSome, MatchResult};
 ghost use Rattle.std.specs.Io.{ReadsAtMost};
 ghost use Rattle.std.specs.Io.KnownBytes.{ReadConsumes};
+ghost use Rattle.i3c_streams.specs.Reading.{TellsRead};
 
-use std::io;
-use std::io::{ErrorKind, Read};
+use i3c_streams::{MOST_BYTES, ScriptFault, read_noted, read_whole};
+use std::alloc::Global;
+use std::io::Read;
 
 /// A reader, and whether a read of it failed. So it can be told which fault came of reading, and which of want of memory.
 #[derive(Drop)]
@@ -25,37 +27,21 @@ impl<R: Read> Source<R> {
     }
 
     /// Reads the next bytes.
-    pub(crate) fn read(&mut self, chunk: &mut [u8]) -> io::Result<usize>
+    pub(crate) fn read(&mut self, chunk: &mut [u8]) -> Result<usize, ScriptFault>
         ensures bound { ReadsAtMost result chunk.new }
         ensures bytes { ReadConsumes (R.remaining self.old.reader) (R.remaining self.new.reader) result chunk.new }
         ensures failed { MatchResult result (λ _. self.new.has_failed ≡ self.old.has_failed) (λ _. self.new.has_failed ≡ true) }
     {
-        match self.reader.read(chunk) {
-            Ok(count) => Ok(count),
-            Err(error) => {
-                self.has_failed = true;
-                Err(error)
-            }
-        }
+        read_noted(&mut self.reader, chunk, &mut self.has_failed)
     }
 
-    /// Reads the next bytes, and tries again where a read is interrupted.
-    pub(crate) fn read_on(&mut self, chunk: &mut [u8]) -> io::Result<usize>
-        ensures bound { ReadsAtMost result chunk.new }
-        ensures bytes { ReadConsumes (R.remaining self.old.reader) (R.remaining self.new.reader) result chunk.new }
-        ensures failed { MatchResult result (λ _. self.new.has_failed ≡ self.old.has_failed) (λ _. self.new.has_failed ≡ true) }
+    /// Reads a trace to its end.
+    pub(crate) fn read_text(&mut self, alloc: Global) -> Result<Vec<u8>, ScriptFault>
+        ensures text { IfOk result (λ text. IfSome (R.remaining self.old.reader) (λ bytes. text.items ≡ bytes)) }
+        ensures fits { IfOk result (λ text. length text.items ≤ MOST_BYTES) }
+        ensures large { result ≡ Err ScriptFault.TooLarge → IfSome (R.remaining self.old.reader) (λ bytes. MOST_BYTES < length bytes) }
+        ensures read { TellsRead self.old.has_failed self.new.has_failed result }
     {
-        for _ in 0..u64::MAX {
-            match self.reader.read(chunk) {
-                Ok(count) => return Ok(count),
-                Err(error) if error.kind() == ErrorKind::Interrupted => {}
-                Err(error) => {
-                    self.has_failed = true;
-                    return Err(error);
-                }
-            }
-        }
-        self.has_failed = true;
-        Err(io::Error::from(ErrorKind::Interrupted))
+        read_whole(alloc, &mut self.reader, MOST_BYTES, &mut self.has_failed)
     }
 }

@@ -1,5 +1,5 @@
 ghost use Rattle.std.specs.Prelude.{◌≡◌, [], ◌∷◌, ◌++◌, IfOk, MatchResult, OnOk, option_to_list};
-ghost use Rattle.i3c_wave.specs.Timed.{start_times, times_of};
+ghost use Rattle.i3c_wave.specs.Timed.{start_times, symbols_of, times_of};
 
 use crate::capture_fault::CaptureFault;
 use i3c_frame::Symbol;
@@ -11,6 +11,17 @@ use std::alloc::{AllocError, Global};
 pub struct Stamped {
     pub symbol: Symbol,
     pub time: u64,
+}
+
+/// These symbols without their times.
+pub fn symbols_of(alloc: Global, symbols: &[Stamped]) -> Result<Vec<Symbol>, AllocError>
+    ensures { IfOk result (λ bare. bare.items ≡ symbols_of symbols.now) }
+{
+    let mut bare = Vec::with_capacity(alloc, symbols.len())?;
+    for stamped in symbols {
+        bare.push(stamped.symbol)?;
+    }
+    Ok(bare)
 }
 
 /// The times at which the frames of these symbols begin.

@@ -1,12 +1,31 @@
-use Rattle.std.proofs.Common.{◌≡◌, map, IfSome}
-use Rattle.i3c_traces.specs.Traces.{ascii}
-use Rattle.i3c_traces.proofs.LintWritten.{frames_out}
+use Rattle.std.proofs.Common.{◌≤◌, length, IfSome}
+use Rattle.std.specs.Io.KnownBytes.{IsAtEnd}
+use Rattle.i3c_streams.specs.declared.reading.TheConstants.{MOST_BYTES}
+use Rattle.i3c_streams.proofs.WrittenOn.{same_out}
+use Rattle.i3c_traces.specs.Linted.{IsLinted}
 use Rattle.i3c_traces.proofs.AsciiLaws.{read_as}
+use Rattle.i3c_traces.proofs.TraceOut.{anyhow, came_out, err_keeps, not_large}
 use Rattle.i3c_traces.proofs.linting.run_lint.Goals as goal
 
-pub returns-in-Ok-clause-lines : goal.returns-in-Ok-clause-lines
-returns-in-Ok-clause-lines g c =
+pub returns-clause-lines : goal.returns-clause-lines
+returns-clause-lines g c =
     let known = g.R.Read.remaining c.args.reader.now in
     let text = c.deref.result.now in
-    let read : IfSome known (λ bytes. text ≡ map ascii bytes) = read_as known c.in_ok-bytes.bytes.items text c.deref.ensures.value c.in_ok-bytes.ensures.text in
-    frames_out c.args.legacies.0 known (g.W.Write.contents c.args.writer.now) (g.W.Write.contents c.tell_frames.new.out) c.tell_frames.result text c.in-Ok.frames read c.in-Ok.ensures c.tell_frames.ensures.told
+    came_out (IsLinted c.args.legacies.0) known (g.W.Write.contents c.args.writer.now) (g.W.Write.contents c.lint_text.new.writer) c.lint_text.result text
+    (read_as known c.in_ok-text.text.items text c.deref.ensures.value c.in_ok-text.ensures.text) c.lint_text.ensures.lines
+
+pub returns-clause-large : goal.returns-clause-large
+returns-clause-large g c = not_large c.lint_text.result c.lint_text.ensures.faults
+
+pub returns-clause-whole : goal.returns-clause-whole
+returns-clause-whole g c = anyhow (IsAtEnd (g.R.Read.remaining c.read_text.new.reader)) c.lint_text.result c.in_ok-text.ensures.whole
+
+pub returns-clause-fits : goal.returns-clause-fits
+returns-clause-fits g c =
+    let known = g.R.Read.remaining c.args.reader.now in
+    anyhow (IfSome known (λ bytes. length bytes ≤ MOST_BYTES)) c.lint_text.result c.in_ok-text.ensures.fits
+
+pub returns-in_err-text-clause-lines : goal.returns-in_err-text-clause-lines
+returns-in_err-text-clause-lines g c =
+    let old = g.W.Write.contents c.args.writer.now in
+    err_keeps _ old old c.from_residual.result c.from_residual.ensures.0 (same_out old)

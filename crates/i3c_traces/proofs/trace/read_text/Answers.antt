@@ -10,9 +10,9 @@ returns-clause-text g c =
     let known = g.R.Read.remaining c.args.reader.now in
     let items = c.in_ok-bytes.bytes.items in
     let long : length c.mark_unknown.new.bytes ≡ c.in_ok-bytes.bytes.len =
-    omega (arith, ap length c.mark_unknown.ensures, length-ascii c.deref_mut-2.result.now, c.deref_mut-2.ensures.len) in
+    omega (arith, ap length c.mark_unknown.ensures, length-ascii c.deref_mut.result.now, c.deref_mut.ensures.len) in
     let same : take c.in_ok-bytes.bytes.len (c.mark_unknown.new.bytes ++ drop (length c.mark_unknown.new.bytes) items) ≡ map ascii items =
-    put_back items c.mark_unknown.new.bytes c.in_ok-bytes.bytes.len long ∙ c.mark_unknown.ensures ∙ ap (map ascii) c.deref_mut-2.ensures.value in
+    put_back items c.mark_unknown.new.bytes c.in_ok-bytes.bytes.len long ∙ c.mark_unknown.ensures ∙ ap (map ascii) c.deref_mut.ensures.value in
     all_read known (g.R.Read.remaining c.read_whole.new.reader) items
     (λ bytes. take c.in_ok-bytes.bytes.len (c.mark_unknown.new.bytes ++ drop (length c.mark_unknown.new.bytes) items) ≡ map ascii bytes)
     c.in_ok-bytes.ensures.bytes c.in_ok-bytes.ensures.whole same

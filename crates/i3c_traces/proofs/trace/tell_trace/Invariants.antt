@@ -8,7 +8,7 @@ use Rattle.i3c_traces.proofs.trace.tell_trace.Given as goal
 abbrev pub invariant-loop-text : goal.invariant-loop-text
 invariant-loop-text g l =
     (first : List ℕ) × Appends (g.W.Write.contents l.initial.out) (g.W.Write.contents l.out) first
-    × (trace_text l.fn.codes l.trace ≡ first ++ (l.text ++ lines_text l.trace (to_come l.monitor)))
+    × (trace_text l.fn.codes l.trace l.times ≡ first ++ (l.text ++ lines_text l.trace l.times (to_come l.monitor)))
     × (min (refused_in (trace_told l.fn.codes l.trace)) 18446744073709551615 ≡ min (l.refused + refused_in (to_come l.monitor)) 18446744073709551615)
     × (l.refused ≤ 18446744073709551615)
 

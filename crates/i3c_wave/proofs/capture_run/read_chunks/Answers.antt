@@ -1,8 +1,7 @@
 use Rattle.std.proofs.Common.{◌≡◌, ◌⊎◌, ◌∙◌, ◌<◌, ◌++◌, Global, Vec, Err, Ok, IfSome, MatchResult, arith, length, subst, sym, take}
 use Rattle.std.specs.Io.KnownBytes.{Consumes}
 use Rattle.i3c_wave.specs.declared.stamped.Stamped.{Stamped}
-use Rattle.i3c_wave.specs.CaptureTexts.{HasSymbols, IsOfReading, new_input, text_read}
-use Rattle.i3c_wave.specs.Sources.{CaptureTellsRead}
+use Rattle.i3c_wave.specs.CaptureTexts.{HasSymbols, IsOfReading, TellsRead, new_input, text_read}
 use Rattle.i3c_wave.proofs.CaptureLaws.{all_read, bytes_on, chunk_fault, end_fault, ended_with, more_read}
 use Rattle.i3c_wave.proofs.TextFaults.{of_chunk, of_ending, tells_other}
 use Rattle.i3c_wave.proofs.capture_run.read_chunks.Goals as goal
@@ -57,9 +56,9 @@ returns-then-count-eq0-clause-read g c =
     let new = c.read.new.self.has_failed in
     let same : new ≡ old = c.in-Ok.ensures.failed ∙ c.loop.invariant.2 in
     elim c.match-end_text.branch [
-      | in-Ok-end_text w ↦ subst (λ r. CaptureTellsRead old new r) (sym w.result-is) same
+      | in-Ok-end_text w ↦ subst (λ r. TellsRead old new r) (sym w.result-is) same
       | in-Err w ↦
-          subst (λ r. CaptureTellsRead old new r) (sym w.result-is)
+          subst (λ r. TellsRead old new r) (sym w.result-is)
           (tells_other (Vec Stamped Global) old new w.in-Err.fault same (of_ending c.args.scl.now c.args.sda.now (record { reached = c.loop.reached; word = c.loop.word; symbols = c.loop.symbols.items }) w.in-Err.fault w.in-Err.ensures))
     ]
 

@@ -1,11 +1,13 @@
 use Rattle.std.proofs.Common.{◌≡◌, ◌++◌, ◌∙◌, ◌+◌, [], arith, rules, MatchResult, ap, drop, sym, subst}
 use Rattle.std.proofs.lemmas.List.{drop_all}
 use Rattle.std.specs.Io.KnownBytes.{Appends}
-use Rattle.i3c_wave.specs.declared.fault.WaveFault.{WaveFault}
+use Rattle.i3c_streams.specs.declared.faults.ScriptFault.{ScriptFault}
+use Rattle.i3c_streams.specs.Outcomes.{AppendsSome}
+use Rattle.i3c_streams.proofs.Written.{appends_both}
+use Rattle.i3c_streams.proofs.WrittenOn.{some_out, written_on}
 use Rattle.i3c_wave.specs.Dump.{after_symbol, dump_text, symbol_dump, symbols_dump}
-use Rattle.i3c_wave.specs.Output.{AppendsSome}
 use Rattle.i3c_wave.proofs.DumpLaws.{next_symbol}
-use Rattle.i3c_wave.proofs.Written.{appends_both, last_out, some_out, written_on}
+use Rattle.i3c_wave.proofs.RunLaws.{last_out}
 use Rattle.i3c_wave.proofs.run.write_dump.Goals as goal
 
 pub returns-in_err-write_symbol : goal.returns-in_err-write_symbol
@@ -51,5 +53,5 @@ returns g c =
     let old = g.W.Write.contents c.args.out.now in
     let mid = g.W.Write.contents c.loop-symbol.out in
     let new = g.W.Write.contents c.write_out.new.out in
-    let goes = subst (λ text. MatchResult c.write_out.result (λ _. Appends mid new text) (λ fault. (fault ≡ WaveFault.Write) × AppendsSome mid new text)) c.as_bytes.ensures c.write_out.ensures in
+    let goes = subst (λ text. MatchResult c.write_out.result (λ _. Appends mid new text) (λ fault. (fault ≡ ScriptFault.Write) × AppendsSome mid new text)) c.as_bytes.ensures c.write_out.ensures in
     last_out old mid new inv.0 c.loop-symbol.text (dump_text legacies trace) c.write_out.result all inv.1 goes
