@@ -12,7 +12,7 @@ use Rattle.i3c_device.specs.declared.slot_set.SlotSet.{SlotSet}
 use Rattle.i3c_device.specs.Sets.{IsLowestOf, has}
 use Rattle.i3c_lines.specs.declared.names.Names.{Names}
 use Rattle.i3c_lines.specs.Naming.{slot_names}
-use Rattle.i3c_script.specs.Printed.{asker_text, askers_text}
+use Rattle.i3c_script.specs.Pieces.{asker_of, askers_below}
 
 -- in the set are the slots from this one on whose devices drive the request
 pub record AreLeft (st : State) (r : Request) (from : ℕ) (left : SlotSet) : Type 0 where
@@ -60,16 +60,16 @@ next_is_silent st r n left within are other = (sym (are.behind n (omega arith) w
 after : (n : ℕ) → n + 1 ≡ suc n
 after n = omega arith
 
-pub none_asked : (st : State) (names : Names) (r : Request) → askers_text st names r 0 ≡ []
-unfolding askers_text
+pub none_asked : (st : State) (names : Names) (r : Request) → askers_below st names r 0 ≡ []
+unfolding askers_below
 none_asked st names r = refl
 
 -- one more slot, which asks
-pub asker_more : (st : State) (names : Names) (r : Request) (slot : ℕ) → drives st r slot ≡ true → askers_text st names r (slot + 1) ≡ askers_text st names r slot ++ asker_text (slice_index_or (slot_names names) slot None)
-unfolding askers_text
-asker_more st names r slot asks = ap (askers_text st names r) (after slot) ∙ ap (λ b. askers_text st names r slot ++ cond b (asker_text (slice_index_or (slot_names names) slot None)) []) asks
+pub asker_more : (st : State) (names : Names) (r : Request) (slot : ℕ) → drives st r slot ≡ true → askers_below st names r (slot + 1) ≡ askers_below st names r slot ++ asker_of (slice_index_or (slot_names names) slot None)
+unfolding askers_below
+asker_more st names r slot asks = ap (askers_below st names r) (after slot) ∙ ap (λ b. askers_below st names r slot ++ cond b (asker_of (slice_index_or (slot_names names) slot None)) []) asks
 
 -- one more slot, which doesn't ask
-pub silent_more : (st : State) (names : Names) (r : Request) (slot : ℕ) → drives st r slot ≡ false → askers_text st names r (slot + 1) ≡ askers_text st names r slot
-unfolding askers_text
-silent_more st names r slot silent = ap (askers_text st names r) (after slot) ∙ ap (λ b. askers_text st names r slot ++ cond b (asker_text (slice_index_or (slot_names names) slot None)) []) silent ∙ append-nil (askers_text st names r slot)
+pub silent_more : (st : State) (names : Names) (r : Request) (slot : ℕ) → drives st r slot ≡ false → askers_below st names r (slot + 1) ≡ askers_below st names r slot
+unfolding askers_below
+silent_more st names r slot silent = ap (askers_below st names r) (after slot) ∙ ap (λ b. askers_below st names r slot ++ cond b (asker_of (slice_index_or (slot_names names) slot None)) []) silent ∙ append-nil (askers_below st names r slot)

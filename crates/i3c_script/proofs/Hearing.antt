@@ -6,6 +6,7 @@ use Rattle.i3c_lines.specs.declared.refusals.Refusal.{Refusal}
 use Rattle.i3c_text.specs.declared.stop.Stop.{Stop}
 use Rattle.i3c_script.specs.declared.piece.Piece.{Piece}
 use Rattle.i3c_script.specs.Hearing.{Hears, all_heard}
+use Rattle.i3c_script.specs.Pieces.{with_next}
 use Rattle.i3c_script.specs.Printed.{piece_text, pieces_text, with_piece}
 use Rattle.i3c_script.specs.Stops.{Ends}
 use Rattle.i3c_script.specs.Telling.{Prints}
@@ -46,6 +47,11 @@ unheard heard Is before after (Err Stop.Memory) h = h
 pub text_heard : (before : List ℕ) (pieces : List Piece) → all_heard with_piece before pieces ≡ before ++ pieces_text pieces
 text_heard before [] = sym (append-nil before)
 text_heard before (piece ∷ pieces) = text_heard (before ++ piece_text piece) pieces ∙ append_assoc before (piece_text piece) (pieces_text pieces)
+
+-- a list that hears pieces has them behind it
+pub list_heard : (before pieces : List Piece) → all_heard with_next before pieces ≡ before ++ pieces
+list_heard before [] = sym (append-nil before)
+list_heard before (piece ∷ pieces) = list_heard (before ++ piece ∷ []) pieces ∙ append_assoc before (piece ∷ []) pieces
 
 -- so what a text hears is what is printed
 pub printed_by : (Is : List Piece → Option Refusal → Type 0) (Of : List ℕ → Option Refusal → Type 0) → ((pieces : List Piece) (refused : Option Refusal) → Is pieces refused → Of (pieces_text pieces) refused)

@@ -37,7 +37,7 @@ use Rattle.i3c_script.specs.Assigning.{Moves, cuts_left, ended_by}
 use Rattle.i3c_script.specs.Accepting.{Accepts}
 use Rattle.i3c_script.specs.Obeying.{Answers, AnswersIn, AnswersOf, IsRefused, Sends}
 use Rattle.i3c_script.specs.Situations.{PastKept, Sends as IsSent, Situation, situation}
-use Rattle.i3c_script.specs.Telling.{IsTold, Prints}
+use Rattle.i3c_script.specs.Telling.{IsTold}
 use Rattle.i3c_script.proofs.Hearing.{hears_by}
 
 -- a frame takes all cuts that wait
@@ -86,13 +86,6 @@ module _ {P : Type 0} (past : PastKept P) where
         → Hears heard (λ pieces refused. Answers past old (event slot) pieces refused new) before after result → Hears heard (λ pieces refused. AnswersIn past kept old names name event pieces refused new) before after result
     in_slot kept old new names name event slot before after result is told =
         subst (λ r. Hears heard (λ pieces refused. MatchResult r (λ s. Answers past old (event s) pieces refused new) (λ why. (new ≡ old) × IsRefused why pieces refused)) before after result) is told
-
--- a weaker property of output holds too
-pub prints_by : (Is Of : List ℕ → Option Refusal → Type 0) → ((said : List ℕ) (refused : Option Refusal) → Is said refused → Of said refused)
-    → (before after : List ℕ) (result : Result (Unit {0}) (Stop Refusal)) → Prints Is before after result → Prints Of before after result
-prints_by Is Of of before after (Ok done) (said, text, is) = (said, text, of said None is)
-prints_by Is Of of before after (Err (Stop.Refused why)) (said, text, is) = (said, text, of said (Some why) is)
-prints_by Is Of of before after (Err Stop.Memory) h = h
 
 -- each frame under the role carries cuts, and its text has of the event what it has of the frame
 pub carries_cuts : (frame : Frame) (policy : Fixed) (cuts : CutList) → is_some (cuts_in (event_of frame policy cuts)) ≡ true

@@ -1,5 +1,5 @@
 -- What lines come to, piece by piece.
-use Rattle.std.specs.Prelude.{Bool, ℕ, zero, suc, ◌+◌, if◌then◌else◌, List, [], ◌∷◌, ◌++◌, drop, length, nat_le, Option, Some, None, slice_get}
+use Rattle.std.specs.Prelude.{◌≡◌, Bool, ℕ, zero, suc, ◌+◌, if◌then◌else◌, List, [], ◌∷◌, ◌++◌, drop, length, nat_le, Option, Some, None, slice_get}
 use Rattle.std.specs.List.{flat_map}
 use Rattle.circular_buffer.specs.Buffer.{keep_last}
 use Rattle.i3c_base.specs.declared.answers.Answer.{Answer}
@@ -7,13 +7,16 @@ use Rattle.i3c_base.specs.declared.answers.RoundReply.{RoundReply}
 use Rattle.i3c_base.specs.declared.identity.Identity.{Identity}
 use Rattle.i3c_base.specs.declared.range.TheConstants.{ADDRESSES, SLOTS}
 use Rattle.i3c_base.specs.declared.requests.Record.{Record}
+use Rattle.i3c_base.specs.declared.requests.Request.{Request}
 use Rattle.i3c_base.specs.declared.requests.Served.{Served}
+use Rattle.i3c_base.specs.Serve.{IsFirstRequest, drives}
 use Rattle.i3c_base.specs.State.{Device, State, device_at}
 use Rattle.i3c_bus.specs.Readings.{address_of}
 use Rattle.i3c_device.specs.Wishing.{choice_of}
 use Rattle.i3c_frame.specs.declared.symbols.Symbol.{Symbol}
 use Rattle.i3c_lines.specs.declared.names.Name.{Name}
-use Rattle.i3c_lines.specs.Keeping.{NamesKept}
+use Rattle.i3c_lines.specs.declared.names.Names.{Names}
+use Rattle.i3c_lines.specs.Keeping.{NamesKept, name_of_slot}
 use Rattle.i3c_step.specs.declared.events.Command.{Command as Frame}
 use Rattle.i3c_step.specs.declared.events.Event.{Event}
 use Rattle.i3c_step.specs.declared.replies.Reply.{Reply}
@@ -213,3 +216,26 @@ symbols_pieces (symbol ∷ rest) = Piece.FirstSymbol symbol ∷ later_pieces res
 -- `frames`: a line for each of the last `count` whole frames, the oldest first
 abbrev pub frames_pieces : ℕ → List Symbol → List Piece
 frames_pieces count wire = flat_map symbols_pieces (keep_last count (whole_frames wire))
+
+-- pieces behind which one more is heard
+abbrev pub with_next : List Piece → Piece → List Piece
+with_next pieces piece = pieces ++ piece ∷ []
+
+-- the name of a slot, where it has one
+abbrev pub asker_of : Option Name → List Name
+asker_of None = []
+asker_of (Some name) = name ∷ []
+
+-- the names of the devices that drive this request, of the slots below a number, the lowest slot first
+unfoldable pub askers_below : State → Names → Request → ℕ → List Name
+askers_below st names r zero = []
+askers_below st names r (suc slot) = askers_below st names r slot ++ (if drives st r slot then asker_of (name_of_slot names slot) else [])
+
+-- the names of the devices that drive the first request, if there is one
+abbrev pub askers_of : State → Names → Option Request → List Name
+askers_of st names None = []
+askers_of st names (Some r) = askers_below st names r SLOTS
+
+-- these are the names of the devices whose requests the next frame would meet
+abbrev pub AreAsking : State → Names → List Name → Type 0
+AreAsking st names found = (first : Option Request) × IsFirstRequest st first × (found ≡ askers_of st names first)

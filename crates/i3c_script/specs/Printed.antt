@@ -1,14 +1,12 @@
 -- What lines print.
-use Rattle.std.specs.Prelude.{◌≡◌, ℕ, zero, suc, if◌then◌else◌, Bool, true, false, List, [], ◌∷◌, ◌++◌, codes, Option, Some, None, Result, Ok, Err, slice_index_or}
+use Rattle.std.specs.Prelude.{ℕ, Bool, true, false, List, [], ◌∷◌, ◌++◌, codes, Option, Some, None, Result, Ok, Err}
 use Rattle.std.specs.Fmt.{decimal}
 use Rattle.std.specs.List.{flat_map}
 use Rattle.i3c_base.specs.declared.identity.Identity.{Identity}
-use Rattle.i3c_base.specs.declared.range.TheConstants.{SLOTS}
 use Rattle.i3c_base.specs.declared.requests.Record.{Record}
 use Rattle.i3c_base.specs.declared.requests.Request.{Request}
 use Rattle.i3c_base.specs.declared.requests.Request.TheVariants.{Interrupt, Join, Role}
 use Rattle.i3c_base.specs.declared.requests.Served.{Served}
-use Rattle.i3c_base.specs.Serve.{IsFirstRequest, drives}
 use Rattle.i3c_base.specs.State.{State}
 use Rattle.i3c_frame.specs.Texts.{text_of}
 use Rattle.i3c_lines.specs.declared.names.Name.{Name}
@@ -16,7 +14,7 @@ use Rattle.i3c_lines.specs.declared.names.Names.{Names}
 use Rattle.i3c_text.specs.Hex.{byte_text, bytes_text, hex_text}
 use Rattle.i3c_lines.specs.Data.{told_token}
 use Rattle.i3c_lines.specs.Keeping.{NamesKept}
-use Rattle.i3c_lines.specs.Naming.{letters, slot_names}
+use Rattle.i3c_lines.specs.Naming.{letters}
 use Rattle.i3c_lines.specs.Refusing.{refusal_text}
 use Rattle.i3c_lines.specs.declared.refusals.Refusal.{Refusal}
 use Rattle.i3c_text.specs.declared.stop.Stop.{Stop}
@@ -185,22 +183,3 @@ show_text kept forgotten st names = pieces_text (show_pieces kept forgotten st n
 -- records as `show` prints them, counted from this number on
 abbrev pub numbered_text : ℕ → List Record → List ℕ
 numbered_text number records = pieces_text (numbered_pieces number records)
-
--- a name behind a space, where a slot has one
-abbrev pub asker_text : Option Name → List ℕ
-asker_text None = []
-asker_text (Some name) = codes " " ++ letters name
-
--- the names of the devices that drive this request, of the slots below a number, the lowest slot first
-unfoldable pub askers_text : State → Names → Request → ℕ → List ℕ
-askers_text st names r zero = []
-askers_text st names r (suc slot) = askers_text st names r slot ++ (if drives st r slot then asker_text (slice_index_or (slot_names names) slot None) else [])
-
--- the names of the devices that drive the first request, if there is one
-abbrev pub asking_text : State → Names → Option Request → List ℕ
-asking_text st names None = []
-asking_text st names (Some r) = askers_text st names r SLOTS
-
--- these names tell whose requests the next frame would meet
-abbrev pub TellsAskers : State → Names → List ℕ → Type 0
-TellsAskers st names text = (first : Option Request) × IsFirstRequest st first × (text ≡ asking_text st names first)

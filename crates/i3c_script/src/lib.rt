@@ -4,13 +4,14 @@
 //! A line of one event takes one path: `stage` hands its command to `script_bus`, which makes the event and has the bus
 //! answer it, and `replies` makes pieces of the answer.
 //!
-//! * `piece` has the pieces, and what a listener is. `printed` makes a text a listener: it prints each piece.
+//! * `piece` has the pieces, and what a listener is. `printed` makes a text a listener: it prints each piece. `piece_list` keeps
+//!   them.
 //! * `stage` is where a script is, before its bus and with it. `script_bus` obeys a line's command on a bus, whoever listens,
 //!   however names are kept (`Naming` of `i3c_lines`) and whatever is kept of the past (`past`). `journal` is what scripts
 //!   keep of it. `settings` is what lines have set. `slot_lookup` finds the slots that names mean.
-//! * `assigning` plays the whole session of a `daa`. `replies` has the pieces of a reply and of such a session, `show` those of the bus, and `details` those of all that it
-//!   is; `tenures` those of the active controllers at the times of recorded interrupts. `wires` keeps the last symbols;
-//!   `symbols` and `frames` have their pieces.
+//! * `assigning` plays the whole session of a `daa`. `replies` has the pieces of a reply and of such a session, `show` those
+//!   of the bus, and `details` those of all that it is; `tenures` those of the active controllers at the times of recorded
+//!   interrupts. `wires` keeps the last symbols; `symbols` and `frames` have their pieces.
 //! * `outcomes` gives the result of a line, by the bus's reply. `laws` says that lines make legal runs.
 #![tactic(auto)]
 
@@ -22,6 +23,7 @@ mod laws;
 mod outcomes;
 mod past;
 mod piece;
+mod piece_list;
 mod printed;
 mod replies;
 mod script_bus;
@@ -37,7 +39,8 @@ pub use journal::Journal;
 pub use laws::scripts_are_legal_runs;
 pub use past::{Past, Unkept};
 pub use piece::{Deaf, Description, Listener, Piece};
+pub use piece_list::PieceList;
 pub use script_bus::ScriptBus;
 pub use settings::{Settings, sum_of};
-pub use show::{show_askers, show_bus, show_records_behind};
+pub use show::{push_askers, show_bus, show_records_behind};
 pub use stage::Stage;

@@ -1,18 +1,19 @@
-ghost use Rattle.std.specs.Prelude.{◌≡◌, ℕ, List, ◌+◌, ◌++◌, None, OnOk, drop, false, slice_index_or, suc, true};
+ghost use Rattle.std.specs.Prelude.{◌≡◌, List, ◌+◌, ◌++◌, OnOk, drop, false, suc, true};
 ghost use Rattle.i3c_base.specs.declared.range.TheConstants.{ADDRESSES, SLOTS};
 ghost use Rattle.i3c_bus.specs.Readings.{AreAskers};
 ghost use Rattle.i3c_device.specs.Sets.{IsLowestOf};
 ghost use Rattle.i3c_base.specs.State.{device_at};
-ghost use Rattle.i3c_lines.specs.Naming.{slot_names};
+ghost use Rattle.i3c_lines.specs.Keeping.{name_of_slot};
 ghost use Rattle.i3c_script.specs.Hearing.{all_heard};
-ghost use Rattle.i3c_script.specs.Pieces.{behind_pieces, device_pieces, devices_pieces, records_pieces, show_behind_pieces, show_pieces, target_pieces, targets_pieces};
-ghost use Rattle.i3c_script.specs.Printed.{TellsAskers, asker_text, askers_text, numbered_text, show_text};
+ghost use Rattle.i3c_lines.specs.declared.names.Name.{Name as NameValue};
+ghost use Rattle.i3c_script.specs.Pieces.{AreAsking, asker_of, askers_below, behind_pieces, device_pieces, devices_pieces, records_pieces, show_behind_pieces, show_pieces, target_pieces, targets_pieces};
+ghost use Rattle.i3c_script.specs.Printed.{numbered_text, show_text};
 
 use crate::piece::{Listener, Piece};
 use crate::settings::sum_of;
 use i3c_base::{ADDRESSES, Addr7, Record, SLOTS, Slot};
 use i3c_bus::{Bus, Request, SlotSet};
-use i3c_lines::{Names, Naming};
+use i3c_lines::{Name, Names, Naming};
 use i3c_text::Text;
 use std::alloc::AllocError;
 
@@ -155,32 +156,32 @@ fn hear_records_behind<L: Listener>(
     Ok(())
 }
 
-/// Prints the names of those whose requests the next frame would meet, by slot, each behind a space.
-pub fn show_askers(bus: &Bus, names: &Names, text: &mut Text) -> Result<(), AllocError>
-    ensures { OnOk result ((told : List ℕ) × TellsAskers bus.now.state names.now told × (text.new ≡ text.old ++ told)) }
+/// Appends the names of those whose requests the next frame would meet, by slot.
+pub fn push_askers(bus: &Bus, names: &Names, askers: &mut Vec<Name>) -> Result<(), AllocError>
+    ensures { OnOk result ((found : List NameValue) × AreAsking bus.now.state names.now found × (askers.new.items ≡ askers.old.items ++ found)) }
 {
     match bus.asking() {
-        Some((request, askers)) => return show_names(bus, names, &request, askers, text),
+        Some((request, slots)) => return push_names(bus, names, &request, slots, askers),
         None => return Ok(()),
     }
 }
 
-/// Prints the names of these slots, whose devices drive a request, each behind a space.
-fn show_names(
+/// Appends the names of these slots, whose devices drive a request.
+fn push_names(
     bus: &Bus,
     names: &Names,
     request: &Request,
-    askers: SlotSet,
-    text: &mut Text,
+    slots: SlotSet,
+    askers: &mut Vec<Name>,
 ) -> Result<(), AllocError>
-    requires { AreAskers bus.now.state request.now askers }
-    ensures { OnOk result (text.new ≡ text.old ++ askers_text bus.now.state names.now request.now SLOTS) }
+    requires { AreAskers bus.now.state request.now slots }
+    ensures { OnOk result (askers.new.items ≡ askers.old.items ++ askers_below bus.now.state names.now request.now SLOTS) }
 {
-    let mut left = askers;
+    let mut left = slots;
     for number in 0..SLOTS as u8 {
         let slot = Slot::new(number).unwrap();
         if is_lowest(left, slot) {
-            show_asker(names, slot, text)?;
+            push_name(names, slot, askers)?;
             left = left.but(slot);
         }
     }
@@ -198,15 +199,15 @@ fn is_lowest(slots: SlotSet, slot: Slot) -> bool
     }
 }
 
-/// Prints the name of a slot, behind a space.
-fn show_asker(names: &Names, slot: Slot, text: &mut Text) -> Result<(), AllocError>
-    ensures { OnOk result (text.new ≡ text.old ++ asker_text (slice_index_or (slot_names names.now) slot None)) }
+/// Appends the name of a slot.
+fn push_name(names: &Names, slot: Slot, askers: &mut Vec<Name>) -> Result<(), AllocError>
+    ensures { OnOk result (askers.new.items ≡ askers.old.items ++ asker_of (name_of_slot names.now slot)) }
 {
     match names.in_slot(slot) {
-        Some(name) => {
-            text.push(b" ")?;
-            text.push(name.as_bytes())
-        }
+        Some(name) => match askers.push(*name) {
+            Ok(()) => Ok(()),
+            Err(_) => Err(AllocError),
+        },
         None => Ok(()),
     }
 }
