@@ -63,6 +63,17 @@ impl<M: Machine> JobLayers<M> {
     }
 }
 
+/// The number of spare nodes of some layers.
+fn spare_count<M: Machine>(layers: &[Result<Layer<M>, Stop>]) -> usize {
+    let mut spares = 0usize;
+    for made in layers {
+        if let Ok(layer) = made {
+            spares = spares.saturating_add(layer.spares.len());
+        }
+    }
+    spares
+}
+
 /// No layer yet, with memory reserved for the spare nodes of these layers.
 fn room_for<M: Machine>(
     alloc: Global,
@@ -72,16 +83,10 @@ fn room_for<M: Machine>(
     ensures queues { IfOk result (λ all. all.queues.items ≡ []) }
     ensures limits { IfOk result (λ all. all.limits ≡ limits) }
 {
-    let mut spares = 0usize;
-    for made in layers {
-        if let Ok(layer) = made {
-            spares = spares.saturating_add(layer.spares.len());
-        }
-    }
     Ok(JobLayers {
         queues: Vec::with_capacity(alloc, layers.len())?,
         count: 0,
-        spares: Vec::with_capacity(alloc, spares)?,
+        spares: Vec::with_capacity(alloc, spare_count(layers))?,
         limits,
     })
 }

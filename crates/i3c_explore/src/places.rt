@@ -69,13 +69,18 @@ pub(crate) struct Places {
 }
 
 impl Places {
-    /// The places with these codes, one code for each node.
-    pub(crate) fn of_codes(alloc: Global, codes: &[u64]) -> Result<Places, AllocError> {
-        let mut places = Places {
+    /// No places yet, with memory for the index of each of some nodes.
+    fn none(alloc: Global, nodes: usize) -> Result<Places, AllocError> {
+        Ok(Places {
             codes: Codes::new(alloc),
             all: Vec::new(alloc),
-            of_nodes: Vec::with_capacity(alloc, codes.len())?,
-        };
+            of_nodes: Vec::with_capacity(alloc, nodes)?,
+        })
+    }
+
+    /// The places with these codes, one code for each node.
+    pub(crate) fn of_codes(alloc: Global, codes: &[u64]) -> Result<Places, AllocError> {
+        let mut places = Places::none(alloc, codes.len())?;
         for (node, code) in codes.iter().enumerate() {
             places.add(alloc, node, *code)?;
         }
