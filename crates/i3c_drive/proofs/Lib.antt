@@ -1,3 +1,4 @@
 pub mod Inputs
 pub mod Runs
 pub mod Driving
+pub mod Names

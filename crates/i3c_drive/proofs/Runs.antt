@@ -1,5 +1,5 @@
 -- The run over an input, line by line.
-use Rattle.std.proofs.Common.{◌≡◌, ◌≢◌, ◌∙◌, ◌⊎◌, ◌<◌, ◌≤◌, ℕ, suc, ◌+◌, List, [], ◌∷◌, ◌++◌, drop, length, min, take, arith, Option, Some, None, IfSome, Result, Ok, Err, ap, append_assoc, append-nil, inl, inr, refl, subst, sym}
+use Rattle.std.proofs.Common.{◌≡◌, ◌≢◌, ◌∙◌, ◌⊎◌, ◌<◌, ◌≤◌, ℕ, suc, ◌+◌, List, [], ◌∷◌, ◌++◌, drop, length, map, min, take, arith, Option, Some, None, IfSome, Result, Ok, Err, ap, append_assoc, append-nil, inl, inr, refl, subst, sym}
 use Rattle.std.proofs.lemmas.Bool.{cases_lt}
 use Rattle.std.proofs.lemmas.List.{length-take, take_all}
 use Rattle.std.proofs.lemmas.List.Elements.{All-tail}
@@ -8,7 +8,7 @@ use Rattle.i3c_drive.specs.declared.driver.Driver.{Driver}
 use Rattle.i3c_streams.specs.declared.form.Form.{Form}
 use Rattle.i3c_drive.specs.declared.input.Input.{Input}
 use Rattle.i3c_base.specs.declared.requests.Record.{Record}
-use Rattle.i3c_drive.specs.Answers.{AreAnswered, AreLinesOf, Asks, DrivenDoes, IsAnswered, IsChange, IsDrivenPart, IsDrivenRun, IsNews, IsWritten, LacksFeed, StandFor, StandsFor, WentBefore, forgotten_of, log_of}
+use Rattle.i3c_drive.specs.Answers.{AreAnswered, AreLinesOf, Asks, DrivenDoes, DrivenRun, IsAnswered, IsChange, IsDrivenPart, IsDrivenRun, IsNews, IsWritten, LacksFeed, LineComesTo, StandFor, StandsFor, WentBefore, as_printed, driven_bytes, driven_refused, forgotten_of, log_of}
 use Rattle.i3c_drive.specs.Inputs.{IsInHand, Takes, pending}
 use Rattle.i3c_drive.specs.Steps.{Closes, Fails, IsAnswer, IsCut, IsTold, Knows, RunsAll, RunsPart, RunsWhole, AnswersLine, state}
 use Rattle.i3c_lines.specs.Capitals.{in_capitals}
@@ -17,7 +17,9 @@ use Rattle.i3c_lines.specs.declared.refusals.Refusal.{Refusal}
 use Rattle.i3c_streams.specs.declared.faults.ScriptFault.{ScriptFault}
 use Rattle.i3c_streams.specs.Outcomes.{HasNoFeed}
 use Rattle.i3c_runner.specs.Scripts.{Lead, LineDoes, LineRun, lines_bytes, lines_refused, refusals_of}
+use Rattle.i3c_script.specs.declared.piece.Piece.{Piece}
 use Rattle.i3c_script.specs.Obeying.{IsBegun, ScriptState}
+use Rattle.i3c_script.specs.Printed.{pieces_text}
 use Rattle.i3c_lines.proofs.CapitalLaws.{capitals_have_no_feed, capitals_length, long_capitals}
 use Rattle.i3c_streams.proofs.BytesRead.{ended_is, more_read, none_read, script_is, unread}
 use Rattle.i3c_runner.proofs.CheckRuns.{some_out}
@@ -30,20 +32,26 @@ one_line : (line written : List ℕ) → StandsFor line written → HasNoFeed li
 one_line line written (inl (form, same)) one = subst HasNoFeed (sym same) one
 one_line line written (inr (formless, same)) one = subst HasNoFeed (sym same) (capitals_have_no_feed line one)
 
+-- what a line comes to is printed in a script
+prints_so : (old : ScriptState) (line : List ℕ) (pieces : List Piece) (refused : Option Refusal) (new : ScriptState) → LineComesTo old line pieces refused new → LineDoes old line (pieces_text pieces) refused new
+prints_so old line pieces refused new (inl is) = inl (is.0, ap pieces_text is.1, is.2, is.3)
+prints_so old line pieces refused new (inr (inl is)) = inr (inl (is.0, ap pieces_text is.1, is.2, is.3))
+prints_so old line pieces refused new (inr (inr is)) = inr (inr (is.0, is.1, (pieces, is.2, refl)))
+
 -- Lines that are answered lead on, as the lines that they stand for
-pub answered_lead : (form : Form) (number : ℕ) (old : ScriptState) (lines : List LineRun) (new : ScriptState) (answers : List ℕ) → AreAnswered form number old lines new answers → (script : List LineRun) × StandFor lines script × Lead old script new
+pub answered_lead : (form : Form) (number : ℕ) (old : ScriptState) (lines : List DrivenRun) (new : ScriptState) (answers : List ℕ) → AreAnswered form number old lines new answers → (script : List LineRun) × StandFor lines script × Lead old script new
 answered_lead form number old [] new answers (same, none) = ([], refl, same)
 answered_lead form number old (run ∷ rest) new answers (mid, is, (answer, later, one, text, are)) =
     let (script, stand, lead) = answered_lead form (suc number) mid rest new later are in
     let (written, stands, does) = is.does in
-    let first : LineRun = record { line = written; said = run.said; refused = run.refused } in
-    (first ∷ script, (first, script, refl, stands, refl, refl, stand), (mid, record { one = one_line run.line written stands is.one; does = does }, lead))
+    let first : LineRun = record { line = written; said = pieces_text run.pieces; refused = run.refused } in
+    (first ∷ script, (first, script, refl, stands, refl, refl, stand), (mid, record { one = one_line run.line written stands is.one; does = prints_so old written run.pieces run.refused mid does }, lead))
 
 -- a line that is too long is refused, whatever it says
-long_does : (old : ScriptState) (line said : List ℕ) (refused : Option Refusal) (new : ScriptState) → 256 < length line → LineDoes old line said refused new → (said ≡ []) × (refused ≡ Some Refusal.BadLine) × (new ≡ old)
-long_does old line said refused new long (inl is) = (is.1, is.2, is.3)
-long_does old line said refused new long (inr (inl is)) = absurd (omega (arith, long, is.0.0))
-long_does old line said refused new long (inr (inr is)) = absurd (omega (arith, long, is.1.0))
+long_does : (old : ScriptState) (line : List ℕ) (pieces : List Piece) (refused : Option Refusal) (new : ScriptState) → 256 < length line → LineComesTo old line pieces refused new → (pieces ≡ []) × (refused ≡ Some Refusal.BadLine) × (new ≡ old)
+long_does old line pieces refused new long (inl is) = (is.1, is.2, is.3)
+long_does old line pieces refused new long (inr (inl is)) = absurd (omega (arith, long, is.0.0))
+long_does old line pieces refused new long (inr (inr is)) = absurd (omega (arith, long, is.1.0))
 
 -- what stands for a line that is too long is too long
 long_stands : (line written : List ℕ) → 256 < length line → StandsFor line written → 256 < length written
@@ -51,19 +59,19 @@ long_stands line written long (inl (form, same)) = absurd (form (inl long))
 long_stands line written long (inr (formless, same)) = omega (arith, long, ap length same, capitals_length line)
 
 -- a driven line does what it does by its first bytes
-driven_whole : (old : ScriptState) (line said : List ℕ) (refused : Option Refusal) (new : ScriptState) → DrivenDoes old (take 257 line) said refused new → DrivenDoes old line said refused new
-driven_whole old line said refused new (written, stands, does) = if_short (cases_lt 256 (length (take 257 line))) where
-  if_short : (256 < length (take 257 line)) ⊎ (length (take 257 line) ≤ 256) → DrivenDoes old line said refused new
+driven_whole : (old : ScriptState) (line : List ℕ) (pieces : List Piece) (refused : Option Refusal) (new : ScriptState) → DrivenDoes old (take 257 line) pieces refused new → DrivenDoes old line pieces refused new
+driven_whole old line pieces refused new (written, stands, does) = if_short (cases_lt 256 (length (take 257 line))) where
+  if_short : (256 < length (take 257 line)) ⊎ (length (take 257 line) ≤ 256) → DrivenDoes old line pieces refused new
   if_short (inl long) =
       let whole : 256 < length line = omega (arith, long, length-take 257 line) in
-      let is = long_does old written said refused new (long_stands (take 257 line) written long stands) does in
+      let is = long_does old written pieces refused new (long_stands (take 257 line) written long stands) does in
       (in_capitals line, inr (inl whole, refl), inl (long_capitals line whole, is.0, is.1, is.2))
   if_short (inr short) =
       let same : take 257 line ≡ line = take_all 257 line (omega (arith, short, length-take 257 line)) in
-      subst (λ l. DrivenDoes old l said refused new) same (written, stands, does)
+      subst (λ l. DrivenDoes old l pieces refused new) same (written, stands, does)
 
 -- one more line is answered
-answered_more : (form : Form) (lines : List LineRun) (number at : ℕ) (old mid new : ScriptState) (run : LineRun) (answers answer : List ℕ)
+answered_more : (form : Form) (lines : List DrivenRun) (number at : ℕ) (old mid new : ScriptState) (run : DrivenRun) (answers answer : List ℕ)
     → at ≡ number + length lines → AreAnswered form number old lines mid answers → IsDrivenRun mid run new → IsAnswered form at mid run new answer → AreAnswered form number old (lines ++ run ∷ []) new (answers ++ answer)
 answered_more form [] number at old mid new run answers answer e (same, none) is one =
     let first : at ≡ number = omega (arith, e) in
@@ -73,19 +81,26 @@ answered_more form (other ∷ lines) number at old mid new run answers answer e 
     let on : at ≡ suc number + length lines = omega (arith, e) in
     (next, does, (before, later ++ answer, told, ap (λ a. a ++ answer) text ∙ append_assoc before later answer, answered_more form lines (suc number) at next mid new run later answer on are is one))
 
-length_more : (lines : List LineRun) (run : LineRun) → length (lines ++ run ∷ []) ≡ length lines + 1
+length_more : (lines : List DrivenRun) (run : DrivenRun) → length (lines ++ run ∷ []) ≡ length lines + 1
 length_more [] run = omega arith
 length_more (one ∷ lines) run = omega (arith, length_more lines run)
 
+printed_more : (lines : List DrivenRun) (run : DrivenRun) → map as_printed (lines ++ run ∷ []) ≡ map as_printed lines ++ as_printed run ∷ []
+printed_more [] run = refl
+printed_more (one ∷ lines) run = ap (λ l. as_printed one ∷ l) (printed_more lines run)
+
+refused_more : (lines : List DrivenRun) (run : DrivenRun) → driven_refused (lines ++ run ∷ []) ≡ driven_refused lines + (refusals_of run.refused + 0)
+refused_more lines run = ap lines_refused (printed_more lines run) ∙ refused_both (map as_printed lines) (as_printed run ∷ [])
+
 -- the lines that were run so far, the number of the next one, and the bytes that were read beside them
 pub record DrivenSoFar (form : Form) (known now before after : Option (List ℕ)) (input : Input) (old new : Driver) (at : ℕ) : Type 0 where
-  pub lines : List LineRun
+  pub lines : List DrivenRun
   pub answers : List ℕ
   pub answered : AreAnswered form 1 (state old) lines (state new) answers
   pub number : at ≡ 1 + length lines
   pub out : Appends before after answers
-  pub count : min new.refused 18446744073709551615 ≡ min (old.refused + lines_refused lines) 18446744073709551615
-  pub read : Consumes known now (lines_bytes lines ++ pending input)
+  pub count : min new.refused 18446744073709551615 ≡ min (old.refused + driven_refused lines) 18446744073709551615
+  pub read : Consumes known now (driven_bytes lines ++ pending input)
   pub knows : Knows new
 
 -- what was read, where a text more was taken of it
@@ -97,9 +112,9 @@ taken_read known now next old new before text one takes =
 -- a line is answered by its first bytes
 whole_answer : (form : Form) (number : ℕ) (line first : List ℕ) (old new : Driver) (answer : List ℕ) → first ≡ take 257 line → IsAnswer form number first old new answer → IsAnswer form number line old new answer
 whole_answer form number line first old new answer same is = record {
-  said = is.said;
+  pieces = is.pieces;
   refused = is.refused;
-  does = driven_whole (state old) line is.said is.refused (state new) (subst (λ l. DrivenDoes (state old) l is.said is.refused (state new)) same is.does);
+  does = driven_whole (state old) line is.pieces is.refused (state new) (subst (λ l. DrivenDoes (state old) l is.pieces is.refused (state new)) same is.does);
   text = is.text;
   knows = is.knows;
   count = is.count;
@@ -107,20 +122,21 @@ whole_answer form number line first old new answer same is = record {
 
 -- one more line, with its answer
 more_driven : (form : Form) (known now before mid : Option (List ℕ)) (input : Input) (old from to : Driver) (number : ℕ) (line first answer : List ℕ) → (so_far : DrivenSoFar form known now before mid input old from number) → HasNoFeed line → first ≡ take 257 line
-    → IsAnswer form number first from to answer → (run : LineRun) × (run.line ≡ line) × AreAnswered form 1 (state old) (so_far.lines ++ run ∷ []) (state to) (so_far.answers ++ answer) × (min to.refused 18446744073709551615 ≡ min (old.refused + lines_refused (so_far.lines ++ run ∷ [])) 18446744073709551615)
+    → IsAnswer form number first from to answer → (run : DrivenRun) × (run.line ≡ line) × AreAnswered form 1 (state old) (so_far.lines ++ run ∷ []) (state to) (so_far.answers ++ answer) × (min to.refused 18446744073709551615 ≡ min (old.refused + driven_refused (so_far.lines ++ run ∷ [])) 18446744073709551615)
 more_driven form known now before mid input old from to number line first answer so_far one same is =
     let whole = whole_answer form number line first from to answer same is in
-    let run : LineRun = record { line = line; said = whole.said; refused = whole.refused } in
+    let run : DrivenRun = record { line = line; pieces = whole.pieces; refused = whole.refused } in
     let ran : IsDrivenRun (state from) run (state to) = record { one = one; does = whole.does } in (
       run,
       refl,
       answered_more form so_far.lines 1 number (state old) (state from) (state to) run so_far.answers answer so_far.number so_far.answered ran whole.text,
-      omega (arith, so_far.count, whole.count, refused_both so_far.lines (run ∷ [])),
+      omega (arith, so_far.count, whole.count, refused_more so_far.lines run),
     )
 
 -- the bytes of the lines with one more
-more_bytes : (lines : List LineRun) (run : LineRun) (line : List ℕ) → run.line ≡ line → lines_bytes lines ++ (line ++ 10 ∷ []) ≡ lines_bytes (lines ++ run ∷ [])
-more_bytes lines run line same = ap (λ l. lines_bytes lines ++ (l ++ 10 ∷ [])) (sym same) ∙ sym (bytes_both lines (run ∷ []))
+more_bytes : (lines : List DrivenRun) (run : DrivenRun) (line : List ℕ) → run.line ≡ line → driven_bytes lines ++ (line ++ 10 ∷ []) ≡ driven_bytes (lines ++ run ∷ [])
+more_bytes lines run line same =
+    ap (λ l. driven_bytes lines ++ (l ++ 10 ∷ [])) (sym same) ∙ sym (bytes_both (map as_printed lines) (as_printed run ∷ [])) ∙ ap lines_bytes (sym (printed_more lines run))
 
 -- a line that came with its feed was told
 pub one_driven : (form : Form) (known now next before mid after : Option (List ℕ)) (input further : Input) (old from to : Driver) (number : ℕ) (line : List ℕ)
@@ -135,7 +151,7 @@ one_driven form known now next before mid after input further old from to number
       number = omega (arith, so_far.number, length_more so_far.lines run);
       out = appends_both before mid after so_far.answers told.answer so_far.out told.out;
       count = count;
-      read = subst (λ b. Consumes known next (b ++ pending further)) (more_bytes so_far.lines run line same) (taken_read known now next input further (lines_bytes so_far.lines) (line ++ 10 ∷ []) so_far.read takes);
+      read = subst (λ b. Consumes known next (b ++ pending further)) (more_bytes so_far.lines run line same) (taken_read known now next input further (driven_bytes so_far.lines) (line ++ 10 ∷ []) so_far.read takes);
       knows = told.is.knows;
     }
 
@@ -166,11 +182,11 @@ pub last_driven : (form : Form) (known now next before mid after : Option (List 
     → IsTold form number (gathered further.line) mid after from to → RunsWhole form known before after old to
 last_driven form known now next before mid after input further old from to number line so_far hand some takes none end told =
     let (run, same, answered, count) = more_driven form known now before mid input old from to number line (gathered further.line) told.answer so_far hand.0 hand.1 told.is in
-    let bytes = lines_bytes so_far.lines in
+    let bytes = driven_bytes so_far.lines in
     let lines = so_far.lines ++ run ∷ [] in
     let read = taken_read known now next input further bytes line so_far.read takes in
     let front : (bytes ++ line) ++ pending further ≡ bytes ++ line = ap (λ b. (bytes ++ line) ++ b) none ∙ append-nil (bytes ++ line) in
-    let feed : (bytes ++ line) ++ 10 ∷ [] ≡ lines_bytes lines = append_assoc bytes line (10 ∷ []) ∙ more_bytes so_far.lines run line same in
+    let feed : (bytes ++ line) ++ 10 ∷ [] ≡ driven_bytes lines = append_assoc bytes line (10 ∷ []) ∙ more_bytes so_far.lines run line same in
     record {
       lines = lines;
       answers = so_far.answers ++ told.answer;
@@ -196,7 +212,7 @@ driven_stops form known now before after input old to number fault so_far = reco
   answers = so_far.answers;
   rest = pending input ++ (unread now ++ 10 ∷ []);
   answered = so_far.answered;
-  first = script_is known now (lines_bytes so_far.lines ++ pending input) (lines_bytes so_far.lines) (pending input) so_far.read refl;
+  first = script_is known now (driven_bytes so_far.lines ++ pending input) (driven_bytes so_far.lines) (pending input) so_far.read refl;
   out = went_whole fault before after so_far.answers so_far.out;
 }
 
@@ -216,20 +232,20 @@ none_ran form known out driver begun = record {
 
 -- a line's answer was cut
 pub driven_cut : (form : Form) (known now before mid after : Option (List ℕ)) (input further : Input) (old from to : Driver) (number : ℕ) (line rest : List ℕ)
-    → (so_far : DrivenSoFar form known now before mid input old from number) → IsInHand further line → IfSome known (λ input. lines_bytes so_far.lines ++ (line ++ (10 ∷ rest)) ≡ input ++ 10 ∷ [])
+    → (so_far : DrivenSoFar form known now before mid input old from number) → IsInHand further line → IfSome known (λ input. driven_bytes so_far.lines ++ (line ++ (10 ∷ rest)) ≡ input ++ 10 ∷ [])
     → IsCut form number (gathered further.line) mid after from to → RunsPart form known before after old ScriptFault.Write
 driven_cut form known now before mid after input further old from to number line rest so_far hand first cut =
     let (run, same, answered, count) = more_driven form known now before mid input old from to number line (gathered further.line) cut.answer so_far hand.0 hand.1 cut.is in
     let lines = so_far.lines ++ run ∷ [] in
-    let whole : lines_bytes so_far.lines ++ (line ++ (10 ∷ rest)) ≡ lines_bytes lines ++ rest =
-    ap (λ b. lines_bytes so_far.lines ++ b) (sym (append_assoc line (10 ∷ []) rest)) ∙ sym (append_assoc (lines_bytes so_far.lines) (line ++ 10 ∷ []) rest) ∙ ap (λ b. b ++ rest) (more_bytes so_far.lines run line same) in
+    let whole : driven_bytes so_far.lines ++ (line ++ (10 ∷ rest)) ≡ driven_bytes lines ++ rest =
+    ap (λ b. driven_bytes so_far.lines ++ b) (sym (append_assoc line (10 ∷ []) rest)) ∙ sym (append_assoc (driven_bytes so_far.lines) (line ++ 10 ∷ []) rest) ∙ ap (λ b. b ++ rest) (more_bytes so_far.lines run line same) in
     record {
       lines = lines;
       end = state to;
       answers = so_far.answers ++ cut.answer;
       rest = rest;
       answered = answered;
-      first = if_some (λ input. lines_bytes so_far.lines ++ (line ++ (10 ∷ rest)) ≡ input ++ 10 ∷ []) (λ input. lines_bytes lines ++ rest ≡ input ++ 10 ∷ []) known (λ input is. sym whole ∙ is) first;
+      first = if_some (λ input. driven_bytes so_far.lines ++ (line ++ (10 ∷ rest)) ≡ input ++ 10 ∷ []) (λ input. driven_bytes lines ++ rest ≡ input ++ 10 ∷ []) known (λ input is. sym whole ∙ is) first;
       out = some_after before mid after so_far.answers cut.answer so_far.out cut.out;
     }
 
@@ -258,7 +274,7 @@ pub fed_fails : (form : Form) (fault : ScriptFault) (known now next before mid a
 fed_fails form ScriptFault.Memory known now next before mid after input further old from to number line so_far hand takes same =
     subst (λ out. RunsPart form known before out old ScriptFault.Memory) (sym same) (driven_stops form known now before mid input old from number ScriptFault.Memory so_far)
 fed_fails form ScriptFault.Write known now next before mid after input further old from to number line so_far hand takes cut =
-    driven_cut form known now before mid after input further old from to number line (pending further ++ (unread next ++ 10 ∷ [])) so_far hand (fed_first known now next input further (lines_bytes so_far.lines) line so_far.read takes) cut
+    driven_cut form known now before mid after input further old from to number line (pending further ++ (unread next ++ 10 ∷ [])) so_far hand (fed_first known now next input further (driven_bytes so_far.lines) line so_far.read takes) cut
 fed_fails form ScriptFault.Read known now next before mid after input further old from to number line so_far hand takes none = absurd none
 fed_fails form ScriptFault.TooLarge known now next before mid after input further old from to number line so_far hand takes none = absurd none
 
@@ -268,7 +284,7 @@ last_fails : (form : Form) (fault : ScriptFault) (known now next before mid afte
 last_fails form ScriptFault.Memory known now next before mid after input further old from to number line so_far hand takes none end same =
     subst (λ out. RunsPart form known before out old ScriptFault.Memory) (sym same) (driven_stops form known now before mid input old from number ScriptFault.Memory so_far)
 last_fails form ScriptFault.Write known now next before mid after input further old from to number line so_far hand takes none end cut =
-    driven_cut form known now before mid after input further old from to number line [] so_far hand (last_first known now next input further (lines_bytes so_far.lines) line so_far.read takes none end) cut
+    driven_cut form known now before mid after input further old from to number line [] so_far hand (last_first known now next input further (driven_bytes so_far.lines) line so_far.read takes none end) cut
 last_fails form ScriptFault.Read known now next before mid after input further old from to number line so_far hand takes none end is = absurd is
 last_fails form ScriptFault.TooLarge known now next before mid after input further old from to number line so_far hand takes none end is = absurd is
 
@@ -280,22 +296,19 @@ last_tells form known now next before mid after input further old from to number
 last_tells form known now next before mid after input further old from to number line (Err fault) so_far hand some takes none end fails = last_fails form fault known now next before mid after input further old from to number line so_far hand takes none end fails
 
 -- a line that was run, as it is answered
-pub line_answered : (form : Form) (number : ℕ) (line : List ℕ) (refused : Option Refusal) (log : List Record) (from mid to : Driver) → DrivenDoes (state from) line mid.answer refused (state mid) → state to ≡ state mid → log ≡ log_of (state from)
-    → Knows from → mid.asked ≡ from.asked → Closes form number (length log) refused mid to → to.refused ≡ min (from.refused + refusals_of refused) 18446744073709551615 → IsAnswer form number line from to to.answer
-line_answered form number line refused log from mid to does same logged knows kept closes count =
+pub line_answered : (form : Form) (number : ℕ) (line : List ℕ) (pieces : List Piece) (refused : Option Refusal) (log : List Record) (from mid to : Driver) → DrivenDoes (state from) line pieces refused (state mid) → state to ≡ state mid → log ≡ log_of (state from)
+    → Knows from → mid.asked ≡ from.asked → Closes form number (length log) pieces refused mid to → to.refused ≡ min (from.refused + refusals_of refused) 18446744073709551615 → IsAnswer form number line from to to.answer
+line_answered form number line pieces refused log from mid to does same logged knows kept closes count =
     let before = log_of (state from) in
-    let asks = subst (λ st. Asks st to.asked) (sym same) closes.asks in
-    let change : IsChange (state from) (state to) closes.news = record { before = from.asked; after = to.asked; asked = knows; asks = asks; is = subst (λ b. IsNews b to.asked closes.news) kept closes.is } in
-    let told = subst (λ l. IsWritten form number mid.answer (forgotten_of (state mid) + length l) (drop (length l) (log_of (state mid))) closes.news refused to.answer) logged closes.told in
+    let asks = subst (λ st. Asks st to.asked.items) (sym same) closes.asks in
+    let change : IsChange (state from) (state to) closes.news =
+    record { before = from.asked.items; after = to.asked.items; asked = knows; asks = asks; is = subst (λ b. IsNews b to.asked.items closes.news) (ap (λ a. a.items) kept) closes.is } in
+    let told = subst (λ l. IsWritten form number pieces (forgotten_of (state mid) + length l) (drop (length l) (log_of (state mid))) closes.news refused to.answer) logged closes.told in
     record {
-      said = mid.answer;
+      pieces = pieces;
       refused = refused;
-      does = subst (DrivenDoes (state from) line mid.answer refused) (sym same) does;
-      text = (closes.news, change, subst (λ st. IsWritten form number mid.answer (forgotten_of st + length before) (drop (length before) (log_of st)) closes.news refused to.answer) (sym same) told);
+      does = subst (DrivenDoes (state from) line pieces refused) (sym same) does;
+      text = (closes.news, change, subst (λ st. IsWritten form number pieces (forgotten_of st + length before) (drop (length before) (log_of st)) closes.news refused to.answer) (sym same) told);
       knows = asks;
       count = count;
     }
-
--- what a line printed is all of the answer so far
-pub said_whole : (old : ScriptState) (line before after : List ℕ) (refused : Option Refusal) (new : ScriptState) → (said : List ℕ) × (after ≡ before ++ said) × DrivenDoes old line said refused new → before ≡ [] → DrivenDoes old line after refused new
-said_whole old line before after refused new (said, told, does) none = subst (λ t. DrivenDoes old line t refused new) (sym (told ∙ ap (λ t. t ++ said) none)) does

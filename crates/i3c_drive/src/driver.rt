@@ -1,22 +1,23 @@
-ghost use Rattle.std.specs.Prelude.{◌≡◌, ℕ, ◌+◌, ◌≤◌, List, [], ◌∷◌, ◌++◌, drop, length, min, option_map, suc, IfOk, OnOk};
+ghost use Rattle.std.specs.Prelude.{◌≡◌, ◌+◌, ◌↔◌, List, [], ◌++◌, drop, length, min, option_map, IsTrue, IfOk, OnOk};
 ghost use Rattle.std.specs.Io.KnownBytes.{IsAtEnd};
-ghost use Rattle.i3c_drive.specs.Answers.{AnswersGoOut, AsksAt, IsWritten, first_added, forgotten_of, last_line, log_of, news_text};
+ghost use Rattle.i3c_drive.specs.Answers.{AnswersGoOut, IsWritten, first_added, forgotten_of, last_line, log_of, names_text, news_text};
 ghost use Rattle.i3c_drive.specs.Inputs.{pending};
-ghost use Rattle.i3c_drive.specs.Steps.{Asked, Closes, IsAnswer, Knows, Reads, RunsAll, AnswersLine, news_of, state};
-ghost use Rattle.i3c_lines.specs.Forms.{HasNoForm};
+ghost use Rattle.i3c_drive.specs.Steps.{AnswersLine, Asked, Closes, HasHeard, IsAnswer, Knows, Obeyed, RunsAll, news_of, state};
+ghost use Rattle.i3c_script.specs.declared.piece.Piece.{Piece as PieceValue};
 ghost use Rattle.i3c_script.specs.Obeying.{IsBegun};
-ghost use Rattle.i3c_script.specs.Printed.{numbered_text};
 ghost use Rattle.i3c_runner.specs.Scripts.{refusals_of};
 
 use crate::input::{Input, Next};
+use crate::interpreter::Interpreter;
 use i3c_base::Record;
 use i3c_json::{Answer, push_object};
-use i3c_lines::{Command, Names, Refusal, is_skipped, push_capitals};
-use i3c_script::{Stage, show_askers, show_records_behind, sum_of};
+use i3c_lines::{Name, Refusal};
+use i3c_script::{PieceList, sum_of};
 use i3c_streams::{Form, ScriptFault, Tally, write_out};
 use i3c_text::{Stop, Text};
 use std::alloc::{AllocError, Global};
 use std::io::{Read, Write};
+use std::mem;
 
 /// Runs the lines that another program sends, and answers each before it reads the next, until the input ends.
 ///
@@ -56,26 +57,16 @@ pub fn run_driven<R: Read, W: Write>(
     }
 }
 
-/// Names the lines of a driven bus.
-struct Driven;
-
-/// Names those that are read in capitals.
-struct Capitals;
-
-/// The state of a driven bus: its stage and names, the current command, the current answer, and how many lines were
-/// refused.
+/// The state of a driven bus: who obeys its lines, the current answer, and how many lines were refused.
 pub(crate) struct Driver {
     alloc: Global,
-    stage: Stage,
-    names: Names,
-    // the last that was read
-    command: Command,
+    interpreter: Interpreter,
     answer: Text,
-    // the names of the devices that asked before, and of those that ask now
-    asked: Text,
-    asks: Text,
-    // a line without a form, in capitals
-    capitals: Text,
+    // what the current line came to, where its answer is an object
+    pieces: PieceList,
+    // the names of the devices that ask, and room for those that ask next
+    asked: Vec<Name>,
+    asks: Vec<Name>,
     refused: u64,
 }
 
@@ -88,13 +79,11 @@ impl Driver {
     {
         Driver {
             alloc,
-            stage: Stage::new(),
-            names: Names::new(alloc),
-            command: Command::Show,
+            interpreter: Interpreter::new(alloc),
             answer: Text::new(alloc),
-            asked: Text::new(alloc),
-            asks: Text::new(alloc),
-            capitals: Text::new(alloc),
+            pieces: PieceList::new(alloc),
+            asked: Vec::new(alloc),
+            asks: Vec::new(alloc),
             refused: 0,
         }
     }
@@ -160,16 +149,33 @@ impl Driver {
         requires { Knows self.old }
         ensures { OnOk result (IsAnswer form number line.now self.old self.new self.new.answer) }
     {
-        let count = self.log().len();
-        self.answer.clear();
-        match self.obey(line) {
+        let count = self.interpreter.log().len();
+        match self.obey(form, line) {
             Ok(()) => return self.close(form, number, count, None),
             Err(Stop::Refused(why)) => return self.close(form, number, count, Some(why)),
             Err(Stop::Memory) => return Err(AllocError),
         }
     }
 
-    /// Makes the answer of a line's output, and counts its refusal.
+    /// Obeys a line, and keeps what it comes to: in the form of lines its text, in that of an object its pieces.
+    fn obey(&mut self, form: Form, line: &[u8]) -> Result<(), Stop<Refusal>>
+        ensures refused { self.new.refused ≡ self.old.refused }
+        ensures asked { self.new.asked ≡ self.old.asked }
+        ensures heard { Obeyed form (state self.old) line.now self.new result }
+    {
+        match form {
+            Form::Lines => {
+                self.answer.clear();
+                self.interpreter.obey(line, &mut self.answer)
+            }
+            Form::Json => {
+                self.pieces.clear();
+                self.interpreter.obey(line, &mut self.pieces)
+            }
+        }
+    }
+
+    /// Makes the answer to a line of what it came to, and counts its refusal.
     fn close(
         &mut self,
         form: Form,
@@ -177,7 +183,7 @@ impl Driver {
         count: usize,
         refused: Option<Refusal>,
     ) -> Result<(), AllocError>
-        ensures told { OnOk result (Closes form number count refused self.old self.new) }
+        ensures told { (pieces : List PieceValue) → HasHeard form pieces self.old → OnOk result (Closes form number count pieces refused self.old self.new) }
         ensures state { state self.new ≡ state self.old }
         ensures counted { self.new.refused ≡ min (self.old.refused + refusals_of refused) u64.MAX }
     {
@@ -189,7 +195,7 @@ impl Driver {
         }
     }
 
-    /// Appends to a line's output: the records behind the first `count`, the devices that ask, if that has changed, and the
+    /// Appends to what a line prints: the records behind the first `count`, the devices that ask, if that has changed, and the
     /// last line.
     fn push_lines(
         &mut self,
@@ -198,17 +204,17 @@ impl Driver {
         changed: bool,
         refused: &Option<Refusal>,
     ) -> Result<(), AllocError>
-        ensures told { OnOk result (IsWritten Form.Lines number self.old.answer (forgotten_of (state self.old) + count) (drop count (log_of (state self.old))) (news_of changed self.old.asked) refused.now self.new.answer) }
+        ensures told { (pieces : List PieceValue) → HasHeard Form.Lines pieces self.old → OnOk result (IsWritten Form.Lines number pieces (forgotten_of (state self.old) + count) (drop count (log_of (state self.old))) (news_of changed self.old.asked.items) refused.now self.new.answer) }
         ensures state { state self.new ≡ state self.old }
         ensures refused { self.new.refused ≡ self.old.refused }
         ensures asked { self.new.asked ≡ self.old.asked }
     {
-        self.push_added(count)?;
-        push_news(changed, self.asked.as_bytes(), &mut self.answer)?;
+        self.interpreter.push_added(count, &mut self.answer)?;
+        push_news(changed, &self.asked, &mut self.answer)?;
         push_last(number, refused, &mut self.answer)
     }
 
-    /// Makes an object of a line's output, the first record behind the first `count`, the devices that ask, if that has
+    /// Makes an object of the pieces of a line, the first record behind the first `count`, the devices that ask, if that has
     /// changed, and the line's result.
     fn make_object(
         &mut self,
@@ -217,108 +223,21 @@ impl Driver {
         changed: bool,
         refused: Option<Refusal>,
     ) -> Result<(), AllocError>
-        ensures told { OnOk result (IsWritten Form.Json number self.old.answer (forgotten_of (state self.old) + count) (drop count (log_of (state self.old))) (news_of changed self.old.asked) refused self.new.answer) }
+        ensures told { (pieces : List PieceValue) → HasHeard Form.Json pieces self.old → OnOk result (IsWritten Form.Json number pieces (forgotten_of (state self.old) + count) (drop count (log_of (state self.old))) (news_of changed self.old.asked.items) refused self.new.answer) }
         ensures state { state self.new ≡ state self.old }
         ensures refused { self.new.refused ≡ self.old.refused }
         ensures asked { self.new.asked ≡ self.old.asked }
     {
+        let log = self.interpreter.log();
         let answer = Answer {
             number,
             refused,
-            said: self.answer.as_bytes(),
-            added: first_added(self.log(), count, self.forgotten())?,
-            asking: news(changed, self.asked.as_bytes()),
+            pieces: self.pieces.as_slice(),
+            added: first_added(log, count, self.interpreter.forgotten())?,
+            asking: news(changed, &self.asked),
         };
-        let mut object = Text::new(self.alloc);
-        push_object(self.alloc, &answer, &mut object)?;
-        self.answer = object;
-        Ok(())
-    }
-
-    /// Obeys a line, if it has a command.
-    fn obey(&mut self, line: &[u8]) -> Result<(), Stop<Refusal>>
-        ensures refused { self.new.refused ≡ self.old.refused }
-        ensures asked { self.new.asked ≡ self.old.asked }
-        ensures reads { Reads (state self.old) line.now self.old.answer self.new.answer result (state self.new) }
-    {
-        match is_skipped(line) {
-            Ok(true) => return Ok(()),
-            Ok(false) => {}
-            Err(refusal) => return Err(Stop::Refused(refusal)),
-        }
-        match self.command.read::<Driven>(line) {
-            Some(()) => self.stage.obey::<Driven>(
-                self.alloc,
-                &mut self.names,
-                &self.command,
-                &mut self.answer,
-            ),
-            None => self.obey_in_capitals(line),
-        }
-    }
-
-    /// Obeys a line without a form by its form in capitals, if it has one.
-    #[cold]
-    #[inline(never)]
-    fn obey_in_capitals(&mut self, line: &[u8]) -> Result<(), Stop<Refusal>>
-        requires short { length line.now ≤ 256 }
-        requires formless { HasNoForm line.now }
-        ensures refused { self.new.refused ≡ self.old.refused }
-        ensures asked { self.new.asked ≡ self.old.asked }
-        ensures reads { Reads (state self.old) line.now self.old.answer self.new.answer result (state self.new) }
-    {
-        self.capitals.clear();
-        match push_capitals(line, &mut self.capitals) {
-            Ok(()) => {}
-            Err(_) => return Err(Stop::Memory),
-        }
-        match self.command.read::<Capitals>(self.capitals.as_bytes()) {
-            Some(()) => self.stage.obey::<Capitals>(
-                self.alloc,
-                &mut self.names,
-                &self.command,
-                &mut self.answer,
-            ),
-            None => Err(Stop::Refused(Refusal::BadLine)),
-        }
-    }
-
-    /// The log of the bus. Before the bus it is empty.
-    fn log(&self) -> &[Record]
-        ensures { result.now ≡ log_of (state self.now) }
-    {
-        match &self.stage {
-            Stage::Before(_) => &[],
-            Stage::Running(running) => running.bus().records(),
-        }
-    }
-
-    /// How many records have left the log.
-    fn forgotten(&self) -> usize
-        ensures { result ≡ forgotten_of (state self.now) }
-    {
-        match &self.stage {
-            Stage::Before(_) => 0,
-            Stage::Running(running) => running.forgotten(),
-        }
-    }
-
-    /// Appends the records behind the first `count` to the answer.
-    fn push_added(&mut self, count: usize) -> Result<(), AllocError>
-        ensures told { OnOk result (self.new.answer ≡ self.old.answer ++ numbered_text (suc (forgotten_of (state self.old) + count)) (drop count (log_of (state self.old)))) }
-        ensures state { state self.new ≡ state self.old }
-        ensures refused { self.new.refused ≡ self.old.refused }
-        ensures asked { self.new.asked ≡ self.old.asked }
-    {
-        match &self.stage {
-            Stage::Before(_) => Ok(()),
-            Stage::Running(running) => show_records_behind(
-                running.bus().records(),
-                count,
-                running.forgotten(),
-                &mut self.answer,
-            ),
-        }
+        self.answer.clear();
+        push_object(self.alloc, &answer, &mut self.answer)
     }
 
     /// Looks which devices ask now, and tells whether they have changed.
@@ -326,15 +245,15 @@ impl Driver {
         ensures asked { IfOk result (Asked self.old self.new) }
         ensures state { state self.new ≡ state self.old }
         ensures answer { self.new.answer ≡ self.old.answer }
+        ensures pieces { self.new.pieces ≡ self.old.pieces }
         ensures refused { self.new.refused ≡ self.old.refused }
     {
         self.asks.clear();
-        push_askers(&self.stage, &self.names, &mut self.asks)?;
-        if self.asks.as_bytes() == self.asked.as_bytes() {
+        self.interpreter.push_asking(&mut self.asks)?;
+        if are_same(&self.asked, &self.asks) {
             return Ok(false);
         }
-        self.asked.clear();
-        self.asked.push(self.asks.as_bytes())?;
+        mem::swap(&mut self.asked, &mut self.asks);
         Ok(true)
     }
 
@@ -344,47 +263,63 @@ impl Driver {
     {
         let Driver {
             alloc: _,
-            stage,
-            names: _,
-            command: _,
+            interpreter,
             answer: _,
+            pieces: _,
             asked: _,
             asks: _,
-            capitals: _,
             refused,
         } = self;
-        stage.retire();
+        interpreter.retire();
         refused
     }
 }
 
-/// Appends the names of those whose requests the next frame would meet. Before the bus there are none.
-fn push_askers(stage: &Stage, names: &Names, text: &mut Text) -> Result<(), AllocError>
-    ensures { OnOk result ((told : List ℕ) × AsksAt stage.now names.now told × (text.new ≡ text.old ++ told)) }
+/// Whether two lists have the same names in the same order.
+fn are_same(names: &[Name], others: &[Name]) -> bool
+    ensures { IsTrue result ↔ (names.now ≡ others.now) }
 {
-    match stage {
-        Stage::Before(_) => return Ok(()),
-        Stage::Running(running) => return show_askers(running.bus(), names, text),
+    if names.len() != others.len() {
+        return false;
     }
+    for index in 0..names.len() {
+        if !names[index].is_same(&others[index]) {
+            return false;
+        }
+    }
+    true
 }
 
 /// The names of the devices that ask, if they have changed.
-fn news(changed: bool, asks: &[u8]) -> Option<&[u8]>
-    ensures { option_map (λ names. names.now) result ≡ news_of changed asks.now }
+fn news(changed: bool, asking: &[Name]) -> Option<&[Name]>
+    ensures { option_map (λ names. names.now) result ≡ news_of changed asking.now }
 {
-    if changed { Some(asks) } else { None }
+    if changed { Some(asking) } else { None }
 }
 
 /// Appends the line of the devices that ask, if they have changed.
-fn push_news(changed: bool, asks: &[u8], answer: &mut Text) -> Result<(), AllocError>
-    ensures { OnOk result (answer.new ≡ answer.old ++ news_text (news_of changed asks.now)) }
+fn push_news(changed: bool, asking: &[Name], answer: &mut Text) -> Result<(), AllocError>
+    ensures { OnOk result (answer.new ≡ answer.old ++ news_text (news_of changed asking.now)) }
 {
     if !changed {
         return Ok(());
     }
     answer.push(b"asking")?;
-    answer.push(asks)?;
+    push_names(asking, answer)?;
     answer.end()
+}
+
+/// Appends names, each behind a space.
+fn push_names(names: &[Name], answer: &mut Text) -> Result<(), AllocError>
+    ensures { OnOk result (answer.new ≡ answer.old ++ names_text names.now) }
+{
+    let mut rest = names;
+    while let [name, more @ ..] = rest {
+        answer.push(b" ")?;
+        answer.push(name.as_bytes())?;
+        rest = more;
+    }
+    Ok(())
 }
 
 /// The first record behind the first `count` of a log, with its number, where `forgotten` have left the log.

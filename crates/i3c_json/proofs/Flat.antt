@@ -1,22 +1,23 @@
 -- An answer's object has no float, and nests little.
 use Rattle.std.proofs.Common.{◌≡◌, ◌≤◌, ℕ, Bool, true, false, ◌||◌, cond, List, [], ◌∷◌, map, Option, Some, None, Ordering, Less, Equal, Greater, arith, refl}
 use Rattle.std.proofs.lemmas.Bool.{or_parts}
-use Rattle.std.specs.Prelude.{codes}
+use Rattle.std.specs.Prelude.{codes, ⊤}
 use Rattle.std.specs.Ordering.{match_ordering}
 use Rattle.serde_json.specs.Data.{Data, array, boolean, number, unsigned, Members, no_members, member, put, depth, items_depth, members_depth}
 use Rattle.serde_json.specs.View.{items_of}
 use Rattle.serde_json.specs.Written.{has_float, items_have_float, members_have_float}
-use Rattle.i3c_base.specs.declared.datum.Datum.{Datum}
 use Rattle.i3c_base.specs.declared.requests.Record.{Record}
+use Rattle.i3c_base.specs.declared.requests.Request.{Request}
+use Rattle.i3c_base.specs.declared.requests.Request.TheVariants.{Interrupt, Join, Role}
+use Rattle.i3c_lines.specs.declared.names.Name.{Name}
 use Rattle.i3c_lines.specs.declared.refusals.Refusal.{Refusal}
-use Rattle.i3c_lines.specs.Data.{told_token}
 use Rattle.i3c_lines.specs.Refusing.{refusal_token}
+use Rattle.i3c_script.specs.declared.piece.Piece.{Piece}
 use Rattle.i3c_text.specs.Hex.{byte_text}
-use Rattle.i3c_json.specs.declared.kinds.Kind.{Kind}
-use Rattle.i3c_json.specs.Kinds.{has_kind, told_datum}
-use Rattle.i3c_json.specs.Pieces.{pieces}
-use Rattle.i3c_json.specs.Values.{byte_data, datum_data, line_data, record_data, text_data, values_of}
-use Rattle.i3c_json.specs.Objects.{answer_data, put_address, put_array, put_asking, put_data, put_datum, put_first, put_outcome, put_record, put_said, refusal_address}
+use Rattle.i3c_json.specs.declared.fields.Array.{Array}
+use Rattle.i3c_json.specs.Fields.{field_of, is_item, item_data, put_arrays, put_field, put_fields, put_items, put_pieces, symbol_lines, values_of}
+use Rattle.i3c_json.specs.Values.{byte_data, name_data, record_data, text_data, wish_data}
+use Rattle.i3c_json.specs.Objects.{answer_data, put_address, put_asking, put_outcome, put_record, refusal_address}
 
 -- no float, and at most two levels
 abbrev IsFlat : Data → Type 0
@@ -61,51 +62,111 @@ texts_flat : (texts : List (List ℕ)) → ValuesFlat (map text_data texts)
 texts_flat [] = (refl, omega arith)
 texts_flat (text ∷ texts) = value_more (text_data text) (map text_data texts) refl (omega arith) (texts_flat texts)
 
-line_flat : (kind : Kind) (line : List ℕ) → (has_float (line_data kind line) ≡ false) × (depth (line_data kind line) ≤ 1)
-line_flat Kind.Served line = (refl, omega arith)
-line_flat Kind.Assigned line = (refl, omega arith)
-line_flat Kind.Bytes line = (refl, omega arith)
-line_flat Kind.Active line = (refl, omega arith)
-line_flat Kind.Told line = (refl, omega arith)
+names_flat : (names : List Name) → ValuesFlat (map name_data names)
+names_flat [] = (refl, omega arith)
+names_flat (name ∷ names) = value_more (name_data name) (map name_data names) refl (omega arith) (names_flat names)
+
+byte_flat : (byte : Option ℕ) → (has_float (byte_data byte) ≡ false) × (depth (byte_data byte) ≤ 0)
+byte_flat None = (refl, omega arith)
+byte_flat (Some byte) = (refl, omega arith)
+
+wish_flat : (wish : Option Request) → (has_float (wish_data wish) ≡ false) × (depth (wish_data wish) ≤ 0)
+wish_flat None = (refl, omega arith)
+wish_flat (Some Join) = (refl, omega arith)
+wish_flat (Some (Role a)) = (refl, omega arith)
+wish_flat (Some (Interrupt a)) = (refl, omega arith)
+
+-- a value with one level at most
+abbrev IsSmall : Data → Type 0
+IsSmall value = (has_float value ≡ false) × (depth value ≤ 1)
+
+record_small : (count : ℕ) (recorded : Record) → IsSmall (record_data count recorded)
+record_small count recorded =
+    let byte = byte_flat recorded.byte in
+    (or_false (has_float (byte_data recorded.byte)) false byte.0 refl, omega (arith, byte.1))
+
+item_small : (piece : Piece) → IsSmall (item_data piece)
+item_small (Piece.Entry count r) = record_small count r
+item_small (Piece.Device name address waiting) =
+    let byte = byte_flat address in
+    (or_false (has_float (byte_data address)) false byte.0 refl, omega (arith, byte.1))
+item_small (Piece.Description device) =
+    let wish = wish_flat device.wish in
+    (or_false (has_float (wish_data device.wish)) false wish.0 refl, omega (arith, wish.1))
+item_small _ = (refl, omega arith)
 
 chosen : (b : Bool) (xs ys : List Data) → ValuesFlat xs → ValuesFlat ys → ValuesFlat (cond b xs ys)
 chosen true xs ys first other = first
 chosen false xs ys first other = other
 
-values_flat : (kind : Kind) (lines : List (List ℕ)) → ValuesFlat (values_of kind lines)
-values_flat kind [] = (refl, omega arith)
-values_flat kind (line ∷ lines) =
-    let one = line_flat kind line in
-    let are = values_flat kind lines in
-    chosen (has_kind kind line) (line_data kind line ∷ values_of kind lines) (values_of kind lines) (value_more (line_data kind line) (values_of kind lines) one.0 one.1 are) are
+values_flat : (items : Array) (pieces : List Piece) → ValuesFlat (values_of items pieces)
+values_flat items [] = (refl, omega arith)
+values_flat items (piece ∷ pieces) =
+    let one = item_small piece in
+    let are = values_flat items pieces in
+    chosen (is_item items piece) (item_data piece ∷ values_of items pieces) (values_of items pieces) (value_more (item_data piece) (values_of items pieces) one.0 one.1 are) are
 
 array_flat : (values : List Data) → ValuesFlat values → IsFlat (array (items_of values))
 array_flat values are = (are.0, omega (arith, are.1))
 
-array_put : (key : List ℕ) (values : List Data) (members : Members) → ValuesFlat values → AreFlat members → AreFlat (put_array key values members)
-array_put key [] members are flat = flat
-array_put key (value ∷ more) members are flat = put_flat key (array (items_of (value ∷ more))) members (array_flat (value ∷ more) are) flat
+items_put : (key : List ℕ) (values : List Data) (members : Members) → ValuesFlat values → AreFlat members → AreFlat (put_items key values members)
+items_put key [] members are flat = flat
+items_put key (value ∷ more) members are flat = put_flat key (array (items_of (value ∷ more))) members (array_flat (value ∷ more) are) flat
 
-first_put : (key : List ℕ) (values : List Data) (members : Members) → ValuesFlat values → AreFlat members → AreFlat (put_first key values members)
-first_put key [] members are flat = flat
-first_put key (value ∷ more) members are flat = put_flat key value members ((or_parts (has_float value) (items_have_float (items_of more)) are.0).0, omega (arith, are.1)) flat
+-- the value of a piece's field
+abbrev FieldFlat : Option (List ℕ × Data) → Type 0
+FieldFlat None = ⊤
+FieldFlat (Some field) = IsFlat field.1
 
-datum_put : (what : Option Datum) (line : List ℕ) (members : Members) → AreFlat members → AreFlat (put_datum what line members)
-datum_put None line members flat = flat
-datum_put (Some what) line members flat = put_flat (told_token what) (datum_data what line) members (refl, omega arith) flat
+field_flat : (piece : Piece) → FieldFlat (field_of piece)
+field_flat (Piece.Legacy name a) = (refl, omega arith)
+field_flat (Piece.Declared a) = (refl, omega arith)
+field_flat (Piece.Main name address) = (let byte = byte_flat address in (or_false (has_float (byte_data address)) false byte.0 refl, omega (arith, byte.1)))
+field_flat (Piece.Entered name slot) = (refl, omega arith)
+field_flat Piece.Dropped = (refl, omega arith)
+field_flat (Piece.Raised count) = (refl, omega arith)
+field_flat Piece.Asked = (refl, omega arith)
+field_flat (Piece.Served served) = (refl, omega arith)
+field_flat Piece.Done = (refl, omega arith)
+field_flat (Piece.Bytes bytes) = (refl, omega arith)
+field_flat (Piece.Told what bytes) = (refl, omega arith)
+field_flat Piece.Opened = (refl, omega arith)
+field_flat (Piece.Assigned a identity) = tt
+field_flat Piece.Nobody = (refl, omega arith)
+field_flat Piece.Ended = (refl, omega arith)
+field_flat (Piece.Active None) = (refl, omega arith)
+field_flat (Piece.Active (Some a)) = (refl, omega arith)
+field_flat (Piece.Device name address waiting) = tt
+field_flat (Piece.Target name a) = tt
+field_flat (Piece.Records count) = (refl, omega arith)
+field_flat (Piece.Entry count r) = tt
+field_flat (Piece.Description device) = tt
+field_flat (Piece.Listed is_current) = (refl, omega arith)
+field_flat (Piece.Session is_open) = (refl, omega arith)
+field_flat (Piece.Tenure slot from to) = tt
+field_flat (Piece.FirstSymbol symbol) = tt
+field_flat (Piece.Symbol symbol) = tt
+field_flat Piece.SymbolsEnd = tt
 
-data_put : (lines : List (List ℕ)) (members : Members) → AreFlat members → AreFlat (put_data lines members)
-data_put [] members flat = flat
-data_put (line ∷ lines) members flat = data_put lines (put_datum (told_datum line) line members) (datum_put (told_datum line) line members flat)
+field_put : (field : Option (List ℕ × Data)) (members : Members) → FieldFlat field → AreFlat members → AreFlat (put_field field members)
+field_put None members one flat = flat
+field_put (Some field) members one flat = put_flat field.0 field.1 members one flat
 
-said_put : (lines : List (List ℕ)) (members : Members) → AreFlat members → AreFlat (put_said lines members)
-said_put lines members flat =
-    array_put (codes "told") _ _ (values_flat Kind.Told lines)
-    (data_put lines _
-    (first_put (codes "active") _ _ (values_flat Kind.Active lines)
-    (first_put (codes "bytes") _ _ (values_flat Kind.Bytes lines)
-    (array_put (codes "assigned") _ _ (values_flat Kind.Assigned lines)
-    (first_put (codes "served") _ _ (values_flat Kind.Served lines) flat)))))
+fields_put : (pieces : List Piece) (members : Members) → AreFlat members → AreFlat (put_fields pieces members)
+fields_put [] members flat = flat
+fields_put (piece ∷ pieces) members flat = field_put (field_of piece) (put_fields pieces members) (field_flat piece) (fields_put pieces members flat)
+
+arrays_put : (pieces : List Piece) (members : Members) → AreFlat members → AreFlat (put_arrays pieces members)
+arrays_put pieces members flat =
+    items_put (codes "tenures") _ _ (values_flat Array.Tenures pieces)
+    (items_put (codes "descriptions") _ _ (values_flat Array.Descriptions pieces)
+    (items_put (codes "log") _ _ (values_flat Array.Log pieces)
+    (items_put (codes "targets") _ _ (values_flat Array.Targets pieces)
+    (items_put (codes "devices") _ _ (values_flat Array.Devices pieces)
+    (items_put (codes "assigned") _ _ (values_flat Array.Assigned pieces) flat)))))
+
+pieces_put : (pieces : List Piece) (members : Members) → AreFlat members → AreFlat (put_pieces pieces members)
+pieces_put pieces members flat = items_put (codes "told") _ _ (texts_flat (symbol_lines [] pieces)) (arrays_put pieces (put_fields pieces members) (fields_put pieces members flat))
 
 address_put : (address : Option ℕ) (members : Members) → AreFlat members → AreFlat (put_address address members)
 address_put None members flat = flat
@@ -116,27 +177,20 @@ outcome_put None members flat = put_flat (codes "ok") (boolean true) members (re
 outcome_put (Some why) members flat =
     address_put (refusal_address why) (put (codes "refused") (text_data (refusal_token why)) members) (put_flat (codes "refused") (text_data (refusal_token why)) members (text_flat (refusal_token why)) flat)
 
-byte_flat : (byte : Option ℕ) → (has_float (byte_data byte) ≡ false) × (depth (byte_data byte) ≤ 0)
-byte_flat None = (refl, omega arith)
-byte_flat (Some byte) = (refl, omega arith)
-
-record_flat : (count : ℕ) (recorded : Record) → IsFlat (record_data count recorded)
-record_flat count recorded =
-    let byte = byte_flat recorded.byte in
-    (or_false (has_float (byte_data recorded.byte)) false byte.0 refl, omega (arith, byte.1))
-
 record_put : (added : Option (ℕ × Record)) (members : Members) → AreFlat members → AreFlat (put_record added members)
 record_put None members flat = flat
-record_put (Some numbered) members flat = put_flat (codes "record") (record_data numbered.0 numbered.1) members (record_flat numbered.0 numbered.1) flat
+record_put (Some numbered) members flat =
+    let one = record_small numbered.0 numbered.1 in
+    put_flat (codes "record") (record_data numbered.0 numbered.1) members (one.0, omega (arith, one.1)) flat
 
-asking_put : (asking : Option (List ℕ)) (members : Members) → AreFlat members → AreFlat (put_asking asking members)
+asking_put : (asking : Option (List Name)) (members : Members) → AreFlat members → AreFlat (put_asking asking members)
 asking_put None members flat = flat
-asking_put (Some names) members flat = put_flat (codes "asking") _ members (array_flat _ (texts_flat _)) flat
+asking_put (Some names) members flat = put_flat (codes "asking") _ members (array_flat _ (names_flat names)) flat
 
 -- an answer's object
-pub answer_flat : (count : ℕ) (refused : Option Refusal) (said : List ℕ) (added : Option (ℕ × Record)) (asking : Option (List ℕ))
-    → (has_float (answer_data count refused said added asking) ≡ false) × (depth (answer_data count refused said added asking) ≤ 127)
-answer_flat count refused said added asking =
+pub answer_flat : (count : ℕ) (refused : Option Refusal) (pieces : List Piece) (added : Option (ℕ × Record)) (asking : Option (List Name))
+    → (has_float (answer_data count refused pieces added asking) ≡ false) × (depth (answer_data count refused pieces added asking) ≤ 127)
+answer_flat count refused pieces added asking =
     let line : AreFlat (put (codes "line") (number (unsigned count)) no_members) = (refl, omega arith) in
-    let all = asking_put asking _ (record_put added _ (said_put (pieces 10 said) _ (outcome_put refused _ line))) in
+    let all = asking_put asking _ (record_put added _ (pieces_put pieces _ (outcome_put refused _ line))) in
     (all.0, omega (arith, all.1))

@@ -1,3 +1,4 @@
 pub mod Flat
 pub mod Lines
-pub mod Outcomes
+pub mod Found
+pub mod Putting

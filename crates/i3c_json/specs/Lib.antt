@@ -1,5 +1,4 @@
-pub mod Pieces
-pub mod Kinds
 pub mod Values
+pub mod Fields
 pub mod Objects
 pub mod Laws

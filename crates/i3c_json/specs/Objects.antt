@@ -1,31 +1,19 @@
 -- The object of an answer.
-use Rattle.std.specs.Prelude.{◌≡◌, ◌≤◌, ℕ, List, All, [], ◌∷◌, ◌++◌, true, codes, drop, map, option_map, Option, Some, None}
+use Rattle.std.specs.Prelude.{◌≡◌, ◌≤◌, ℕ, List, All, [], ◌∷◌, ◌++◌, true, codes, map, option_map, Option, Some, None}
 use Rattle.serde_json.specs.Data.{Data, Members, array, boolean, number, object, unsigned, no_members, put}
 use Rattle.serde_json.specs.Read.{read}
 use Rattle.serde_json.specs.View.{items_of}
 use Rattle.serde_json.specs.Written.{compact_text}
-use Rattle.i3c_base.specs.declared.datum.Datum.{Datum}
 use Rattle.i3c_base.specs.declared.requests.Record.{Record}
 use Rattle.i3c_step.specs.declared.replies.Refusal.{Refusal as BusRefusal}
+use Rattle.i3c_lines.specs.declared.names.Name.{Name}
 use Rattle.i3c_lines.specs.declared.refusals.Refusal.{Refusal}
-use Rattle.i3c_lines.specs.Data.{told_token}
 use Rattle.i3c_lines.specs.Refusing.{refusal_token}
+use Rattle.i3c_script.specs.declared.piece.Piece.{Piece}
 use Rattle.i3c_text.specs.Hex.{byte_text}
 use Rattle.i3c_json.specs.declared.answer.Answer.{Answer}
-use Rattle.i3c_json.specs.declared.kinds.Kind.{Kind}
-use Rattle.i3c_json.specs.Kinds.{told_datum}
-use Rattle.i3c_json.specs.Pieces.{pieces}
-use Rattle.i3c_json.specs.Values.{datum_data, record_data, text_data, values_of}
-
--- an array, unless it is empty
-abbrev pub put_array : List ℕ → List Data → Members → Members
-put_array key [] members = members
-put_array key (value ∷ more) members = put key (array (items_of (value ∷ more))) members
-
--- the first value, if there is one
-abbrev pub put_first : List ℕ → List Data → Members → Members
-put_first key [] members = members
-put_first key (value ∷ more) members = put key value members
+use Rattle.i3c_json.specs.Fields.{put_pieces}
+use Rattle.i3c_json.specs.Values.{name_data, record_data, text_data}
 
 -- the address that a refusal of the bus is about
 abbrev pub bus_address : BusRefusal → Option ℕ
@@ -72,30 +60,16 @@ abbrev pub put_record : Option (ℕ × Record) → Members → Members
 put_record None members = members
 put_record (Some numbered) members = put (codes "record") (record_data numbered.0 numbered.1) members
 
--- the names of the devices that ask, if they have changed; each follows a space
-abbrev pub put_asking : Option (List ℕ) → Members → Members
+-- the names of the devices that ask, if they have changed
+abbrev pub put_asking : Option (List Name) → Members → Members
 put_asking None members = members
-put_asking (Some names) members = put (codes "asking") (array (items_of (map text_data (drop 1 (pieces 32 names))))) members
+put_asking (Some names) members = put (codes "asking") (array (items_of (map name_data names))) members
 
--- what a line tells of a datum, under the datum's token
-abbrev pub put_datum : Option Datum → List ℕ → Members → Members
-put_datum None line members = members
-put_datum (Some what) line members = put (told_token what) (datum_data what line) members
-
--- the data that lines tell
-abbrev pub put_data : List (List ℕ) → Members → Members
-put_data [] members = members
-put_data (line ∷ rest) members = put_data rest (put_datum (told_datum line) line members)
-
--- the fields that printed lines belong to
-abbrev pub put_said : List (List ℕ) → Members → Members
-put_said lines members =
-    put_array (codes "told") (values_of Kind.Told lines) (put_data lines (put_first (codes "active") (values_of Kind.Active lines) (put_first (codes "bytes") (values_of Kind.Bytes lines) (put_array (codes "assigned") (values_of Kind.Assigned lines) (put_first (codes "served") (values_of Kind.Served lines) members)))))
-
--- the object of an answer: the line's number, its result, its output, the record that it added, and the devices that ask
-abbrev pub answer_data : ℕ → Option Refusal → List ℕ → Option (ℕ × Record) → Option (List ℕ) → Data
-answer_data count refused said added asking =
-    object (put_asking asking (put_record added (put_said (pieces 10 said) (put_outcome refused (put (codes "line") (number (unsigned count)) no_members)))))
+-- the object of an answer: the line's number, its result, the fields of its pieces, the record that it added, and the devices
+-- that ask
+abbrev pub answer_data : ℕ → Option Refusal → List Piece → Option (ℕ × Record) → Option (List Name) → Data
+answer_data count refused pieces added asking =
+    object (put_asking asking (put_record added (put_pieces pieces (put_outcome refused (put (codes "line") (number (unsigned count)) no_members)))))
 
 -- a text of bytes that print: none is a line feed or another control byte
 abbrev pub HasNoControl : List ℕ → Type 0
@@ -109,4 +83,4 @@ pub record IsLineOf (value : Data) (line : List ℕ) : Type 0 where
 
 -- the object of an answer in parts
 abbrev pub data_of : Answer → Data
-data_of answer = answer_data answer.number answer.refused answer.said.now answer.added (option_map (λ names. names.now) answer.asking)
+data_of answer = answer_data answer.number answer.refused answer.pieces.now answer.added (option_map (λ names. names.now) answer.asking)

@@ -1,12 +1,16 @@
 -- The values of fields, as JSON data.
-use Rattle.std.specs.Prelude.{ℕ, ◌+◌, nat_lt, List, [], ◌∷◌, codes, drop, length, map, take, Option, Some, None, if◌then◌else◌}
-use Rattle.serde_json.specs.Data.{Data, null, number, object, string, unsigned, no_members, put}
-use Rattle.i3c_base.specs.declared.datum.Datum.{Datum}
+use Rattle.std.specs.Prelude.{ℕ, nat_lt, List, [], ◌∷◌, ◌++◌, codes, map, Option, Some, None, if◌then◌else◌}
+use Rattle.std.specs.Fmt.{decimal}
+use Rattle.serde_json.specs.Data.{Data, Members, boolean, null, number, object, string, unsigned, no_members, put}
+use Rattle.i3c_base.specs.declared.identity.Identity.{Identity}
 use Rattle.i3c_base.specs.declared.requests.Record.{Record}
-use Rattle.i3c_lines.specs.Data.{told_token}
-use Rattle.i3c_text.specs.Hex.{byte_text}
-use Rattle.i3c_json.specs.Kinds.{has_kind}
-use Rattle.i3c_json.specs.declared.kinds.Kind.{Kind}
+use Rattle.i3c_base.specs.declared.requests.Request.{Request}
+use Rattle.i3c_base.specs.declared.requests.Request.TheVariants.{Interrupt, Join, Role}
+use Rattle.i3c_base.specs.declared.requests.Served.{Served}
+use Rattle.i3c_lines.specs.declared.names.Name.{Name}
+use Rattle.i3c_lines.specs.Naming.{letters}
+use Rattle.i3c_script.specs.declared.piece.Description.{Description}
+use Rattle.i3c_text.specs.Hex.{byte_text, hex_text}
 
 -- a byte of a string: one that isn't ASCII is a question mark
 abbrev pub ascii : ℕ → ℕ
@@ -15,34 +19,64 @@ ascii byte = if nat_lt byte 128 then byte else 63
 abbrev pub text_data : List ℕ → Data
 text_data text = string (map ascii text)
 
--- the device of a line `assigned ADDR PID BCR DCR`, whose tokens have fixed places
-abbrev pub assigned_data : List ℕ → Data
-assigned_data line =
-    object (put (codes "dcr") (text_data (take 2 (drop 28 line))) (put (codes "bcr") (text_data (take 2 (drop 25 line))) (put (codes "pid") (text_data (take 12 (drop 12 line))) (put (codes "address") (text_data (take 2 (drop 9 line))) no_members))))
+abbrev pub name_data : Name → Data
+name_data name = text_data (letters name)
 
--- a printed line in the field of its kind: without its first token, where the field's name says the same
-abbrev pub line_data : Kind → List ℕ → Data
-line_data Kind.Served line = text_data line
-line_data Kind.Assigned line = assigned_data line
-line_data Kind.Bytes line = text_data (drop 6 line)
-line_data Kind.Active line = text_data (drop 7 line)
-line_data Kind.Told line = text_data line
-
--- the lines of a kind, in their order
-abbrev pub values_of : Kind → List (List ℕ) → List Data
-values_of kind [] = []
-values_of kind (line ∷ rest) = if has_kind kind line then line_data kind line ∷ values_of kind rest else values_of kind rest
-
--- what a line tells of a datum, behind its token and a space
-abbrev pub datum_data : Datum → List ℕ → Data
-datum_data what line = text_data (drop (length (told_token what) + 1) line)
-
--- the byte of a record, in hex digits
+-- a byte or an address in hex digits, if there is one
 abbrev pub byte_data : Option ℕ → Data
 byte_data None = null
 byte_data (Some byte) = text_data (byte_text byte)
 
+-- the address of the active controller
+abbrev pub active_data : Option ℕ → Data
+active_data None = text_data (codes "--")
+active_data (Some a) = text_data (byte_text a)
+
+-- the words for the result of a frame's first request
+abbrev pub served_words : Served → List ℕ
+served_words Served.Quiet = codes "quiet"
+served_words (Served.Recorded place) = codes "recorded " ++ decimal place
+served_words Served.Refused = codes "turned down"
+served_words Served.Torn = codes "torn"
+served_words Served.Joining = codes "joining"
+served_words (Served.WantsRole a) = codes "wants role " ++ byte_text a
+
+-- a wish for the role or to join, if there is one
+abbrev pub wish_data : Option Request → Data
+wish_data None = null
+wish_data (Some Join) = text_data (codes "join")
+wish_data (Some (Role a)) = text_data (codes "role")
+wish_data (Some (Interrupt a)) = null
+
 -- a record with its number in the log
 abbrev pub record_data : ℕ → Record → Data
-record_data count record_at =
-    object (put (codes "byte") (byte_data record_at.byte) (put (codes "address") (text_data (byte_text record_at.at)) (put (codes "raise") (number (unsigned record_at.number)) (put (codes "slot") (number (unsigned record_at.slot)) (put (codes "number") (number (unsigned count)) no_members)))))
+record_data count recorded = object (put (codes "address") (text_data (byte_text recorded.at)) (put (codes "byte") (byte_data recorded.byte) (put (codes "number") (number (unsigned count)) (put (codes "raise") (number (unsigned recorded.number)) (put (codes "slot") (number (unsigned recorded.slot)) no_members)))))
+
+-- an identity, over other members
+abbrev pub put_identity : Identity → Members → Members
+put_identity identity members =
+    put (codes "bcr") (text_data (byte_text identity.bcr.0)) (put (codes "dcr") (text_data (byte_text identity.dcr.0)) (put (codes "pid") (text_data (hex_text 12 identity.pid)) members))
+
+-- an address, and the identity that got it
+abbrev pub assigned_data : ℕ → Identity → Data
+assigned_data a identity = object (put (codes "address") (text_data (byte_text a)) (put_identity identity no_members))
+
+-- a legacy target, and its static address
+abbrev pub target_data : Name → ℕ → Data
+target_data name a = object (put (codes "address") (text_data (byte_text a)) (put (codes "name") (name_data name) no_members))
+
+-- a device that entered a slot, and its address, if it has one
+abbrev pub entered_data : Name → ℕ → Option ℕ → Data
+entered_data name slot address = object (put (codes "address") (byte_data address) (put (codes "name") (name_data name) (put (codes "slot") (number (unsigned slot)) no_members)))
+
+-- a present device, its address, if it has one, and how many of its interrupts wait
+abbrev pub device_data : Name → Option ℕ → ℕ → Data
+device_data name address waiting = object (put (codes "address") (byte_data address) (put (codes "name") (name_data name) (put (codes "waiting") (number (unsigned waiting)) no_members)))
+
+-- what a present device is: its identity, whether it may interrupt, join and ask for the role, and its wish
+abbrev pub description_data : Description → Data
+description_data device = object (put_identity device.identity (put (codes "interrupt") (boolean device.interrupt) (put (codes "join") (boolean device.join) (put (codes "name") (name_data device.name) (put (codes "role") (boolean device.role) (put (codes "wish") (wish_data device.wish) no_members))))))
+
+-- the slot that was active while the records with these numbers were made
+abbrev pub tenure_data : ℕ → ℕ → ℕ → Data
+tenure_data slot from to = object (put (codes "from") (number (unsigned from)) (put (codes "slot") (number (unsigned slot)) (put (codes "to") (number (unsigned to)) no_members)))

@@ -1,15 +1,15 @@
-ghost use Rattle.std.specs.Prelude.{◌≡◌, ℕ, ◌++◌, List, drop, map, option_map, OnOk, IfOk};
+ghost use Rattle.std.specs.Prelude.{◌≡◌, ℕ, ◌++◌, List, map, option_map, OnOk, IfOk};
 ghost use Rattle.serde_json.specs.Data.{array};
 ghost use Rattle.serde_json.specs.View.{items_of, members_view, view};
-ghost use Rattle.i3c_json.specs.Pieces.{pieces};
-ghost use Rattle.i3c_json.specs.Values.{text_data};
-ghost use Rattle.i3c_json.specs.Objects.{IsLineOf, data_of, put_address, put_array, put_asking, put_data, put_first, put_outcome, put_record, put_said, refusal_address};
+ghost use Rattle.i3c_json.specs.Values.{name_data};
+ghost use Rattle.i3c_json.specs.Objects.{IsLineOf, data_of, put_address, put_asking, put_outcome, put_record, refusal_address};
 
-use crate::kinds::{Kind, told_datum};
-use crate::pieces::pieces;
-use crate::values::{datum_value, hex_value, record_value, text_value, values_of};
+use crate::fields::put_pieces;
+use crate::objects::record_value;
+use crate::values::{Fields, put_flag, put_hex, put_number, put_text, text_value};
 use i3c_base::{Addr7, Record};
-use i3c_lines::{Refusal, told_token};
+use i3c_lines::{Name, Refusal};
+use i3c_script::Piece;
 use i3c_step::Refusal as BusRefusal;
 use i3c_text::Text;
 use serde_json::{Map, Value, push, put};
@@ -22,15 +22,13 @@ pub struct Answer<'a> {
     pub number: u64,
     /// Why the line was refused, if it was.
     pub refused: Option<Refusal>,
-    /// What the line printed.
-    pub said: &'a [u8],
+    /// The pieces that the line came to.
+    pub pieces: &'a [Piece],
     /// The record that the line added to the log, if it did, and its number there, from 1.
     pub added: Option<(u64, Record)>,
-    /// The names of the devices that ask, each behind a space, if they have changed.
-    pub asking: Option<&'a [u8]>,
+    /// The names of the devices that ask, if they have changed.
+    pub asking: Option<&'a [Name]>,
 }
-
-type Fields = Map<String, Value>;
 
 /// Appends the object of an answer to a text, and ends the line.
 pub fn push_object(alloc: Global, answer: &Answer<'_>, text: &mut Text) -> Result<(), AllocError>
@@ -46,9 +44,9 @@ fn answer_value(alloc: Global, answer: &Answer<'_>) -> Result<Value, AllocError>
     ensures { IfOk result (λ value. view value ≡ data_of answer.now) }
 {
     let mut fields = Map::new(alloc);
-    put(&mut fields, alloc, "line", Value::from(answer.number))?;
+    put_number(alloc, "line", answer.number, &mut fields)?;
     put_outcome(alloc, &answer.refused, &mut fields)?;
-    put_said(alloc, answer.said, &mut fields)?;
+    put_pieces(alloc, answer.pieces, &mut fields)?;
     put_record(alloc, &answer.added, &mut fields)?;
     put_asking(alloc, answer.asking, &mut fields)?;
     Ok(Value::Object(fields))
@@ -63,14 +61,9 @@ fn put_outcome(
     ensures { OnOk result (members_view fields.new.entries ≡ put_outcome refused.now (members_view fields.old.entries)) }
 {
     match refused {
-        None => put(fields, alloc, "ok", Value::from(true)),
+        None => put_flag(alloc, "ok", true, fields),
         Some(why) => {
-            put(
-                fields,
-                alloc,
-                "refused",
-                text_value(alloc, why.token().as_bytes())?,
-            )?;
+            put_text(alloc, "refused", why.token().as_bytes(), fields)?;
             put_address(alloc, refusal_address(why), fields)
         }
     }
@@ -94,89 +87,7 @@ fn put_address(alloc: Global, address: Option<Addr7>, fields: &mut Fields) -> Re
 {
     match address {
         None => Ok(()),
-        Some(address) => put(fields, alloc, "about", hex_value(alloc, address.get())?),
-    }
-}
-
-/// Puts the fields of the line's output.
-fn put_said(alloc: Global, said: &[u8], fields: &mut Fields) -> Result<(), AllocError>
-    ensures { OnOk result (members_view fields.new.entries ≡ put_said (pieces 10 said.now) (members_view fields.old.entries)) }
-{
-    let lines = pieces(alloc, b'\n', said)?;
-    put_first(
-        alloc,
-        "served",
-        values_of(alloc, Kind::Served, &lines)?,
-        fields,
-    )?;
-    put_array(
-        alloc,
-        "assigned",
-        values_of(alloc, Kind::Assigned, &lines)?,
-        fields,
-    )?;
-    put_first(
-        alloc,
-        "bytes",
-        values_of(alloc, Kind::Bytes, &lines)?,
-        fields,
-    )?;
-    put_first(
-        alloc,
-        "active",
-        values_of(alloc, Kind::Active, &lines)?,
-        fields,
-    )?;
-    put_data(alloc, &lines, fields)?;
-    put_array(alloc, "told", values_of(alloc, Kind::Told, &lines)?, fields)
-}
-
-/// Puts the data that lines tell, each under its token.
-fn put_data(alloc: Global, lines: &[Vec<u8>], fields: &mut Fields) -> Result<(), AllocError>
-    ensures { OnOk result (members_view fields.new.entries ≡ put_data (map (λ line. line.items) lines.now) (members_view fields.old.entries)) }
-{
-    let mut rest = lines;
-    while let [line, more @ ..] = rest {
-        if let Some(what) = told_datum(line) {
-            put(
-                fields,
-                alloc,
-                told_token(what),
-                datum_value(alloc, what, line)?,
-            )?;
-        }
-        rest = more;
-    }
-    Ok(())
-}
-
-/// Puts an array, unless it is empty.
-fn put_array(
-    alloc: Global,
-    key: &str,
-    values: Vec<Value>,
-    fields: &mut Fields,
-) -> Result<(), AllocError>
-    ensures { OnOk result (members_view fields.new.entries ≡ put_array key.now (map view values.items) (members_view fields.old.entries)) }
-{
-    if values.is_empty() {
-        return Ok(());
-    }
-    put(fields, alloc, key, Value::Array(values))
-}
-
-/// Puts the first value, if there is one.
-fn put_first(
-    alloc: Global,
-    key: &str,
-    values: Vec<Value>,
-    fields: &mut Fields,
-) -> Result<(), AllocError>
-    ensures { OnOk result (members_view fields.new.entries ≡ put_first key.now (map view values.items) (members_view fields.old.entries)) }
-{
-    match values.into_iter().next() {
-        None => Ok(()),
-        Some(value) => put(fields, alloc, key, value),
+        Some(address) => put_hex(alloc, "about", address.get(), fields),
     }
 }
 
@@ -202,7 +113,7 @@ fn put_record(
 }
 
 /// Puts the names of the devices that ask, if they have changed.
-fn put_asking(alloc: Global, asking: Option<&[u8]>, fields: &mut Fields) -> Result<(), AllocError>
+fn put_asking(alloc: Global, asking: Option<&[Name]>, fields: &mut Fields) -> Result<(), AllocError>
     ensures { OnOk result (members_view fields.new.entries ≡ put_asking (option_map (λ names. names.now) asking.entry) (members_view fields.old.entries)) }
 {
     match asking {
@@ -214,19 +125,14 @@ fn put_asking(alloc: Global, asking: Option<&[u8]>, fields: &mut Fields) -> Resu
     }
 }
 
-/// An array of names, each of which follows a space.
-fn names_value(alloc: Global, names: &[u8]) -> Result<Value, AllocError>
-    ensures { IfOk result (λ value. view value ≡ array (items_of (map text_data (drop 1 (pieces 32 names.now))))) }
+/// An array of names.
+fn names_value(alloc: Global, names: &[Name]) -> Result<Value, AllocError>
+    ensures { IfOk result (λ value. view value ≡ array (items_of (map name_data names.now))) }
 {
-    let names = pieces(alloc, b' ', names)?;
     let mut values = Vec::new(alloc);
-    // no name is before the first space
-    let mut rest = match names.as_slice() {
-        [] => &[],
-        [_, more @ ..] => more,
-    };
+    let mut rest = names;
     while let [name, more @ ..] = rest {
-        push(&mut values, text_value(alloc, name)?)?;
+        push(&mut values, text_value(alloc, name.as_bytes())?)?;
         rest = more;
     }
     Ok(Value::Array(values))

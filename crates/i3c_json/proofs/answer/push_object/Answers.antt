@@ -13,7 +13,7 @@ returns c =
     let answer = c.args.answer.now in
     let bytes = string_bytes c.in_ok-object.object in
     let written = subst (λ value. (has_float value ≡ false → bytes ≡ compact_text value) × (depth value ≤ 127 → read bytes ≡ Some value)) c.in_ok-answer_value.ensures (c.in_ok-object.ensures.text, c.in_ok-object.ensures.reads_back) in
-    let flat = answer_flat answer.number answer.refused answer.said.now answer.added (option_map (λ names. names.now) answer.asking) in
+    let flat = answer_flat answer.number answer.refused answer.pieces.now answer.added (option_map (λ names. names.now) answer.asking) in
     let before = c.args.text.now in
     on_ok_weaker c.end.result
     (λ ended. (
