@@ -5,12 +5,12 @@ use crate::fault::Fault;
 use i3c_frame::TraceFault;
 use i3c_streams::{ScriptFault, Tally};
 
-/// The exit status if a script was run to its end, no line was refused, and each expectation was met; or if all holds in
-/// every order.
+/// The exit status where all is well: a script ran to its end, no line was refused and each expectation was met, or what an
+/// exploration expects holds in every order.
 pub const DONE: u8 = 0;
 
-/// The exit status if a script was run to its end, a line was refused, and each expectation was met; or if an exploration is
-/// refused.
+/// The exit status where something was refused: a line of a script that ran to its end and met its expectations, or an
+/// exploration.
 pub const REFUSED: u8 = 1;
 
 /// The exit status if a file wasn't read to its end, or what came of it wasn't written whole.

@@ -1,5 +1,5 @@
 -- The results of driven lines: of those that are read as they come, and of those that are read in capitals.
-use Rattle.std.proofs.Common.{◌≡◌, ◌∙◌, ◌<◌, ◌≤◌, ℕ, List, [], ◌∷◌, ◌++◌, length, arith, ap, Option, Some, None, Result, Ok, Err, inl, inr, refl, subst, sym}
+use Rattle.std.proofs.Common.{◌≡◌, ◌∙◌, ◌<◌, ◌≤◌, ℕ, List, [], ◌++◌, length, arith, ap, Option, Result, Ok, Err, inl, inr, refl, subst, sym}
 use Rattle.i3c_drive.specs.declared.driver.Driver.{Driver}
 use Rattle.i3c_base.specs.declared.requests.Record.{Record}
 use Rattle.i3c_drive.specs.Answers.{DrivenDoes}

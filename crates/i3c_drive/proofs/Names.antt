@@ -1,6 +1,5 @@
 -- Lists of names that are compared, one place after another.
 use Rattle.std.proofs.Common.{◌≡◌, ◌∙◌, ◌<◌, ℕ, suc, ◌+◌, List, [], ◌∷◌, ◌++◌, ap, arith, get_or, length, sym, take}
-use Rattle.std.proofs.lemmas.List.{get_or_default}
 use Rattle.std.proofs.Math.Seq.{take-suc}
 use Rattle.i3c_lines.specs.declared.names.Name.{Name}
 
@@ -14,8 +13,3 @@ same_more names others n one other within inside before is is_other same =
     ∙ (λ i. before i ++ (sym is ∙ same ∙ is_other) i ∷ [])
     ∙ sym (take-suc others n other inside)
     ∙ ap (λ k. take k others) (sym next)
-
--- where names differ, the lists do
-pub differ_at : (names others : List Name) (n : ℕ) (one other : Name) → n < length others → one ≡ get_or names n one → other ≡ get_or others n other → (one ≡ other → ⊥) → names ≡ others → ⊥
-differ_at names others n one other inside is is_other differ same =
-    differ (is ∙ ap (λ l. get_or l n one) same ∙ get_or_default others n one other inside ∙ sym is_other)

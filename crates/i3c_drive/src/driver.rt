@@ -28,8 +28,9 @@ use std::mem;
 ///
 /// A line without a form is read once more with its hexadecimal digits in capitals, so these may be small letters.
 ///
-/// Each line has an answer, empty ones and comments too. Expectations and other marks of a script have no form here. The input may have any length. At its end an open session is
-/// ended, and the bus retired. Before a fault all answers went out, but to a writer that fails only a part of them.
+/// Each line has an answer, empty ones and comments too. Expectations and other marks of a script have no form here. The input
+/// may have any length. At its end an open session is ended, and the bus retired. Before a fault all answers went out, but to a
+/// writer that fails only a part of them.
 #[inline(never)]
 pub fn run_driven<R: Read, W: Write>(
     alloc: Global,

@@ -45,7 +45,7 @@ pub fn run_script<R: Read, W: Write>(
     // command says. All that they print goes out with `Ok`, and before a fault as much as that fault says
     ensures lines { LinesGoOut (R.remaining reader.old) (R.remaining reader.new) (W.contents writer.old) (W.contents writer.new) result }
 {
-    // first, since behind the script it would cost a second clearing of the script's room on the stack
+    // made before the script: with a script there to give up, the compiler would clear its room on the stack twice
     let Ok(mut chunk) = vec![in alloc; 0u8; CHUNK] else {
         // with no name given, as each script begins
         let _none = Names::new(alloc);

@@ -164,7 +164,8 @@ impl ViewedRun {
         if are_same(&self.behind, last_of(&self.before)) {
             Ok(())
         } else {
-            // not reached: no line sends more than the 4,096 symbols that are copied, but no clause says so
+            // not reached, though no clause says so: both are the last 256 symbols, also where a line sends more than the 4,096
+            // that are copied
             Err(ScriptFault::TooLarge)
         }
     }

@@ -13,5 +13,5 @@ returns-clause-told c pieces heard =
     let news = news_text (news_of c.args.changed c.args.self.now.asked.items) in
     let last = last_line c.args.number c.args.refused.now in
     let first : c.push_added.new.text ≡ said ++ added = c.in_ok-push_added.ensures ∙ ap (λ t. t ++ added) heard in
-    let second : c.push_news.new.answer ≡ said ++ (added ++ news) = c.in_ok-push_news.ensures ∙ ap (λ t. t ++ news) first ∙ append_assoc said added news in
+    let second : c.push_news.new.answer ≡ said ++ (added ++ news) = c.in_ok-push_news.ensures ∙ ap (λ names. c.push_added.new.text ++ news_text (news_of c.args.changed names)) c.deref.ensures.value ∙ ap (λ t. t ++ news) first ∙ append_assoc said added news in
     on_ok_weaker c.push_last.result (λ told. told ∙ ap (λ t. t ++ last) second ∙ append_assoc said (added ++ news) last ∙ ap (λ t. said ++ t) (append_assoc added news last)) c.push_last.ensures
