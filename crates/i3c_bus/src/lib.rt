@@ -4,28 +4,29 @@
 //! over all runs.
 #![tactic(auto)]
 
-mod announcing;
 mod assignment;
 mod bus;
+mod bus_snapshot;
 mod dispatch;
+mod enec_disec;
+mod entdaa;
 mod frames;
-mod getting;
+mod get_data;
+mod getacccr;
 mod hand;
-mod handing;
-mod kinds;
-mod limiting;
 mod outcome;
+mod private_transfers;
 mod raises;
 mod replying;
-mod sessions;
-mod setting;
-mod still;
-mod transferring;
+mod rstdaa_deftgts;
+mod setdasa_setnewda;
+mod setmwl_setmrl;
 mod wire;
 mod wishes;
 
 pub use assignment::Assignment;
 pub use bus::{Bus, Records};
+pub use bus_snapshot::BusSnapshot;
 pub use hand::{Hand, Session};
 pub use i3c_base::{
     Answer, Bytes, Datum, Direction, JoinRefusal, Length, RaiseRefusal, Request, RoundReply, Served,
@@ -38,4 +39,3 @@ pub use i3c_step::{
     RunFault, SetFault, SlotTaken, StartFault, TRANSFER, TargetFault, WRITE_KEPT, WriteFault,
 };
 pub use outcome::{Outcome, run_events};
-pub use still::Still;

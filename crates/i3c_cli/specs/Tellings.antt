@@ -30,9 +30,9 @@ TellsFrames (Telling.Lint legacies) frames times old new result = FramesGo CodeS
 TellsFrames (Telling.Explain known legacies) frames times old new result = FramesGo known legacies frames times old new result
 
 -- the times that are told of the frames of symbols: those at which they begin, if they are asked for
-abbrev pub told_times : Bool → List Stamped → List ℕ
-told_times true symbols = start_times symbols
-told_times false symbols = []
+abbrev pub printed_times : Bool → List Stamped → List ℕ
+printed_times true symbols = start_times symbols
+printed_times false symbols = []
 
 -- nothing is told for want of memory, or of symbols whose text would be longer than a trace may be
 abbrev pub TellsNothing : List Symbol → Option (List ℕ) → Option (List ℕ) → Result Tally Fault → Type 0
@@ -50,7 +50,7 @@ pub record ToldFrames (telling : Telling) (symbols : List Symbol) (times : List 
 -- what goes out of symbols, with the times of their frames or without
 abbrev pub TellsSymbols : Bool → Telling → List Stamped → Option (List ℕ) → Option (List ℕ) → Result Tally Fault → Type 0
 TellsSymbols numbers telling symbols old new result =
-    TellsNothing (symbols_of symbols) old new result ⊎ ToldFrames telling (symbols_of symbols) (told_times numbers symbols) old new result
+    TellsNothing (symbols_of symbols) old new result ⊎ ToldFrames telling (symbols_of symbols) (printed_times numbers symbols) old new result
 
 -- the symbols of a known capture, if it could be read
 abbrev pub ReadsAs : Capturing → List ℕ → List Stamped → Type 0

@@ -85,7 +85,7 @@ impl<R: Print> Write for Output<'_, R> {
 }
 
 /// Tells standard error why the program gives up, unless a limit leaves no room for that.
-pub fn tell_fault<R: Files + Eprint + AllocGlobal>(rt: &R, fault: &Fault) {
+pub fn print_fault<R: Files + Eprint + AllocGlobal>(rt: &R, fault: &Fault) {
     let mut length = Length { bytes: 0 };
     // counting doesn't fail
     let _ = write!(length, "{fault}");

@@ -3,7 +3,7 @@ use crate::ending::{flushed_tally, tally_of, wave_ending};
 use crate::fault::Fault;
 use crate::output::Output;
 use crate::standard_error::StandardError;
-use crate::telling::{tell_capture, tell_trace};
+use crate::telling::{print_capture, print_trace};
 use crate::waving::wave_script;
 use i3c_base::Addresses;
 use i3c_drive::run_driven;
@@ -130,7 +130,7 @@ fn trace_from<R: Files + Print + Eprint + AllocGlobal, S: Read>(
 ) -> Result<Tally, Fault> {
     let mut printed = Output::new(rt)?;
     let mut notes = String::new(rt.alloc());
-    let outcome = tell_trace(rt.alloc(), telling, input, &mut printed, &mut notes);
+    let outcome = print_trace(rt.alloc(), telling, input, &mut printed, &mut notes);
     // what can't be told isn't missed
     let _ = rt.eprint(notes);
     let flushed = printed.flush().is_ok();
@@ -146,7 +146,7 @@ fn capture_from<R: Files + Print + Eprint + AllocGlobal, S: Read>(
 ) -> Result<Tally, Fault> {
     let mut printed = Output::new(rt)?;
     let mut notes = String::new(rt.alloc());
-    let outcome = tell_capture(
+    let outcome = print_capture(
         rt.alloc(),
         capturing,
         telling,

@@ -1,5 +1,5 @@
 ghost use Rattle.std.specs.Prelude.{◌≡◌, Err, IfOk};
-ghost use Rattle.i3c_cli.specs.Tellings.{HasFailed, TellsAs, TellsCapture, TellsFrames, TellsSymbols, told_times};
+ghost use Rattle.i3c_cli.specs.Tellings.{HasFailed, TellsAs, TellsCapture, TellsFrames, TellsSymbols, printed_times};
 
 use crate::ending::tally_of;
 use crate::fault::Fault;
@@ -8,14 +8,14 @@ use i3c_frame::Frames;
 use i3c_streams::{ScriptFault, Tally};
 use i3c_task::{Capturing, Telling};
 use i3c_traces::{
-    explain_frames, frames_of, run_explained_knowing, run_lint, run_trace_knowing, tell_frames,
+    explain_frames, frames_of, print_frames, run_explained_knowing, run_lint, run_trace_knowing,
 };
 use i3c_wave::{Source, Stamped, frame_times, read_capture, symbols_of};
 use std::alloc::{AllocError, Global};
 use std::io::{Read, Write};
 
 /// Tells the trace of a reader in this way, and `notes` why its lines are refused, if that is asked for.
-pub fn tell_trace<S: Read, W: Write>(
+pub fn print_trace<S: Read, W: Write>(
     alloc: Global,
     telling: Telling,
     input: &mut S,
@@ -34,7 +34,7 @@ pub fn tell_trace<S: Read, W: Write>(
 }
 
 /// Tells the symbols of a reader's capture, with `notes` as above. A read that fails is told as such.
-pub fn tell_capture<S: Read, W: Write>(
+pub fn print_capture<S: Read, W: Write>(
     alloc: Global,
     capturing: Capturing<'_>,
     telling: Telling,
@@ -48,11 +48,11 @@ pub fn tell_capture<S: Read, W: Write>(
     let scl = capturing.scl.as_bytes();
     let sda = capturing.sda.as_bytes();
     let symbols = read_capture(alloc, capturing.legacies, scl, sda, input)?;
-    tell_symbols(alloc, capturing.numbers, telling, symbols, out, notes)
+    print_symbols(alloc, capturing.numbers, telling, symbols, out, notes)
 }
 
 /// Tells the symbols of a capture, with the times at which the frames begin or without.
-fn tell_symbols<W: Write>(
+fn print_symbols<W: Write>(
     alloc: Global,
     numbers: bool,
     telling: Telling,
@@ -62,19 +62,19 @@ fn tell_symbols<W: Write>(
 ) -> Result<Tally, Fault>
     ensures { TellsSymbols numbers telling stamped.items (W.contents out.old) (W.contents out.new) result }
 {
-    let times = told_times(alloc, numbers, &stamped)?;
+    let times = printed_times(alloc, numbers, &stamped)?;
     let symbols = symbols_of(alloc, &stamped)?;
     drop(stamped);
     let frames = frames_of(symbols)?;
     tally_of(
-        tell_whole(alloc, telling, &frames, &times, out, notes),
+        print_whole(alloc, telling, &frames, &times, out, notes),
         true,
     )
 }
 
 /// The times that are told of the frames of symbols: those at which they begin, if they are asked for.
-fn told_times(alloc: Global, numbers: bool, symbols: &[Stamped]) -> Result<Vec<u64>, AllocError>
-    ensures { IfOk result (λ times. times.items ≡ told_times numbers symbols.now) }
+fn printed_times(alloc: Global, numbers: bool, symbols: &[Stamped]) -> Result<Vec<u64>, AllocError>
+    ensures { IfOk result (λ times. times.items ≡ printed_times numbers symbols.now) }
 {
     if numbers {
         frame_times(alloc, symbols)
@@ -84,7 +84,7 @@ fn told_times(alloc: Global, numbers: bool, symbols: &[Stamped]) -> Result<Vec<u
 }
 
 /// Tells frames in this way, and `notes` why they are refused, if that is asked for. The frames begin at these times.
-fn tell_whole<W: Write>(
+fn print_whole<W: Write>(
     alloc: Global,
     telling: Telling,
     frames: &Frames<'_>,
@@ -95,13 +95,13 @@ fn tell_whole<W: Write>(
     ensures { TellsFrames telling frames.now times.now (W.contents out.old) (W.contents out.new) result }
 {
     match telling {
-        Telling::Plain(codes) => tell_frames(alloc, codes, None, frames, times, out),
+        Telling::Plain(codes) => print_frames(alloc, codes, None, frames, times, out),
         Telling::Lint(legacies) => {
-            tell_frames(alloc, CodeSet::Extended, Some(legacies), frames, times, out)
+            print_frames(alloc, CodeSet::Extended, Some(legacies), frames, times, out)
         }
         Telling::Explain(codes, legacies) => {
             explain_frames(alloc, codes, legacies, frames, notes);
-            tell_frames(alloc, codes, legacies, frames, times, out)
+            print_frames(alloc, codes, legacies, frames, times, out)
         }
     }
 }

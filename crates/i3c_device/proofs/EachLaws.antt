@@ -9,10 +9,10 @@ use Rattle.i3c_base.specs.Round.{hears, unhearing}
 use Rattle.i3c_base.specs.Serve.{drives_in, without}
 use Rattle.i3c_base.specs.State.{Device, Population, in_slot}
 use Rattle.i3c_base.proofs.Lookups.{length-changed}
-use Rattle.i3c_device.specs.declared.marks.Marks.{Marks}
+use Rattle.i3c_device.specs.declared.slot_index.SlotIndex.{SlotIndex}
 use Rattle.i3c_device.specs.declared.slot_set.SlotSet.{SlotSet}
 use Rattle.i3c_device.specs.Finding.{within}
-use Rattle.i3c_device.specs.Marks.{AreMarks, IsSetOf}
+use Rattle.i3c_device.specs.SlotIndex.{AreMarks, IsSetOf}
 use Rattle.i3c_device.specs.Sets.{has}
 use Rattle.i3c_device.specs.Walks.{taken_from}
 
@@ -66,13 +66,13 @@ end_spares s None e = refl
 end_spares s (Some d) e = λ t. Some (record d { hearing = sym e t })
 
 -- the slots that are left are as they were, and the others are changed; the marks are true all along
-pub record Walks (f : ℕ → Option Device → Option Device) (among left : SlotSet) (marks : Marks) (xs ys : List (Option Device)) : Type 0 where
+pub record Walks (f : ℕ → Option Device → Option Device) (among left : SlotSet) (marks : SlotIndex) (xs ys : List (Option Device)) : Type 0 where
   pub long : length ys ≡ SLOTS
   pub marked : AreMarks marks ys
   pub among_them : (s : ℕ) → s < SLOTS → has left s ≡ true → has among s ≡ true
   pub walked : (s : ℕ) → s < SLOTS → get_or ys s None ≡ (if has left s then get_or xs s None else within among f s (get_or xs s None))
 
-pub walks_none : (f : ℕ → Option Device → Option Device) (among : SlotSet) (marks : Marks) (xs : List (Option Device)) → length xs ≡ SLOTS → AreMarks marks xs → Walks f among among marks xs xs
+pub walks_none : (f : ℕ → Option Device → Option Device) (among : SlotSet) (marks : SlotIndex) (xs : List (Option Device)) → length xs ≡ SLOTS → AreMarks marks xs → Walks f among among marks xs xs
 walks_none f among marks xs long marked = record {
   long = long;
   marked = marked;
@@ -87,7 +87,7 @@ walks_none f among marks xs long marked = record {
 pub turned : (f : ℕ → Option Device → Option Device) (ys : List (Option Device)) (i : ℕ) (seen place : Option Device) → i < length ys → place ≡ f i (get_or ys i seen) → place ≡ f i (get_or ys i None)
 turned f ys i seen place l e = e ∙ ap (f i) (get_or_default ys i seen None l)
 
-pub walks_more : (f : ℕ → Option Device → Option Device) (among left next : SlotSet) (marks more : Marks) (xs ys : List (Option Device)) (i : ℕ) (place : Option Device) → Walks f among left marks xs ys
+pub walks_more : (f : ℕ → Option Device → Option Device) (among left next : SlotSet) (marks more : SlotIndex) (xs ys : List (Option Device)) (i : ℕ) (place : Option Device) → Walks f among left marks xs ys
     → i < SLOTS → has left i ≡ true → ((s : ℕ) → s < SLOTS → has next s ≡ (if s == i then false else has left s)) → place ≡ f i (get_or ys i None) → AreMarks more (set ys i place)
     → Walks f among next more xs (set ys i place)
 walks_more f among left next marks more xs ys i place h low there rest is marked = record {
@@ -117,7 +117,7 @@ walks_more f among left next marks more xs ys i place h low there rest is marked
         cond-false (has next i) (get_or xs i None) (within among f i (get_or xs i None)) (rest i low ∙ cond-true (i == i) false (has left i) (eq-eqb i i refl))
         ∙ cond-true (has among i) (f i (get_or xs i None)) (get_or xs i None) (h.among_them i low there)
 
-pub walks_all : (f : ℕ → Option Device → Option Device) (among left : SlotSet) (marks : Marks) (xs ys : List (Option Device)) → Walks f among left marks xs ys → length xs ≡ SLOTS
+pub walks_all : (f : ℕ → Option Device → Option Device) (among left : SlotSet) (marks : SlotIndex) (xs ys : List (Option Device)) → Walks f among left marks xs ys → length xs ≡ SLOTS
     → ((s : ℕ) → s < SLOTS → has left s ≡ false) → ys ≡ changed (within among f) xs
 walks_all f among left marks xs ys h long none =
     all_changed (within among f) xs ys (h.long ∙ sym long)

@@ -14,7 +14,7 @@ use Rattle.i3c_device.specs.declared.enabled.Enabled.{Enabled}
 use Rattle.i3c_device.specs.declared.slot_set.SlotSet.{SlotSet}
 use Rattle.i3c_device.specs.Driven.{IsDrivenIn}
 use Rattle.i3c_device.specs.Enabling.{seen}
-use Rattle.i3c_device.specs.Marks.{AreKeys}
+use Rattle.i3c_device.specs.SlotIndex.{AreKeys}
 use Rattle.i3c_device.specs.Sets.{has}
 use Rattle.i3c_device.specs.Walks.{IsFirstDriven}
 use Rattle.i3c_device.specs.Wishing.{asks_some, request_of}

@@ -9,7 +9,7 @@ use Rattle.i3c_header.specs.Keys.{IsLawful}
 use Rattle.i3c_device.specs.declared.enabled.Enabled.{Enabled}
 use Rattle.i3c_device.specs.Addressing.{IsDynamic, IsDynamicIn}
 use Rattle.i3c_device.specs.Enabling.{kinds_in, seen, seen_in, under}
-use Rattle.i3c_device.specs.Marks.{key_in}
+use Rattle.i3c_device.specs.SlotIndex.{key_in}
 use Rattle.i3c_device.specs.Wishing.{asks_some, key_of, request_of}
 use Rattle.i3c_header.proofs.KeyLaws.{key_of as key_of_request}
 use Rattle.i3c_device.proofs.SeenWalks.{and_join, now_at}

@@ -7,14 +7,14 @@ use Rattle.std.specs.Int.{bit_at}
 use Rattle.i3c_base.specs.declared.range.TheConstants.{SLOTS}
 use Rattle.i3c_base.specs.Numbers.{IsInRange, KindSet, number_of}
 use Rattle.i3c_base.specs.State.{Device, in_slot}
-use Rattle.i3c_wires.specs.declared.planes.Planes.{Planes}
-use Rattle.i3c_wires.specs.declared.planes.Won.{Won}
-use Rattle.i3c_wires.specs.Planes.{IsWon}
+use Rattle.i3c_wires.specs.declared.bit_columns.BitColumns.{BitColumns}
+use Rattle.i3c_wires.specs.declared.bit_columns.Won.{Won}
+use Rattle.i3c_wires.specs.BitColumns.{IsWon}
 use Rattle.i3c_device.specs.declared.enabled.Enabled.{Enabled}
 use Rattle.i3c_device.specs.declared.slot_set.SlotSet.{SlotSet}
 use Rattle.i3c_device.specs.Enabling.{seen, under}
 use Rattle.i3c_device.specs.Least.{IsLeastHeard, NobodyHears}
-use Rattle.i3c_device.specs.Marks.{HavePlanes, IsSetOf}
+use Rattle.i3c_device.specs.SlotIndex.{HaveColumns, IsSetOf}
 use Rattle.i3c_device.specs.Sets.{has}
 use Rattle.i3c_device.specs.Walks.{hears_as}
 use Rattle.i3c_device.proofs.SeenWalks.{asked_seen, now_at, unseen}
@@ -27,7 +27,7 @@ heard_in places hearing s d long of there = elim (cases_lt s SLOTS) [
 ]
 
 -- the winner of the contest has the least identity
-pub least_won : (places : List (Option Device)) (kept : Planes) (hearing slots : SlotSet) (won : Won) → length places ≡ SLOTS → IsSetOf (λ d. d.hearing) hearing places → HavePlanes kept places → IsWon kept.numbers hearing.bits won
+pub least_won : (places : List (Option Device)) (kept : BitColumns) (hearing slots : SlotSet) (won : Won) → length places ≡ SLOTS → IsSetOf (λ d. d.hearing) hearing places → HaveColumns kept places → IsWon kept.numbers hearing.bits won
     → slots.bits ≡ won.winners → IsLeastHeard places (won.bits, slots)
 least_won places kept hearing slots won long of are h is = record {
   slots = λ s l. ap (λ b. bit_at b s == 1) is ∙ (h.winners s l ∙ (ap (λ b. b && (slice_index kept.numbers s == won.bits)) (of s l) ∙ go s (get_or places s None) refl));

@@ -12,16 +12,16 @@ use Rattle.i3c_base.specs.Round.{hears, unhearing}
 use Rattle.i3c_base.specs.Serve.{asks, drives_in}
 use Rattle.i3c_base.specs.State.{Device, in_slot, is_the, no_devices, Population, device_in}
 use Rattle.i3c_base.proofs.Lookups.{no_devices_at}
-use Rattle.i3c_wires.specs.declared.planes.Planes.{Planes}
-use Rattle.i3c_wires.specs.Planes.{AreTurned}
-use Rattle.i3c_device.specs.declared.marks.Marks.{Marks}
+use Rattle.i3c_wires.specs.declared.bit_columns.BitColumns.{BitColumns}
+use Rattle.i3c_wires.specs.BitColumns.{AreTurned}
+use Rattle.i3c_device.specs.declared.slot_index.SlotIndex.{SlotIndex}
 use Rattle.i3c_device.specs.declared.answering.Answering.{Answering}
 use Rattle.i3c_device.specs.declared.answering.TheConstants.{NOWHERE}
 use Rattle.i3c_device.specs.declared.slot_set.SlotSet.{SlotSet}
 use Rattle.i3c_device.specs.Addressing.{IsDynamicIn}
 use Rattle.i3c_device.specs.Answering.{AreFound}
 use Rattle.i3c_device.specs.Holding.{identity_in}
-use Rattle.i3c_device.specs.Marks.{AreMarks, DoAnswer, HavePlanes, IsSetOf, answer_in, answer_of, key_in, requeued}
+use Rattle.i3c_device.specs.SlotIndex.{AreMarks, DoAnswer, HaveColumns, IsSetOf, answer_in, answer_of, key_in, requeued}
 use Rattle.i3c_device.specs.Sets.{has}
 use Rattle.i3c_device.specs.Walks.{AreTakers, AreReached}
 use Rattle.i3c_device.specs.Wishing.{wishes_interrupt, wishes_join, wishes_role}
@@ -169,14 +169,14 @@ answers_of_same kept places i place low are same = (
   ],
 )
 
--- the planes of empty slots
-pub planes_none : (kept : Planes) → AreTurned kept → HavePlanes kept no_devices
-planes_none kept turned = (turned, λ s d there. absurd (none-some d (sym (no_devices_at s) ∙ there)))
+-- the columns of empty slots
+pub columns_none : (kept : BitColumns) → AreTurned kept → HaveColumns kept no_devices
+columns_none kept turned = (turned, λ s d there. absurd (none-some d (sym (no_devices_at s) ∙ there)))
 
 -- a device anew, whose number is set
-pub planes_of_put : (old new : Planes) (places : List (Option Device)) (i : ℕ) (d : Device) (number : ℕ) → i < length places → HavePlanes old places → number ≡ number_of d.identity → IsInRange d.identity → i < SLOTS
-    → new.numbers ≡ set old.numbers i number → (AreTurned old → AreTurned new) → HavePlanes new (set places i (Some d))
-planes_of_put old new places i d number low are is ranged here put turned = (
+pub columns_of_put : (old new : BitColumns) (places : List (Option Device)) (i : ℕ) (d : Device) (number : ℕ) → i < length places → HaveColumns old places → number ≡ number_of d.identity → IsInRange d.identity → i < SLOTS
+    → new.numbers ≡ set old.numbers i number → (AreTurned old → AreTurned new) → HaveColumns new (set places i (Some d))
+columns_of_put old new places i d number low are is ranged here put turned = (
   turned are.0,
   λ s e there. elim (cases_eq s i) [
     | inl at ↦
@@ -190,8 +190,8 @@ planes_of_put old new places i d number low are is ranged here put turned = (
 )
 
 -- no device any more
-pub planes_of_gone : (kept : Planes) (places : List (Option Device)) (i : ℕ) → i < length places → HavePlanes kept places → HavePlanes kept (set places i None)
-planes_of_gone kept places i low are = (
+pub columns_of_gone : (kept : BitColumns) (places : List (Option Device)) (i : ℕ) → i < length places → HaveColumns kept places → HaveColumns kept (set places i None)
+columns_of_gone kept places i low are = (
   are.0,
   λ s d there. elim (cases_eq s i) [
     | inl e ↦ absurd (none-some d (sym (ap (λ k. get_or (set places i None) k None) e ∙ get_or-set_same places i None None low) ∙ there))
@@ -200,8 +200,8 @@ planes_of_gone kept places i low are = (
 )
 
 -- the same device or one with the same identity
-pub planes_of_same : (kept : Planes) (places : List (Option Device)) (i : ℕ) (place : Option Device) → i < length places → HavePlanes kept places → identity_in place ≡ identity_in (get_or places i None) → HavePlanes kept (set places i place)
-planes_of_same kept places i place low are same = (
+pub columns_of_same : (kept : BitColumns) (places : List (Option Device)) (i : ℕ) (place : Option Device) → i < length places → HaveColumns kept places → identity_in place ≡ identity_in (get_or places i None) → HaveColumns kept (set places i place)
+columns_of_same kept places i place low are same = (
   are.0,
   λ s d there. elim (cases_eq s i) [
     | inl e ↦
@@ -264,12 +264,12 @@ hearing_queued queue None = refl
 hearing_queued queue (Some d) = refl
 
 -- the marks after the device in a slot begins or ends to hear, with the same interrupts
-pub marks_heard : (marks more : Marks) (places : List (Option Device)) (i : ℕ) (place : Option Device) (b : Bool) → length places ≡ SLOTS → i < SLOTS → AreMarks marks places → Alike place (get_or places i None)
+pub marks_heard : (marks more : SlotIndex) (places : List (Option Device)) (i : ℕ) (place : Option Device) (b : Bool) → length places ≡ SLOTS → i < SLOTS → AreMarks marks places → Alike place (get_or places i None)
     → in_slot wishes_interrupt place ≡ in_slot wishes_interrupt (get_or places i None) → b ≡ in_slot (λ d. d.hearing) place → more ≡ record marks { hearing = more.hearing }
     → ((s : ℕ) → s < SLOTS → has more.hearing s ≡ (if s == i then b else has marks.hearing s)) → AreMarks more (set places i place)
 marks_heard marks more places i place b long here are alike interrupts is rest put =
     let low : i < length places = omega (arith, here, long) in
-    subst (λ (m : Marks). AreMarks m (set places i place)) (sym rest) (record {
+    subst (λ (m : SlotIndex). AreMarks m (set places i place)) (sym rest) (record {
       present = set_of_same (λ d. true) marks.present places i place low are.present alike.present;
       joining = set_of_same wishes_join marks.joining places i place low are.joining alike.joining;
       asking = set_of_same wishes_role marks.asking places i place low are.asking alike.asking;
@@ -278,16 +278,16 @@ marks_heard marks more places i place b long here are alike interrupts is rest p
       unaddressed = set_of_same (λ d. is_none d.address) marks.unaddressed places i place low are.unaddressed alike.unaddressed;
       keys = entries_of_same key_in IsDynamicIn marks.keys places i place low are.keys alike.key alike.dynamic;
       answering = answers_of_same marks.answering places i place low are.answering alike.answer;
-      planes = planes_of_same marks.planes places i place low are.planes alike.identity;
+      columns = columns_of_same marks.columns places i place low are.columns alike.identity;
     })
 
 -- the marks where other interrupts wait
-pub marks_queued : (marks more : Marks) (places : List (Option Device)) (i : ℕ) (place : Option Device) (b : Bool) → length places ≡ SLOTS → i < SLOTS → AreMarks marks places → Alike place (get_or places i None)
+pub marks_queued : (marks more : SlotIndex) (places : List (Option Device)) (i : ℕ) (place : Option Device) (b : Bool) → length places ≡ SLOTS → i < SLOTS → AreMarks marks places → Alike place (get_or places i None)
     → in_slot (λ d. d.hearing) place ≡ in_slot (λ d. d.hearing) (get_or places i None) → b ≡ in_slot wishes_interrupt place → more ≡ record marks { interrupting = more.interrupting }
     → ((s : ℕ) → s < SLOTS → has more.interrupting s ≡ (if s == i then b else has marks.interrupting s)) → AreMarks more (set places i place)
 marks_queued marks more places i place b long here are alike hearing is rest put =
     let low : i < length places = omega (arith, here, long) in
-    subst (λ (m : Marks). AreMarks m (set places i place)) (sym rest) (record {
+    subst (λ (m : SlotIndex). AreMarks m (set places i place)) (sym rest) (record {
       present = set_of_same (λ d. true) marks.present places i place low are.present alike.present;
       joining = set_of_same wishes_join marks.joining places i place low are.joining alike.joining;
       asking = set_of_same wishes_role marks.asking places i place low are.asking alike.asking;
@@ -296,5 +296,5 @@ marks_queued marks more places i place b long here are alike hearing is rest put
       unaddressed = set_of_same (λ d. is_none d.address) marks.unaddressed places i place low are.unaddressed alike.unaddressed;
       keys = entries_of_same key_in IsDynamicIn marks.keys places i place low are.keys alike.key alike.dynamic;
       answering = answers_of_same marks.answering places i place low are.answering alike.answer;
-      planes = planes_of_same marks.planes places i place low are.planes alike.identity;
+      columns = columns_of_same marks.columns places i place low are.columns alike.identity;
     })

@@ -11,7 +11,7 @@ use Rattle.i3c_device.specs.declared.enabled.Enabled.{Enabled}
 use Rattle.i3c_device.specs.declared.slot_set.SlotSet.{SlotSet}
 use Rattle.i3c_device.specs.Enabling.{kinds_in, seen, seen_in, under}
 use Rattle.i3c_device.specs.Finding.{within}
-use Rattle.i3c_device.specs.Marks.{IsSetOf}
+use Rattle.i3c_device.specs.SlotIndex.{IsSetOf}
 use Rattle.i3c_device.specs.Sets.{has}
 use Rattle.i3c_device.proofs.EachLaws.{all_changed, changed_in, narrowed, spared}
 

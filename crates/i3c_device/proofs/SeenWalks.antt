@@ -20,13 +20,13 @@ use Rattle.i3c_base.specs.declared.datum.Datum.{Datum}
 use Rattle.i3c_base.specs.declared.datum.Direction.{Direction}
 use Rattle.i3c_ccc.specs.declared.codes.Code.TheVariants.{Deftgts, Disec, DisecDirect, Enec, EnecDirect, Get, Getacccr, Other, SetLength, SetLengthDirect, Setdasa, Setnewda}
 use Rattle.i3c_device.specs.declared.enabled.Enabled.{Enabled}
-use Rattle.i3c_device.specs.declared.marks.Marks.{Marks}
+use Rattle.i3c_device.specs.declared.slot_index.SlotIndex.{SlotIndex}
 use Rattle.i3c_device.specs.declared.slot_set.SlotSet.{SlotSet}
 use Rattle.i3c_device.specs.Enabling.{kinds_in, seen, seen_in, under}
 use Rattle.i3c_device.specs.Finding.{IsLowestFound, IsNowhere, within}
 use Rattle.i3c_device.specs.Hearing.{named_kinds}
 use Rattle.i3c_device.specs.Holding.{address_in, byte_in, front_in, identity_in, waiting_in}
-use Rattle.i3c_device.specs.Marks.{AreMarks, IsSetOf}
+use Rattle.i3c_device.specs.SlotIndex.{AreMarks, IsSetOf}
 use Rattle.i3c_device.specs.Raising.{interrupting_if, next_fault}
 use Rattle.i3c_device.specs.Reading.{AreBytesOf, Driving, PullsLow, registers_of}
 use Rattle.i3c_device.specs.Sets.{SomeLeft, has}
@@ -270,7 +270,7 @@ asked_of d (Interrupt a) h =
     (or_right (wishes_role d && d.kinds.role) (wishes_interrupt d && d.kinds.interrupt)
     (and_join (wishes_interrupt d) d.kinds.interrupt (and_join (is_some d.address) (not d.role_wish && not (is_empty d.waiting)) (there a d.address p.0) (and_join (not d.role_wish) (not (is_empty d.waiting)) q.0 r.0)) r.1))
 
-pub asking_seen : (e : Enabled) (marks : Marks) (xs now : List (Option Device)) (active s : ℕ) (joins roles interrupts more all result : SlotSet) → seen e xs ≡ now → AreMarks marks xs → s < SLOTS
+pub asking_seen : (e : Enabled) (marks : SlotIndex) (xs now : List (Option Device)) (active s : ℕ) (joins roles interrupts more all result : SlotSet) → seen e xs ≡ now → AreMarks marks xs → s < SLOTS
     → has joins s ≡ (has marks.joining s && has e.joins s) → has roles s ≡ (has marks.asking s && has e.roles s) → has interrupts s ≡ (has marks.interrupting s && has e.interrupts s)
     → has more s ≡ (has roles s || has interrupts s) → has all s ≡ (has joins s || has more s) → has result s ≡ (if s == active then false else has all s)
     → has result s ≡ (not (s == active) && in_slot asks_some (get_or now s None))

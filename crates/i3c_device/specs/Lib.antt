@@ -6,7 +6,7 @@ pub mod Driven
 pub mod Wishing
 pub mod Enabling
 pub mod Sets
-pub mod Marks
+pub mod SlotIndex
 pub mod Finding
 pub mod Holding
 pub mod Reading

@@ -72,7 +72,7 @@ impl Attached {
     ghost use Rattle.i3c_base.specs.Local.{with_raise};
     ghost use Rattle.i3c_device.specs.Addressing.{IsDynamic};
     ghost use Rattle.i3c_device.specs.Hearing.{set_length, set_new, set_static};
-    ghost use Rattle.i3c_device.specs.Marks.{answer_of};
+    ghost use Rattle.i3c_device.specs.SlotIndex.{answer_of};
     ghost use Rattle.i3c_device.specs.Wishing.{choice_of, key_of, wishes_interrupt, wishes_join, wishes_role};
     ghost use Rattle.i3c_device.specs.Raising.{front_byte, interrupting_if, next_fault, raise_fault};
 

@@ -11,14 +11,14 @@ mod driven_requests;
 mod enabled;
 mod flag;
 mod hearing;
-mod kept;
 mod kinds;
-mod marks;
 mod occupants;
+mod occupants_snapshot;
 mod own_kinds;
 mod places;
 mod queues;
 mod resting;
+mod slot_index;
 mod slot_set;
 mod slot_update;
 

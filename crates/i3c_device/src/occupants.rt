@@ -1,7 +1,7 @@
 use crate::attached::Attached;
-use crate::kept::Kept;
-use crate::marks::Marks;
+use crate::occupants_snapshot::OccupantsSnapshot;
 use crate::places::{byte_from, length_in, pull_low, raise, requeue, wishes_interrupt};
+use crate::slot_index::SlotIndex;
 use crate::slot_set::SlotSet;
 use crate::slot_update::{Driven, SlotUpdate, Sought, update_in};
 use i3c_base::{Addr7, Cuts, Direction, Length, REGISTERS, RaiseRefusal, SLOTS, Slot};
@@ -12,14 +12,14 @@ use std::marker::Model;
 pub(crate) struct Occupants {
     places: [Option<Attached>; SLOTS],
     // so that no walk looks into a slot where there is nothing for it
-    marks: Marks,
+    marks: SlotIndex,
 }
 
 impl Model for Occupants {
     ghost use Rattle.std.specs.Prelude.{◌≡◌, length, List, Option};
     ghost use Rattle.i3c_base.specs.declared.range.TheConstants.{SLOTS as SLOT_COUNT};
     ghost use Rattle.i3c_base.specs.State.{Device as DeviceState};
-    ghost use Rattle.i3c_device.specs.Marks.{AreMarks};
+    ghost use Rattle.i3c_device.specs.SlotIndex.{AreMarks};
 
     ghost Value = { List (Option DeviceState) };
 
@@ -38,7 +38,7 @@ impl Occupants {
     ghost use Rattle.i3c_device.specs.Finding.{within, IsLowestFound, IsNowhere};
     ghost use Rattle.i3c_device.specs.Keeping.{IsHeld};
     ghost use Rattle.i3c_device.specs.Least.{IsLeastHeard, NobodyHears};
-    ghost use Rattle.i3c_device.specs.Marks.{AreMarks};
+    ghost use Rattle.i3c_device.specs.SlotIndex.{AreMarks};
     ghost use Rattle.i3c_device.specs.Raising.{interrupting_if, next_fault};
     ghost use Rattle.i3c_device.specs.Reading.{IsByteOf, registers_of};
     ghost use Rattle.i3c_device.specs.Lengths.{IsLeastLength};
@@ -53,13 +53,13 @@ impl Occupants {
     {
         Occupants {
             places: std::array::from_fn(|_| None),
-            marks: Marks::new(),
+            marks: SlotIndex::new(),
         }
     }
 
     /// They become the occupants that were kept.
     #[tactic(auto, using(crate::proofs::KeepLaws::held_both))]
-    pub fn wake(&mut self, kept: &Kept)
+    pub fn wake(&mut self, kept: &OccupantsSnapshot)
         ensures { self.new ≡ kept.now }
     {
         self.wake_alone(kept);
@@ -71,7 +71,7 @@ impl Occupants {
 
     /// A slot that is empty now, but was kept with a device, gets that device; one whose device came later becomes empty.
     #[tactic(auto, using(crate::proofs::KeepLaws::alone_none))]
-    fn wake_alone(&mut self, kept: &Kept)
+    fn wake_alone(&mut self, kept: &OccupantsSnapshot)
         ensures woken { (s : ℕ) → s < SLOT_COUNT → (slice_index_or self.new s None ≡ slice_index_or kept.now s None) ⊎ IsHeld kept.now self.new s }
         ensures slots { length self.new ≡ SLOT_COUNT }
     {
@@ -168,7 +168,7 @@ impl Occupants {
     }
 
     /// In which slots a walk may find something.
-    pub fn marks(&self) -> &Marks
+    pub fn marks(&self) -> &SlotIndex
         ensures marks { AreMarks result.now self.now }
         ensures slots { length self.now ≡ SLOT_COUNT }
     {
@@ -246,7 +246,7 @@ impl Occupants {
         ensures least { MatchOption result (NobodyHears self.now) (IsLeastHeard self.now) }
         ensures slots { length self.now ≡ SLOT_COUNT }
     {
-        match self.marks.planes.contest(self.marks.hearing.bits()) {
+        match self.marks.columns.contest(self.marks.hearing.bits()) {
             Some(won) => Some((won.bits, SlotSet::of_bits(won.winners))),
             None => None,
         }

@@ -9,7 +9,7 @@ ghost use Rattle.i3c_base.specs.Local.{with_raise, wishing_join, wishing_role};
 ghost use Rattle.i3c_device.specs.Addressing.{IsDynamicIn};
 ghost use Rattle.i3c_device.specs.Hearing.{set_length, set_new, set_static};
 ghost use Rattle.i3c_device.specs.Holding.{length_in, address_in, byte_in, front_in, identity_in, waiting_in};
-ghost use Rattle.i3c_device.specs.Marks.{answer_in, key_in, requeued};
+ghost use Rattle.i3c_device.specs.SlotIndex.{answer_in, key_in, requeued};
 ghost use Rattle.i3c_device.specs.Raising.{interrupting_if, next_fault};
 ghost use Rattle.i3c_device.specs.Reading.{IsByteFrom, IsDrivenFrom};
 ghost use Rattle.i3c_device.specs.Walks.{taken_from, willing_at};

@@ -8,8 +8,8 @@ ghost use Rattle.i3c_device.specs.Sets.{has};
 use crate::attached::Attached;
 use crate::devices::Devices;
 use crate::enabled::Enabled;
-use crate::kept::Kept;
 use crate::occupants::Occupants;
+use crate::occupants_snapshot::OccupantsSnapshot;
 use crate::slot_set::SlotSet;
 use i3c_base::{Addr7, Slot};
 use std::alloc::{AllocError, Global};
@@ -18,7 +18,7 @@ use std::marker::Model;
 /// Devices in their slots as they were at some time, and unchangeable. Slots behind the last present device take no room.
 #[derive(Drop)]
 pub struct Resting {
-    pub(crate) kept: Kept,
+    pub(crate) kept: OccupantsSnapshot,
     pub(crate) enabled: Enabled,
 }
 
@@ -45,7 +45,7 @@ impl Resting {
         ensures { IfOk result (λ resting. resting ≡ devices.now) }
     {
         let mut resting = Resting {
-            kept: Kept::new(alloc),
+            kept: OccupantsSnapshot::new(alloc),
             enabled: Enabled::new(),
         };
         resting.copy_from(devices)?;
@@ -124,7 +124,7 @@ fn are_same(one: Option<&Attached>, other: Option<&Attached>, differ: bool) -> b
 }
 
 /// Whether both hold the same devices in these slots. Each of these slots holds one in both.
-fn are_same_among(among: SlotSet, kept: &Kept, occupants: &Occupants) -> bool
+fn are_same_among(among: SlotSet, kept: &OccupantsSnapshot, occupants: &Occupants) -> bool
     requires { (s : ℕ) → s < SLOT_COUNT → has among s ≡ true → IsHeld kept.now occupants.now s }
     ensures { (kinds : KindSet) → IsTrue result ↔ ((s : ℕ) → s < SLOT_COUNT → has among s ≡ true → option_map (under kinds) (slice_index_or kept.now s None) ≡ option_map (under kinds) (slice_index_or occupants.now s None)) }
 {

@@ -8,18 +8,18 @@ ghost use Rattle.i3c_base.specs.State.{Device as DeviceState};
 ghost use Rattle.i3c_base.specs.Local.{wishing_join, wishing_role};
 ghost use Rattle.std.specs.Option.{ForSome};
 ghost use Rattle.i3c_device.specs.Hearing.{set_length, set_new, set_static};
-ghost use Rattle.i3c_device.specs.Marks.{AreMarks};
+ghost use Rattle.i3c_device.specs.SlotIndex.{AreMarks};
 ghost use Rattle.i3c_device.specs.declared.attached.TheConstants.{LONGEST};
 ghost use Rattle.i3c_device.specs.Reading.{registers_of};
 ghost use Rattle.i3c_device.specs.Walks.{taken_from, willing_at};
 
 use crate::attached::Attached;
-use crate::marks::Marks;
 use crate::places::{
     accept, has_role_wish, is_willing, limit, lose_front, lose_role_wish, open, reaches, readdress,
     reset, set_length, set_new, set_static, silence, win, wish_join, wish_role, wishes_interrupt,
     write,
 };
+use crate::slot_index::SlotIndex;
 use i3c_base::{Addr7, Datum, Direction, Length, Request, Slot};
 
 /// A change of the devices in some slots.
@@ -37,7 +37,7 @@ pub(crate) trait SlotUpdate {
 
     /// Updates the marks after this change in this slot: all that is marked of the slot is marked anew, unless less has
     /// changed.
-    fn noted(&self, marks: &mut Marks, index: usize, place: &Option<Attached>)
+    fn noted(&self, marks: &mut SlotIndex, index: usize, place: &Option<Attached>)
         requires { index < SLOT_COUNT }
         ensures { (places : List (Option DeviceState)) → length places ≡ SLOT_COUNT → AreMarks marks.old places → place.now ≡ after self.now index (slice_index_or places index None) → AreMarks marks.new (slice_set places index place.now) }
     {
@@ -51,7 +51,7 @@ pub(crate) fn update_in<H: SlotUpdate>(
     update: &H,
     index: usize,
     place: &mut Option<Attached>,
-    marks: &mut Marks,
+    marks: &mut SlotIndex,
 )
     requires { index < SLOT_COUNT }
     ensures changed { place.new ≡ H.after update.now index place.old }
@@ -96,7 +96,7 @@ impl SlotUpdate for InterruptAccepted {
         lose_front(place);
     }
 
-    fn noted(&self, marks: &mut Marks, index: usize, place: &Option<Attached>) {
+    fn noted(&self, marks: &mut SlotIndex, index: usize, place: &Option<Attached>) {
         marks.queued(index, wishes_interrupt(place));
     }
 }
@@ -165,7 +165,7 @@ impl SlotUpdate for Reset {
         reset(place);
     }
 
-    fn noted(&self, marks: &mut Marks, index: usize, place: &Option<Attached>) {
+    fn noted(&self, marks: &mut SlotIndex, index: usize, place: &Option<Attached>) {
         marks.reset(index, place);
     }
 }
@@ -185,7 +185,7 @@ impl SlotUpdate for Opened {
         open(place);
     }
 
-    fn noted(&self, marks: &mut Marks, index: usize, place: &Option<Attached>) {
+    fn noted(&self, marks: &mut SlotIndex, index: usize, place: &Option<Attached>) {
         marks.opened(index, place);
     }
 }
@@ -205,7 +205,7 @@ impl SlotUpdate for Ended {
         silence(place);
     }
 
-    fn noted(&self, marks: &mut Marks, index: usize, place: &Option<Attached>) {
+    fn noted(&self, marks: &mut SlotIndex, index: usize, place: &Option<Attached>) {
         marks.ended(index, place);
     }
 }
@@ -228,7 +228,7 @@ impl SlotUpdate for Won {
         win(place, self.address);
     }
 
-    fn noted(&self, marks: &mut Marks, index: usize, place: &Option<Attached>) {
+    fn noted(&self, marks: &mut SlotIndex, index: usize, place: &Option<Attached>) {
         marks.won(index, place);
     }
 }

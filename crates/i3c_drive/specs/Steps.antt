@@ -14,7 +14,7 @@ use Rattle.i3c_script.specs.Hearing.{Hears}
 use Rattle.i3c_script.specs.Obeying.{ScriptState, script}
 use Rattle.i3c_script.specs.Printed.{pieces_text}
 use Rattle.i3c_script.specs.Stops.{Ends}
-use Rattle.i3c_text.specs.declared.stop.Stop.{Stop}
+use Rattle.i3c_text.specs.declared.line_error.LineError.{LineError}
 
 -- where the script of an interpreter is
 abbrev pub position : Interpreter → ScriptState
@@ -25,7 +25,7 @@ abbrev pub state : Driver → ScriptState
 state driver = position driver.interpreter
 
 -- the result of a line, with a listener before and after it: a mark has no form here
-abbrev pub Reads : {L : Type 0} → (L → Piece → L) → ScriptState → List ℕ → L → L → Result (Unit {0}) (Stop Refusal) → ScriptState → Type 0
+abbrev pub Reads : {L : Type 0} → (L → Piece → L) → ScriptState → List ℕ → L → L → Result (Unit {0}) (LineError Refusal) → ScriptState → Type 0
 Reads heard old line before after result new = Hears heard (λ pieces refused. DrivenDoes old line pieces refused new) before after result
 
 -- the driver has heard these pieces, of which it keeps what the form is made of
@@ -34,7 +34,7 @@ HasHeard Form.Lines pieces driver = driver.answer ≡ pieces_text pieces
 HasHeard Form.Json pieces driver = driver.pieces ≡ pieces
 
 -- the result of a line, of which the driver has heard the pieces
-abbrev pub Obeyed : Form → ScriptState → List ℕ → Driver → Result (Unit {0}) (Stop Refusal) → Type 0
+abbrev pub Obeyed : Form → ScriptState → List ℕ → Driver → Result (Unit {0}) (LineError Refusal) → Type 0
 Obeyed form old line new result = Ends (λ refused. (pieces : List Piece) × HasHeard form pieces new × DrivenDoes old line pieces refused (state new)) result
 
 -- the driver knows the devices that ask

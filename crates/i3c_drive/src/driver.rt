@@ -14,7 +14,7 @@ use i3c_json::{Answer, push_object};
 use i3c_lines::{Name, Refusal};
 use i3c_script::{PieceList, sum_of};
 use i3c_streams::{Form, ScriptFault, Tally, write_out};
-use i3c_text::{Stop, Text};
+use i3c_text::{LineError, Text};
 use std::alloc::{AllocError, Global};
 use std::io::{Read, Write};
 use std::mem;
@@ -153,13 +153,13 @@ impl Driver {
         let count = self.interpreter.log().len();
         match self.obey(form, line) {
             Ok(()) => return self.close(form, number, count, None),
-            Err(Stop::Refused(why)) => return self.close(form, number, count, Some(why)),
-            Err(Stop::Memory) => return Err(AllocError),
+            Err(LineError::Refused(why)) => return self.close(form, number, count, Some(why)),
+            Err(LineError::Memory) => return Err(AllocError),
         }
     }
 
     /// Obeys a line, and keeps what it comes to: in the form of lines its text, in that of an object its pieces.
-    fn obey(&mut self, form: Form, line: &[u8]) -> Result<(), Stop<Refusal>>
+    fn obey(&mut self, form: Form, line: &[u8]) -> Result<(), LineError<Refusal>>
         ensures refused { self.new.refused ≡ self.old.refused }
         ensures asked { self.new.asked ≡ self.old.asked }
         ensures heard { Obeyed form (state self.old) line.now self.new result }

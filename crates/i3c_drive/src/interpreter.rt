@@ -9,7 +9,7 @@ ghost use Rattle.i3c_script.specs.Printed.{numbered_text};
 use i3c_base::Record;
 use i3c_lines::{Command, Name, Names, Refusal, is_skipped, push_capitals};
 use i3c_script::{Listener, Stage, push_askers, show_records_behind};
-use i3c_text::{Stop, Text};
+use i3c_text::{LineError, Text};
 use std::alloc::{AllocError, Global};
 
 /// Names the lines of a driven bus.
@@ -48,13 +48,13 @@ impl Interpreter {
         &mut self,
         line: &[u8],
         listener: &mut L,
-    ) -> Result<(), Stop<Refusal>>
+    ) -> Result<(), LineError<Refusal>>
         ensures { Reads L.heard (position self.old) line.now listener.old listener.new result (position self.new) }
     {
         match is_skipped(line) {
             Ok(true) => return Ok(()),
             Ok(false) => {}
-            Err(refusal) => return Err(Stop::Refused(refusal)),
+            Err(refusal) => return Err(LineError::Refused(refusal)),
         }
         match self.command.read::<Driven>(line) {
             Some(()) => self
@@ -71,7 +71,7 @@ impl Interpreter {
         &mut self,
         line: &[u8],
         listener: &mut L,
-    ) -> Result<(), Stop<Refusal>>
+    ) -> Result<(), LineError<Refusal>>
         requires short { length line.now ≤ 256 }
         requires formless { HasNoForm line.now }
         ensures { Reads L.heard (position self.old) line.now listener.old listener.new result (position self.new) }
@@ -79,13 +79,13 @@ impl Interpreter {
         self.capitals.clear();
         match push_capitals(line, &mut self.capitals) {
             Ok(()) => {}
-            Err(_) => return Err(Stop::Memory),
+            Err(_) => return Err(LineError::Memory),
         }
         match self.command.read::<Capitals>(self.capitals.as_bytes()) {
             Some(()) => self
                 .stage
                 .obey_heard::<Capitals, L>(self.alloc, &mut self.names, &self.command, listener),
-            None => Err(Stop::Refused(Refusal::BadLine)),
+            None => Err(LineError::Refused(Refusal::BadLine)),
         }
     }
 

@@ -2,7 +2,7 @@ use crate::codes::BITS;
 use crate::machine::Machine;
 use crate::node::Node;
 use crate::part::Part;
-use crate::places::{Codes, Place, Places};
+use crate::places::{Codes, NodesAt, Places};
 use std::alloc::{AllocError, Global};
 
 /// The lines of a layer are shared out by a sample of at most this many places.
@@ -51,7 +51,7 @@ impl Bundles {
         &mut self,
         alloc: Global,
         layer: &[Node<M>],
-        place: Place,
+        place: NodesAt,
         weights: &[u64],
         tracks: &[Vec<M::Line>],
         part: Part,

@@ -3,7 +3,7 @@ use std::alloc::{AllocError, Global};
 
 /// The places of all tracks at which some nodes are.
 #[derive(Clone, Copy)]
-pub(crate) struct Place {
+pub(crate) struct NodesAt {
     /// The code of the places.
     pub code: u64,
     /// The first node there.
@@ -63,7 +63,7 @@ impl Codes {
 pub(crate) struct Places {
     codes: Codes,
     /// The places, each once.
-    pub all: Vec<Place>,
+    pub all: Vec<NodesAt>,
     /// The index of the place of each node.
     pub of_nodes: Vec<usize>,
 }
@@ -97,7 +97,7 @@ impl Places {
                 place.count = place.count.saturating_add(1);
             }
             None => {
-                self.all.push(Place {
+                self.all.push(NodesAt {
                     code,
                     first: node,
                     last: node,

@@ -3,14 +3,14 @@ use Rattle.std.specs.Prelude.{◌≡◌, ◌⊎◌, ℕ, ◌+◌, List, [], ◌�
 use Rattle.std.specs.Option.{option_and_then}
 use Rattle.i3c_frame.specs.declared.symbols.Symbol.{Symbol}
 use Rattle.i3c_frame.specs.declared.symbols.Symbol.TheVariants.{Start, Repeated, Stop, Header}
-use Rattle.i3c_frame.specs.declared.traces.Place.{Place}
-use Rattle.i3c_frame.specs.declared.traces.Place.TheVariants.{Outside, Opened, Inside}
+use Rattle.i3c_frame.specs.declared.traces.FramePosition.{FramePosition}
+use Rattle.i3c_frame.specs.declared.traces.FramePosition.TheVariants.{Outside, Opened, Inside}
 use Rattle.i3c_frame.specs.declared.traces.TraceFault.{TraceFault}
 use Rattle.i3c_frame.specs.declared.traces.TraceFault.TheVariants.{BadSymbol, NoStart, NoStop}
 use Rattle.i3c_frame.specs.Texts.{IsInRange, text_of}
 
 -- the place after a symbol, if the symbol is allowed there
-abbrev pub after : Place → Symbol → Option Place
+abbrev pub after : FramePosition → Symbol → Option FramePosition
 after Outside Start = Some Opened
 after Outside _ = None
 after Opened (Header address read ack) = Some Inside
@@ -21,7 +21,7 @@ after Inside Stop = Some Outside
 after Inside _ = Some Inside
 
 -- the place after symbols, if each is allowed at its place
-abbrev pub place_after : Place → List Symbol → Option Place
+abbrev pub place_after : FramePosition → List Symbol → Option FramePosition
 place_after place [] = Some place
 place_after place (symbol ∷ rest) = option_and_then (λ next. place_after next rest) (after place symbol)
 
@@ -30,7 +30,7 @@ abbrev pub IsTrace : List Symbol → Type 0
 IsTrace symbols = place_after Outside symbols ≡ Some Outside
 
 -- the fault of a symbol that isn't allowed at a place, as the n-th
-abbrev pub misplaced : Place → ℕ → TraceFault
+abbrev pub misplaced : FramePosition → ℕ → TraceFault
 misplaced Outside n = NoStart
 misplaced Opened n = BadSymbol n
 misplaced Inside n = NoStop
@@ -40,11 +40,11 @@ abbrev pub IsNoSymbol : List ℕ → Type 0
 IsNoSymbol part = (symbol : Symbol) → IsInRange symbol → ¬ (text_of symbol ≡ part)
 
 -- the part is the text of a symbol that isn't allowed at the place
-abbrev pub IsMisplaced : Place → List ℕ → Type 0
+abbrev pub IsMisplaced : FramePosition → List ℕ → Type 0
 IsMisplaced place part = (symbol : Symbol) × IsInRange symbol × (text_of symbol ≡ part) × (after place symbol ≡ None)
 
 -- the fault at a place where these parts follow, the first of them as the n-th
-abbrev pub IsFaultAt : Place → ℕ → List (List ℕ) → TraceFault → Type 0
+abbrev pub IsFaultAt : FramePosition → ℕ → List (List ℕ) → TraceFault → Type 0
 IsFaultAt Outside n [] fault = ⊥
 IsFaultAt _ n [] fault = fault ≡ NoStop
 IsFaultAt place n (part ∷ rest) fault =
@@ -54,7 +54,7 @@ IsFaultAt place n (part ∷ rest) fault =
 pub record IsFirstFault (parts : List (List ℕ)) (fault : TraceFault) : Type 0 where
   pub before : List Symbol
   pub rest : List (List ℕ)
-  pub place : Place
+  pub place : FramePosition
   pub whole : parts ≡ map text_of before ++ rest
   pub in_range : All IsInRange before
   pub leads : place_after Outside before ≡ Some place

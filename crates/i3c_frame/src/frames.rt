@@ -1,12 +1,12 @@
 ghost use Rattle.std.specs.Prelude.{◌≡◌, ◌<◌, [], length, IfOk, MatchOption};
-ghost use Rattle.i3c_frame.specs.declared.traces.Place.{Place as PlaceValue};
+ghost use Rattle.i3c_frame.specs.declared.traces.FramePosition.{FramePosition as PlaceValue};
 ghost use Rattle.i3c_frame.specs.Frames.{IsBreak, IsDue, IsPrefix, IsRead, begins_frame, due_by, frame_at, whole_from};
 ghost use Rattle.i3c_frame.specs.Parts.{parts};
 
 use crate::firsts::{First, first_of};
 use crate::parts::Parts;
 use crate::symbols::Symbol;
-use crate::traces::{BYTES_A_SYMBOL, Place, after};
+use crate::traces::{BYTES_A_SYMBOL, FramePosition, after};
 use std::alloc::{AllocError, Global};
 
 /// The symbol expected at the point where a text stops being a trace.
@@ -43,7 +43,7 @@ pub struct Frames<'a> {
 #[derive(Drop)]
 pub(crate) struct Prefix<'a> {
     pub symbols: Vec<Symbol>,
-    pub place: Place,
+    pub place: FramePosition,
     pub rest: &'a [u8],
     pub due: Due,
 }
@@ -68,7 +68,7 @@ fn read_prefix(alloc: Global, bytes: &[u8]) -> Result<Prefix<'_>, AllocError>
     ensures { IfOk result (IsPrefix (parts bytes.now)) }
 {
     let mut symbols = Vec::with_capacity(alloc, bytes.len() / BYTES_A_SYMBOL)?;
-    let mut place = Place::Outside;
+    let mut place = FramePosition::Outside;
     let mut rest = bytes;
     while let Some(first) = first_of(rest) {
         let First::Symbol(symbol, left) = first else {
@@ -103,13 +103,18 @@ fn read_prefix(alloc: Global, bytes: &[u8]) -> Result<Prefix<'_>, AllocError>
 }
 
 /// The point where a text breaks, behind these symbols, unless it ends outside a frame.
-fn break_of<'a>(symbols: &[Symbol], place: &Place, rest: &'a [u8], due: Due) -> Option<Break<'a>>
+fn break_of<'a>(
+    symbols: &[Symbol],
+    place: &FramePosition,
+    rest: &'a [u8],
+    due: Due,
+) -> Option<Break<'a>>
     requires short { length symbols.now < usize.MAX }
     requires is_due { IsDue place.now (parts rest.now) due }
     ensures { MatchOption result ((place.now ≡ PlaceValue.Outside) × (parts rest.now ≡ [])) (IsBreak symbols.now place.now (parts rest.now)) }
 {
     let part = Parts::new(rest).next();
-    if part.is_none() && matches!(place, Place::Outside) {
+    if part.is_none() && matches!(place, FramePosition::Outside) {
         return None;
     }
     Some(Break {
@@ -121,14 +126,14 @@ fn break_of<'a>(symbols: &[Symbol], place: &Place, rest: &'a [u8], due: Due) -> 
 }
 
 /// The frame at a place behind symbols: outside one it is the next.
-fn frame_at(place: &Place, symbols: &[Symbol]) -> usize
+fn frame_at(place: &FramePosition, symbols: &[Symbol]) -> usize
     requires { length symbols.now < usize.MAX }
     ensures { result ≡ frame_at place.now symbols.now }
 {
     let begun = symbols.iter().filter(|symbol| begins_frame(symbol)).count();
     match place {
-        Place::Outside => begun + 1,
-        Place::Opened | Place::Inside => begun,
+        FramePosition::Outside => begun + 1,
+        FramePosition::Opened | FramePosition::Inside => begun,
     }
 }
 
@@ -140,13 +145,13 @@ fn begins_frame(symbol: &Symbol) -> bool
 }
 
 /// The symbol expected at a place.
-fn due_by(place: &Place) -> Due
+fn due_by(place: &FramePosition) -> Due
     ensures { result ≡ due_by place.now }
 {
     match place {
-        Place::Outside => Due::Start,
-        Place::Opened => Due::Header,
-        Place::Inside => Due::Stop,
+        FramePosition::Outside => Due::Start,
+        FramePosition::Opened => Due::Header,
+        FramePosition::Inside => Due::Stop,
     }
 }
 

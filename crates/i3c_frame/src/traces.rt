@@ -31,7 +31,7 @@ pub enum TraceFault {
 
 /// The place of a wire between two symbols.
 #[derive(Clone, Copy)]
-pub(crate) enum Place {
+pub(crate) enum FramePosition {
     /// Outside a frame: only START is allowed.
     Outside,
     /// After START or repeated START, where a header must follow.
@@ -41,27 +41,28 @@ pub(crate) enum Place {
 }
 
 /// The place after a symbol, if the symbol is allowed there.
-pub(crate) fn after(place: &Place, symbol: &Symbol) -> Option<Place>
+pub(crate) fn after(place: &FramePosition, symbol: &Symbol) -> Option<FramePosition>
     ensures { result ≡ after place.now symbol.now }
 {
     match (place, symbol) {
-        (Place::Outside, Symbol::Start) => Some(Place::Opened),
-        (Place::Opened, Symbol::Header { .. }) => Some(Place::Inside),
-        (Place::Outside | Place::Opened, _) | (Place::Inside, Symbol::Start) => None,
-        (Place::Inside, Symbol::Repeated) => Some(Place::Opened),
-        (Place::Inside, Symbol::Stop) => Some(Place::Outside),
-        (Place::Inside, _) => Some(Place::Inside),
+        (FramePosition::Outside, Symbol::Start) => Some(FramePosition::Opened),
+        (FramePosition::Opened, Symbol::Header { .. }) => Some(FramePosition::Inside),
+        (FramePosition::Outside | FramePosition::Opened, _)
+        | (FramePosition::Inside, Symbol::Start) => None,
+        (FramePosition::Inside, Symbol::Repeated) => Some(FramePosition::Opened),
+        (FramePosition::Inside, Symbol::Stop) => Some(FramePosition::Outside),
+        (FramePosition::Inside, _) => Some(FramePosition::Inside),
     }
 }
 
 /// The fault of a symbol that isn't allowed at a place.
-fn misplaced(place: &Place, number: usize) -> TraceFault
+fn misplaced(place: &FramePosition, number: usize) -> TraceFault
     ensures { result ≡ misplaced place.now number }
 {
     match place {
-        Place::Outside => TraceFault::NoStart,
-        Place::Opened => TraceFault::BadSymbol(number),
-        Place::Inside => TraceFault::NoStop,
+        FramePosition::Outside => TraceFault::NoStart,
+        FramePosition::Opened => TraceFault::BadSymbol(number),
+        FramePosition::Inside => TraceFault::NoStop,
     }
 }
 
@@ -92,7 +93,7 @@ pub fn read_trace_bytes(alloc: Global, bytes: &[u8]) -> Result<Vec<Symbol>, Trac
     let Ok(mut symbols) = Vec::with_capacity(alloc, bytes.len() / BYTES_A_SYMBOL) else {
         return Err(TraceFault::OutOfMemory);
     };
-    let mut place = Place::Outside;
+    let mut place = FramePosition::Outside;
     let mut rest = bytes;
     while let Some(first) = first_of(rest) {
         let number = symbols.len() + 1;
@@ -109,7 +110,7 @@ pub fn read_trace_bytes(alloc: Global, bytes: &[u8]) -> Result<Vec<Symbol>, Trac
         rest = left;
     }
     match place {
-        Place::Outside => Ok(symbols),
-        Place::Opened | Place::Inside => Err(TraceFault::NoStop),
+        FramePosition::Outside => Ok(symbols),
+        FramePosition::Opened | FramePosition::Inside => Err(TraceFault::NoStop),
     }
 }

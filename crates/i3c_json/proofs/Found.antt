@@ -10,7 +10,7 @@ use Rattle.i3c_base.specs.declared.datum.Datum.{Datum}
 use Rattle.i3c_base.specs.declared.requests.Record.{Record}
 use Rattle.i3c_lines.specs.declared.names.Name.{Name}
 use Rattle.i3c_lines.specs.declared.refusals.Refusal.{Refusal}
-use Rattle.i3c_lines.specs.Data.{told_token}
+use Rattle.i3c_lines.specs.Data.{datum_name}
 use Rattle.i3c_lines.specs.Refusing.{refusal_token}
 use Rattle.i3c_script.specs.declared.piece.Piece.{Piece}
 use Rattle.i3c_text.specs.Hex.{byte_text}
@@ -94,7 +94,7 @@ other_fields name (piece ∷ pieces) members far = other_field name (field_of pi
 
 -- a name that no datum's field has
 abbrev IsNoDatum : List ℕ → Type 0
-IsNoDatum name = (what : Datum) → bytes_eq name (told_token what) ≡ false
+IsNoDatum name = (what : Datum) → bytes_eq name (datum_name what) ≡ false
 
 -- it differs from each of the eight tokens
 apart_tokens : (name : List ℕ) → bytes_eq name (codes "pid") ≡ false → bytes_eq name (codes "bcr") ≡ false → bytes_eq name (codes "dcr") ≡ false → bytes_eq name (codes "status") ≡ false
@@ -246,7 +246,7 @@ own_listed = record { beside = record { asking = refl; added = refl; told = refl
 own_session : IsOwn (codes "session")
 own_session = record { beside = record { asking = refl; added = refl; told = refl; tenures = refl; descriptions = refl; log = refl; targets = refl; devices = refl; assigned = refl }; line = refl; ok = refl; refused = refl; about = refl }
 
-own_token : (what : Datum) → IsOwn (told_token what)
+own_token : (what : Datum) → IsOwn (datum_name what)
 own_token Datum.Pid = record { beside = record { asking = refl; added = refl; told = refl; tenures = refl; descriptions = refl; log = refl; targets = refl; devices = refl; assigned = refl }; line = refl; ok = refl; refused = refl; about = refl }
 own_token Datum.Bcr = record { beside = record { asking = refl; added = refl; told = refl; tenures = refl; descriptions = refl; log = refl; targets = refl; devices = refl; assigned = refl }; line = refl; ok = refl; refused = refl; about = refl }
 own_token Datum.Dcr = record { beside = record { asking = refl; added = refl; told = refl; tenures = refl; descriptions = refl; log = refl; targets = refl; devices = refl; assigned = refl }; line = refl; ok = refl; refused = refl; about = refl }
@@ -275,7 +275,7 @@ own_name Piece.Asked name value is = named (codes "result") name _ value is refl
 own_name (Piece.Served served) name value is = named (codes "served") name _ value is refl own_served
 own_name Piece.Done name value is = named (codes "result") name _ value is refl own_result
 own_name (Piece.Bytes bytes) name value is = named (codes "bytes") name _ value is refl own_bytes
-own_name (Piece.Told what bytes) name value is = named (told_token what) name _ value is refl (own_token what)
+own_name (Piece.Told what bytes) name value is = named (datum_name what) name _ value is refl (own_token what)
 own_name Piece.Opened name value is = named (codes "result") name _ value is refl own_result
 own_name (Piece.Assigned a identity) name value is = absurd cc
 own_name Piece.Nobody name value is = named (codes "result") name _ value is refl own_result

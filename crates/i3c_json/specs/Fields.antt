@@ -2,7 +2,7 @@
 use Rattle.std.specs.Prelude.{ℕ, Bool, true, false, List, [], ◌∷◌, ◌++◌, codes, map, Option, Some, None, if◌then◌else◌}
 use Rattle.serde_json.specs.Data.{Data, Members, array, boolean, null, number, unsigned, put}
 use Rattle.serde_json.specs.View.{items_of}
-use Rattle.i3c_lines.specs.Data.{told_token}
+use Rattle.i3c_lines.specs.Data.{datum_name}
 use Rattle.i3c_script.specs.declared.piece.Piece.{Piece}
 use Rattle.i3c_script.specs.Printed.{piece_text}
 use Rattle.i3c_text.specs.Hex.{byte_text, bytes_text}
@@ -21,7 +21,7 @@ field_of Piece.Asked = Some (codes "result", text_data (codes "asked"))
 field_of (Piece.Served served) = Some (codes "served", text_data (served_words served))
 field_of Piece.Done = Some (codes "result", text_data (codes "done"))
 field_of (Piece.Bytes bytes) = Some (codes "bytes", text_data (bytes_text bytes))
-field_of (Piece.Told what bytes) = Some (told_token what, text_data (bytes_text bytes))
+field_of (Piece.Told what bytes) = Some (datum_name what, text_data (bytes_text bytes))
 field_of Piece.Opened = Some (codes "result", text_data (codes "open"))
 field_of (Piece.Assigned a identity) = None
 field_of Piece.Nobody = Some (codes "result", text_data (codes "nobody"))

@@ -11,7 +11,7 @@ use crate::objects::{
 use crate::symbols::lines_of;
 use crate::values::{Fields, put_bytes, put_flag, put_hex, put_number, put_served, put_text};
 use i3c_base::{Addr7, Slot};
-use i3c_lines::{Name, told_token};
+use i3c_lines::{Name, datum_name};
 use i3c_script::Piece;
 use serde_json::{Value, push, put};
 use std::alloc::{AllocError, Global};
@@ -75,7 +75,7 @@ fn put_field(alloc: Global, piece: &Piece, fields: &mut Fields) -> Result<(), Al
         Piece::Served(served) => put_served(alloc, "served", served, fields),
         Piece::Done => put_text(alloc, "result", b"done", fields),
         Piece::Bytes(bytes) => put_bytes(alloc, "bytes", bytes.as_slice(), fields),
-        Piece::Told(what, bytes) => put_bytes(alloc, told_token(*what), bytes.as_slice(), fields),
+        Piece::Told(what, bytes) => put_bytes(alloc, datum_name(*what), bytes.as_slice(), fields),
         Piece::Opened => put_text(alloc, "result", b"open", fields),
         Piece::Nobody => put_text(alloc, "result", b"nobody", fields),
         Piece::Ended => put_text(alloc, "result", b"ended", fields),

@@ -6,7 +6,7 @@ use Rattle.i3c_base.specs.declared.datum.Datum.{Datum}
 use Rattle.i3c_base.specs.declared.datum.Direction.{Direction}
 use Rattle.i3c_step.specs.declared.events.Command.{Command as Frame}
 use Rattle.i3c_lines.specs.declared.command.Command.{Command}
-use Rattle.i3c_lines.specs.Data.{datum_token, told_token}
+use Rattle.i3c_lines.specs.Data.{datum_token, datum_name}
 use Rattle.i3c_lines.specs.Forms.{AreAsked, ArePlace, IsForm, WritesAddress, WritesPlace, tokens_of, with_first}
 use Rattle.i3c_lines.specs.Parsing.{Becomes, BecomesOther, IsOther}
 use Rattle.i3c_lines.proofs.LineLaws.{line_is, line_of, some_token, token_left}
@@ -181,11 +181,11 @@ behind_get rest token tokens e =
 
 -- a question for a datum has `get` in front
 pub asks : (tail : List ℕ) (command : Command) → IsForm (tokens_of (103 ∷ tail)) command → (rest : List ℕ) × (tail ≡ codes "et" ++ rest)
-asks tail command form = let (what, at, token, e, is) = only_g tail command form in (told_token what ++ 32 ∷ token, ap tail_of (line_is (103 ∷ tail) _ e))
+asks tail command form = let (what, at, token, e, is) = only_g tail command form in (datum_name what ++ 32 ∷ token, ap tail_of (line_is (103 ∷ tail) _ e))
 
 -- and then the tokens of a question
 pub asked_args : (rest : List ℕ) (command : Command) → IsForm (tokens_of (103 ∷ 101 ∷ 116 ∷ rest)) command → (what : Datum) × (at : ℕ) × AreAsked (tokens_of rest) what at
-asked_args rest command form = let (what, at, token, e, is) = only_g (101 ∷ 116 ∷ rest) command form in (what, at, (token, behind_get rest (told_token what) (token ∷ []) e, is))
+asked_args rest command form = let (what, at, token, e, is) = only_g (101 ∷ 116 ∷ rest) command form in (what, at, (token, behind_get rest (datum_name what) (token ∷ []) e, is))
 
 -- the same, with the command that it is
 either_is : (b : Bool) (one other command : Command) (tokens : List (List ℕ)) → cond b one other ≡ command → IsForm tokens (cond b one other) → ((one ≡ command) × IsForm tokens one) ⊎ ((other ≡ command) × IsForm tokens other)

@@ -21,7 +21,7 @@ use Rattle.i3c_step.specs.declared.events.Command.{Command as Frame}
 use Rattle.i3c_lines.specs.declared.command.Command.{Command}
 use Rattle.i3c_lines.specs.declared.names.Name.{Name}
 use Rattle.i3c_lines.specs.Forms.{AreAddress, AreByte, AreWritten, IsForm, IsFrameForm, IsNamed, IsPolicyBut, NameEach, WritesIdentity, WritesKinds, willing_tokens}
-use Rattle.i3c_lines.specs.Data.{length_token, told_token}
+use Rattle.i3c_lines.specs.Data.{length_token, datum_name}
 use Rattle.i3c_lines.specs.Naming.{letters}
 use Rattle.i3c_lines.specs.Policies.{AcceptEach, Accepts, IsPolicy, each_kind}
 use Rattle.i3c_lines.specs.Tokens.{IsDecimal, IsDecimalDigit, pair_values}
@@ -275,7 +275,7 @@ policy_but_is args kinds but (front, tokens, e, is, some, are) =
     ap (λ b. cond b (Command.PolicyBut (policy_of (before_but args)) (record { items = map named (behind_but args) })) (Command.Policy (policy_of args))) has
     ∙ (λ i. Command.PolicyBut ((ap policy_of front_is ∙ policy_is front kinds is) i) (record { items = (ap (map named) tokens_are ∙ sym (names_are tokens [] but.items are.0)) i }))
 
-datum_is : (what : Datum) → datum_of (told_token what) ≡ what
+datum_is : (what : Datum) → datum_of (datum_name what) ≡ what
 datum_is Datum.Pid = refl
 datum_is Datum.Bcr = refl
 datum_is Datum.Dcr = refl

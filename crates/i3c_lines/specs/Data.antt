@@ -4,19 +4,19 @@ use Rattle.i3c_base.specs.declared.datum.Datum.{Datum}
 use Rattle.i3c_base.specs.declared.datum.Direction.{Direction}
 
 -- the first token of the line that tells a datum
-abbrev pub told_token : Datum → List ℕ
-told_token Datum.Pid = codes "pid"
-told_token Datum.Bcr = codes "bcr"
-told_token Datum.Dcr = codes "dcr"
-told_token Datum.Status = codes "status"
-told_token Datum.WriteLength = codes "mwl"
-told_token Datum.ReadLength = codes "mrl"
-told_token Datum.Speed = codes "mxds"
-told_token Datum.Capabilities = codes "caps"
+abbrev pub datum_name : Datum → List ℕ
+datum_name Datum.Pid = codes "pid"
+datum_name Datum.Bcr = codes "bcr"
+datum_name Datum.Dcr = codes "dcr"
+datum_name Datum.Status = codes "status"
+datum_name Datum.WriteLength = codes "mwl"
+datum_name Datum.ReadLength = codes "mrl"
+datum_name Datum.Speed = codes "mxds"
+datum_name Datum.Capabilities = codes "caps"
 
 -- the first token of the line that asks for it
 abbrev pub datum_token : Datum → List ℕ
-datum_token what = codes "get" ++ told_token what
+datum_token what = codes "get" ++ datum_name what
 
 -- the first token of the line that sets the maximum length of writes or of reads
 abbrev pub length_token : Direction → List ℕ

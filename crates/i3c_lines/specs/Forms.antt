@@ -10,7 +10,7 @@ use Rattle.i3c_base.specs.declared.requests.Fixed.{Fixed}
 use Rattle.i3c_step.specs.declared.events.Command.{Command as Frame}
 use Rattle.i3c_lines.specs.declared.command.Command.{Command}
 use Rattle.i3c_lines.specs.declared.names.Name.{Name}
-use Rattle.i3c_lines.specs.Data.{datum_token, length_token, told_token}
+use Rattle.i3c_lines.specs.Data.{datum_token, length_token, datum_name}
 use Rattle.i3c_lines.specs.Naming.{is_same, letters}
 use Rattle.i3c_lines.specs.Policies.{AcceptsSome, IsPolicy}
 use Rattle.i3c_lines.specs.Tokens.{AreBytes, IsDecimal, IsHex, IsName, pair_values}
@@ -103,7 +103,7 @@ AreAddresses tokens first second = (one other : List ℕ) × (tokens ≡ one ∷
 
 -- the tokens of a question for a datum, with the letters `get` taken off the first
 abbrev pub AreAsked : List (List ℕ) → Datum → ℕ → Type 0
-AreAsked tokens what at = (token : List ℕ) × (tokens ≡ told_token what ∷ token ∷ []) × WritesAddress token at
+AreAsked tokens what at = (token : List ℕ) × (tokens ≡ datum_name what ∷ token ∷ []) × WritesAddress token at
 
 -- tokens of a declared identity, `ADDR PID BCR DCR`
 abbrev pub AreDeclared : List (List ℕ) → ℕ → Identity → Type 0

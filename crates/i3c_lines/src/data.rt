@@ -1,13 +1,13 @@
 ghost use Rattle.std.specs.Prelude.{◌≡◌, MatchOption};
-ghost use Rattle.i3c_lines.specs.Data.{length_token, told_token};
+ghost use Rattle.i3c_lines.specs.Data.{length_token, datum_name};
 ghost use Rattle.i3c_base.specs.declared.datum.Datum.{Datum};
 
 use i3c_base::{Datum, Direction};
 
 /// The first token of the line that tells a datum (I3C Basic 5.1.9.3). Behind `get` it is the first token of the line that
 /// asks for it.
-pub fn told_token(datum: Datum) -> &'static str
-    ensures { result.now ≡ told_token datum }
+pub fn datum_name(datum: Datum) -> &'static str
+    ensures { result.now ≡ datum_name datum }
 {
     match datum {
         Datum::Pid => "pid",
@@ -23,7 +23,7 @@ pub fn told_token(datum: Datum) -> &'static str
 
 /// The datum that has this token, if one has.
 pub fn datum(token: &[u8]) -> Option<Datum>
-    ensures { MatchOption result ((datum : Datum) → token.now ≡ told_token datum → ⊥) (λ datum. token.now ≡ told_token datum) }
+    ensures { MatchOption result ((datum : Datum) → token.now ≡ datum_name datum → ⊥) (λ datum. token.now ≡ datum_name datum) }
 {
     match token {
         b"pid" => Some(Datum::Pid),

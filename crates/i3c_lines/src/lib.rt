@@ -25,7 +25,7 @@ pub mod tokens;
 
 pub use capitals::push_capitals;
 pub use command::Command;
-pub use data::{datum, length_token, told_token};
+pub use data::{datum, datum_name, length_token};
 pub use fields::Field;
 pub use form_faults::{FormFault, form_fault, push_quoted};
 pub use laws::{

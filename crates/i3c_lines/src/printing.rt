@@ -7,7 +7,7 @@ ghost use Rattle.i3c_lines.specs.Naming.{letters};
 ghost use Rattle.i3c_lines.specs.Printing.{behind, but_tokens, byte_tokens, command_text, device_tokens, frame_tokens, identity_tokens, spaced, verdicts_tokens, written_tokens};
 
 use crate::command::Command;
-use crate::data::{length_token, told_token};
+use crate::data::{datum_name, length_token};
 use crate::names::Name;
 use bitflags::Flags;
 use i3c_base::{Addr7, Datum, Direction, Fixed, Identity, Kinds, Length, Lvr, Pid, Setup, Verdict};
@@ -206,7 +206,7 @@ fn push_get(text: &mut Text, what: Datum, at: Addr7) -> Result<(), AllocError>
     ensures { OnOk result (text.new ≡ text.old ++ spaced (datum_token what ∷ byte_text at ∷ [])) }
 {
     text.push(b"get")?;
-    push_addressed(text, told_token(what).as_bytes(), at)
+    push_addressed(text, datum_name(what).as_bytes(), at)
 }
 
 /// Appends a maximum length, and an address if there is one.

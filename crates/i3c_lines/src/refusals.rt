@@ -1,10 +1,10 @@
 ghost use Rattle.std.specs.Prelude.{◌≡◌, ◌++◌, OnOk};
-ghost use Rattle.i3c_text.specs.declared.stop.Stop.TheVariants.{Refused};
+ghost use Rattle.i3c_text.specs.declared.line_error.LineError.TheVariants.{Refused};
 ghost use Rattle.i3c_lines.specs.Refusing.{bus_token, declare_token, legacy_token};
 
 use i3c_legacy::{DeclareFault, LegacyFault};
 use i3c_step::Refusal as BusRefusal;
-use i3c_text::{Stop, Text};
+use i3c_text::{LineError, Text};
 use std::alloc::AllocError;
 
 /// Why a line was refused. A refused line changes nothing but the cuts that wait, which a frame's line takes. It is
@@ -32,11 +32,11 @@ pub enum Refusal {
     NoEnd,
 }
 
-impl From<Refusal> for Stop<Refusal> {
+impl From<Refusal> for LineError<Refusal> {
     ghost from_gives = { λ refusal stop. stop ≡ Refused refusal };
 
-    fn from(refusal: Refusal) -> Stop<Refusal> {
-        Stop::Refused(refusal)
+    fn from(refusal: Refusal) -> LineError<Refusal> {
+        LineError::Refused(refusal)
     }
 }
 

@@ -4,7 +4,7 @@ use Rattle.std.proofs.lemmas.List.{take_all}
 use Rattle.i3c_frame.specs.declared.symbols.Symbol.{Symbol}
 use Rattle.i3c_monitor.specs.declared.header.Told.{Told}
 use Rattle.i3c_monitor.specs.declared.decoded.Fault.{Fault}
-use Rattle.i3c_text.specs.declared.stop.Stop.{Stop}
+use Rattle.i3c_text.specs.declared.line_error.LineError.{LineError}
 use Rattle.i3c_monitor.specs.Due.{Comes, go_on, written_byte}
 use Rattle.i3c_ccc.specs.declared.codes.Code.{Code}
 use Rattle.i3c_ccc.specs.declared.codes.CodeSet.{CodeSet}
@@ -12,7 +12,7 @@ use Rattle.i3c_ccc.specs.Codes.{code_among, codes_of}
 use Rattle.i3c_monitor.specs.Told.{code_of, command_of}
 
 -- a command whose code was read
-pub code_comes : (codes : CodeSet) (symbols : List Symbol) (before byte : ℕ) (code : Code) (result : Result Told (Stop Fault)) → 1 ≤ length symbols
+pub code_comes : (codes : CodeSet) (symbols : List Symbol) (before byte : ℕ) (code : Code) (result : Result Told (LineError Fault)) → 1 ≤ length symbols
     → written_byte symbols before ≡ Ok byte → code ≡ code_among (codes_of codes) byte
     → Comes (command_of code (take (length symbols - 1) (drop 1 symbols)) (before + 1)) result
     → Comes (code_of codes symbols before) result

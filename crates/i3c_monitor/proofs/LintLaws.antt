@@ -6,10 +6,10 @@ use Rattle.i3c_frame.specs.declared.symbols.Symbol.{Symbol}
 use Rattle.i3c_monitor.specs.declared.header.Header.{Header}
 use Rattle.i3c_monitor.specs.declared.header.Mode.{Mode}
 use Rattle.i3c_monitor.specs.declared.header.Told.{Told}
-use Rattle.i3c_monitor.specs.declared.known.Known.{Known}
+use Rattle.i3c_monitor.specs.declared.address_statuses.AddressStatuses.{AddressStatuses}
 use Rattle.i3c_monitor.specs.declared.lint_fault.LintFault.{LintFault}
 use Rattle.i3c_monitor.specs.declared.report.Report.{Report}
-use Rattle.i3c_monitor.specs.Known.{learned_of}
+use Rattle.i3c_monitor.specs.AddressStatuses.{learned_of}
 use Rattle.i3c_monitor.specs.Lint.{LintLine, header_faults, linted, mode_at, settled, told_at}
 use Rattle.i3c_monitor.specs.Lint.LintLine.{Faulty, Shown}
 use Rattle.i3c_monitor.specs.LintLines.{fault_line, faults_text, lint_text}
@@ -19,7 +19,7 @@ use Rattle.i3c_monitor.specs.Trace.{behind, count_behind, header_in}
 use Rattle.i3c_monitor.proofs.TraceLaws.{behind_fits, unheaded}
 
 -- the symbols behind a header that was told are passed over
-skipped : (legacies : ℕ) (mode : Mode) (frames before : ℕ) (known : Known) (faults : List LintFault) (skip : ℕ) (symbols : List Symbol) → skip ≤ length symbols
+skipped : (legacies : ℕ) (mode : Mode) (frames before : ℕ) (known : AddressStatuses) (faults : List LintFault) (skip : ℕ) (symbols : List Symbol) → skip ≤ length symbols
     → linted legacies mode frames before known faults skip symbols ≡ linted legacies mode frames (before + skip) known faults 0 (drop skip symbols)
 skipped legacies mode frames before known faults zero symbols fits =
     let e : before ≡ before + 0 = omega arith in ap (λ n. linted legacies mode frames n known faults 0 symbols) e
@@ -30,7 +30,7 @@ skipped legacies mode frames before known faults (suc skip) (symbol ∷ rest) fi
     skipped legacies mode frames (before + 1) known faults skip rest less
     ∙ ap (λ n. linted legacies mode frames n known faults 0 (drop skip rest)) e
 
-pub after_behind : (legacies : ℕ) (mode : Mode) (frames before : ℕ) (known : Known) (faults : List LintFault) (count : ℕ) (rest front back : List Symbol)
+pub after_behind : (legacies : ℕ) (mode : Mode) (frames before : ℕ) (known : AddressStatuses) (faults : List LintFault) (count : ℕ) (rest front back : List Symbol)
     → count ≡ count_behind rest → length front ≡ count → back ≡ drop count rest
     → linted legacies mode frames before known faults (count_behind rest) rest ≡ linted legacies mode frames (before + length front) known faults 0 back
 after_behind legacies mode frames before known faults count rest front back is front_is back_is =
@@ -50,7 +50,7 @@ or_this None other = other
 or_this (Some header) other = header
 
 -- what is told of a header, and then
-abbrev headed : ℕ → Mode → ℕ → ℕ → Known → List LintFault → Header → List Symbol → List LintLine
+abbrev headed : ℕ → Mode → ℕ → ℕ → AddressStatuses → List LintFault → Header → List Symbol → List LintLine
 headed legacies mode frames before known faults header rest =
     let told : Told = told_at legacies mode header (behind rest) (before + 1) in
     map Shown (option_to_list told.decoded)
@@ -59,7 +59,7 @@ headed legacies mode frames before known faults header rest =
     (count_behind rest) rest
 
 -- what is to come where a header does
-pub header_first : (legacies : ℕ) (mode : Mode) (frames before : ℕ) (known : Known) (faults : List LintFault) (symbol : Symbol) (rest : List Symbol) (header : Header)
+pub header_first : (legacies : ℕ) (mode : Mode) (frames before : ℕ) (known : AddressStatuses) (faults : List LintFault) (symbol : Symbol) (rest : List Symbol) (header : Header)
     → header_in symbol ≡ Some header
     → linted legacies mode frames before known faults 0 (symbol ∷ rest) ≡ headed legacies mode frames before known faults header rest
 unfolding or_this
@@ -74,14 +74,14 @@ header_first legacies mode frames before known faults (Symbol.AddressByte byte a
 header_first legacies mode frames before known faults (Symbol.LegacyWord byte ack) rest header is = unheaded header is
 
 -- the result of a header that was read: the frame's mode, what it tells, what is known then, and the faults
-abbrev told_on : ℕ → ℕ → ℕ → Known → List LintFault → Header → List Symbol → Mode → List Symbol → Told → List LintLine
+abbrev told_on : ℕ → ℕ → ℕ → AddressStatuses → List LintFault → Header → List Symbol → Mode → List Symbol → Told → List LintLine
 told_on legacies frames before known faults header rest at front found =
     map Shown (option_to_list found.decoded)
     ++ linted legacies found.mode frames before (learned_of before front found.decoded known)
     (faults ++ header_faults legacies known at frames before header front found.decoded) (count_behind rest) rest
 
-pub headed_on : (legacies : ℕ) (mode : Mode) (frames before : ℕ) (known : Known) (faults : List LintFault) (header : Header) (rest front back : List Symbol) (count : ℕ)
-    (at : Mode) (found : Told) (known_then : Known) (faults_then : List LintFault) (shown : List LintLine)
+pub headed_on : (legacies : ℕ) (mode : Mode) (frames before : ℕ) (known : AddressStatuses) (faults : List LintFault) (header : Header) (rest front back : List Symbol) (count : ℕ)
+    (at : Mode) (found : Told) (known_then : AddressStatuses) (faults_then : List LintFault) (shown : List LintLine)
     → front ≡ behind rest → at ≡ mode_at legacies mode header front → found ≡ settled (told CodeSet.Extended at header front before)
     → known_then ≡ learned_of before front found.decoded known → faults_then ≡ faults ++ header_faults legacies known at frames before header front found.decoded
     → shown ≡ map Shown (option_to_list found.decoded) → count ≡ count_behind rest → length front ≡ count → back ≡ drop count rest

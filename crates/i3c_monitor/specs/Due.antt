@@ -7,7 +7,7 @@ use Rattle.i3c_deftgts.specs.declared.faults.ListFault.{ListFault}
 use Rattle.i3c_deftgts.specs.Layout.{bytes}
 use Rattle.i3c_deftgts.specs.Reading.{entries_in, first_fault}
 use Rattle.i3c_monitor.specs.declared.decoded.Fault.{Fault}
-use Rattle.i3c_text.specs.declared.stop.Stop.{Stop}
+use Rattle.i3c_text.specs.declared.line_error.LineError.{LineError}
 
 -- the result of a part, and then of the step that needs it
 abbrev pub go_on : {A B : Type 0} → Result A Fault → (A → Result B Fault) → Result B Fault
@@ -15,10 +15,10 @@ go_on (Ok part) more = more part
 go_on (Err fault) more = Err fault
 
 -- a call has this result, unless it lacks memory
-abbrev pub Comes : {A : Type 0} → Result A Fault → Result A (Stop Fault) → Type 0
+abbrev pub Comes : {A : Type 0} → Result A Fault → Result A (LineError Fault) → Type 0
 Comes wanted (Ok part) = wanted ≡ Ok part
-Comes wanted (Err (Stop.Refused fault)) = wanted ≡ Err fault
-Comes wanted (Err Stop.Memory) = Unit {0}
+Comes wanted (Err (LineError.Refused fault)) = wanted ≡ Err fault
+Comes wanted (Err LineError.Memory) = Unit {0}
 
 -- the expected word, or the fault that another symbol or none is in its place
 abbrev pub due_word : List Symbol → ℕ → Result Word Fault

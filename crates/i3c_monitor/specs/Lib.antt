@@ -1,5 +1,5 @@
 pub mod Due
-pub mod Known
+pub mod AddressStatuses
 pub mod Lines
 pub mod Lint
 pub mod LintLines

@@ -14,11 +14,11 @@ use Rattle.i3c_monitor.specs.declared.decoded.Fault.{Fault}
 use Rattle.i3c_monitor.specs.declared.header.Header.{Header}
 use Rattle.i3c_monitor.specs.declared.header.Mode.{Mode}
 use Rattle.i3c_monitor.specs.declared.header.Told.{Told}
-use Rattle.i3c_monitor.specs.declared.known.Known.{Known}
-use Rattle.i3c_monitor.specs.declared.known.Owner.{Owner}
+use Rattle.i3c_monitor.specs.declared.address_statuses.AddressStatuses.{AddressStatuses}
+use Rattle.i3c_monitor.specs.declared.address_statuses.Owner.{Owner}
 use Rattle.i3c_monitor.specs.declared.lint_fault.Breach.{Breach}
 use Rattle.i3c_monitor.specs.declared.lint_fault.LintFault.{LintFault}
-use Rattle.i3c_monitor.specs.Known.{dynamic_in, forgotten, learned_of, present, status_of}
+use Rattle.i3c_monitor.specs.AddressStatuses.{dynamic_in, forgotten, learned_of, present, status_of}
 use Rattle.i3c_monitor.specs.Told.{told}
 use Rattle.i3c_monitor.specs.Trace.{behind, count_behind}
 
@@ -89,13 +89,13 @@ may_be_legacy (Decoded.Transfer a read (Some span)) symbols = not (begins_with i
 may_be_legacy _ symbols = false
 
 -- no owner was given to this address, in a trace that shows owners
-abbrev pub nobody_at : ℕ → Known → ℕ → ℕ → Option ℕ → Option LintFault
+abbrev pub nobody_at : ℕ → AddressStatuses → ℕ → ℕ → Option ℕ → Option LintFault
 nobody_at legacies known frame number None = None
 nobody_at legacies known frame number (Some a) =
     fault_if (known.shown && (not (is_in legacies a) && is_nobodys (status_of a known).owner)) frame number (Breach.Nobody a)
 
 -- a header speaks to an address that nobody was given
-abbrev pub nobody_fault : ℕ → Known → ℕ → ℕ → List Symbol → Decoded → Option LintFault
+abbrev pub nobody_fault : ℕ → AddressStatuses → ℕ → ℕ → List Symbol → Decoded → Option LintFault
 nobody_fault legacies known frame number symbols decoded =
     if may_be_legacy decoded symbols then None else nobody_at legacies known frame number (spoken_to decoded)
 
@@ -105,13 +105,13 @@ silent_since (Owner.Given identity) silent = silent
 silent_since _ silent = None
 
 -- the symbol since which the owner of this address is silent
-abbrev pub silence_at : Known → ℕ → ℕ → Option ℕ → Option LintFault
+abbrev pub silence_at : AddressStatuses → ℕ → ℕ → Option ℕ → Option LintFault
 silence_at known frame number None = None
 silence_at known frame number (Some a) =
     option_map (λ since. fault_at frame number (Breach.Silent a since)) (silent_since (status_of a known).owner (status_of a known).silent)
 
 -- an owner answers or asks that was silent before, and wasn't given the address again
-abbrev pub silence_fault : Known → ℕ → ℕ → Decoded → Option LintFault
+abbrev pub silence_fault : AddressStatuses → ℕ → ℕ → Decoded → Option LintFault
 silence_fault known frame number decoded = silence_at known frame number (present decoded)
 
 -- an address is another identity's
@@ -120,7 +120,7 @@ is_others identity (Owner.Given other) = not (other == identity)
 is_others identity _ = false
 
 -- a round gives an address that another identity was given
-abbrev pub twice_fault : Known → ℕ → ℕ → List Symbol → Option LintFault
+abbrev pub twice_fault : AddressStatuses → ℕ → ℕ → List Symbol → Option LintFault
 twice_fault known frame number (Symbol.Identity identity ∷ Symbol.AddressByte byte true ∷ rest) =
     fault_if (is_others identity (status_of (byte / 2) known).owner) frame (number + 2) (Breach.Twice (byte / 2))
 twice_fault known frame number _ = None
@@ -131,7 +131,7 @@ are_others (Owner.Given identity) owner = is_others identity owner
 are_others _ owner = false
 
 -- SETNEWDA gives an address that another identity was given
-abbrev pub moved_fault : Known → ℕ → ℕ → Decoded → Option LintFault
+abbrev pub moved_fault : AddressStatuses → ℕ → ℕ → Decoded → Option LintFault
 moved_fault known frame number (Decoded.Single Direct.Setnewda a (Some byte)) =
     fault_if (are_others (status_of a known).owner (status_of (byte / 2) known).owner) frame (number + 1) (Breach.Twice (byte / 2))
 moved_fault known frame number _ = None
@@ -240,7 +240,7 @@ all_found (None ∷ rest) = all_found rest
 all_found (Some fault ∷ rest) = fault ∷ all_found rest
 
 -- what is looked for at a header of this number, and in the symbols behind it, in the order in which it is told
-abbrev pub checks : ℕ → Known → Mode → ℕ → ℕ → Header → List Symbol → Option Decoded → List (Option LintFault)
+abbrev pub checks : ℕ → AddressStatuses → Mode → ℕ → ℕ → Header → List Symbol → Option Decoded → List (Option LintFault)
 checks legacies known mode frame number header symbols decoded =
     let rest = heeded header symbols in
     option_and_then (nobody_fault legacies known frame number symbols) decoded
@@ -255,7 +255,7 @@ checks legacies known mode frame number header symbols decoded =
     ∷ []
 
 -- what is found of it
-abbrev pub header_faults : ℕ → Known → Mode → ℕ → ℕ → Header → List Symbol → Option Decoded → List LintFault
+abbrev pub header_faults : ℕ → AddressStatuses → Mode → ℕ → ℕ → Header → List Symbol → Option Decoded → List LintFault
 header_faults legacies known mode frame number header symbols decoded = all_found (checks legacies known mode frame number header symbols decoded)
 
 -- what a linter tells: what is decoded, and faults
@@ -265,7 +265,7 @@ pub data LintLine : Type 0 where
 
 -- what the rest of a trace tells a linter; its first `skip` symbols are behind a header that was told. A frame's faults come
 -- at its end
-abbrev pub linted : ℕ → Mode → ℕ → ℕ → Known → List LintFault → ℕ → List Symbol → List LintLine
+abbrev pub linted : ℕ → Mode → ℕ → ℕ → AddressStatuses → List LintFault → ℕ → List Symbol → List LintLine
 linted legacies mode frames before known faults skip [] = []
 linted legacies mode frames before known faults (suc skip) (symbol ∷ rest) = linted legacies mode frames (before + 1) known faults skip rest
 linted legacies mode frames before known faults zero (Symbol.Start ∷ rest) =

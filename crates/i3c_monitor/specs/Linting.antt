@@ -5,7 +5,7 @@ use Rattle.i3c_monitor.specs.declared.header.Header.{Header}
 use Rattle.i3c_monitor.specs.declared.header.Told.{Told}
 use Rattle.i3c_monitor.specs.declared.linter.Linter.{Linter}
 use Rattle.i3c_monitor.specs.declared.report.Report.{Report}
-use Rattle.i3c_monitor.specs.Known.{learned_of}
+use Rattle.i3c_monitor.specs.AddressStatuses.{learned_of}
 use Rattle.i3c_monitor.specs.Lint.{LintLine, header_faults, linted, mode_at, told_at}
 use Rattle.i3c_monitor.specs.Lint.LintLine.{Shown, Faulty}
 use Rattle.i3c_monitor.specs.Trace.{behind, count_behind}

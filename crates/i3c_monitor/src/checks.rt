@@ -2,12 +2,12 @@ ghost use Rattle.std.specs.Prelude.{◌≡◌, ◌+◌, ◌<◌, ◌++◌, lengt
 ghost use Rattle.std.specs.Option.{option_and_then};
 ghost use Rattle.i3c_monitor.specs.Lint.{all_found, checks, moved_fault, nobody_fault, silence_fault};
 
+use crate::address_statuses::AddressStatuses;
 use crate::behind_faults::{
     ended_fault, heeded, parity_fault, stray_fault, surplus_fault, unanswered_fault,
 };
 use crate::decoded::Decoded;
 use crate::header::{Header, Mode};
-use crate::known::Known;
 use crate::lint::{Spot, moved_fault, nobody_fault, silence_fault, twice_fault};
 use crate::lint_fault::LintFault;
 use i3c_base::Addresses;
@@ -20,7 +20,7 @@ const CHECKS: usize = 9;
 /// What is found at a header, and in the symbols behind it, in the order in which it is told.
 pub(crate) fn checks(
     legacies: Addresses,
-    known: &Known,
+    known: &AddressStatuses,
     spot: Spot,
     mode: &Mode,
     header: &Header,
@@ -47,7 +47,7 @@ pub(crate) fn checks(
 /// The fault of a header that speaks to nobody, if it tells anything.
 fn nobody_found(
     legacies: Addresses,
-    known: &Known,
+    known: &AddressStatuses,
     spot: Spot,
     symbols: &[Symbol],
     decoded: &Option<Decoded>,
@@ -61,7 +61,11 @@ fn nobody_found(
 }
 
 /// The fault of an owner that was silent before, if the header tells anything.
-fn silence_found(known: &Known, spot: Spot, decoded: &Option<Decoded>) -> Option<LintFault>
+fn silence_found(
+    known: &AddressStatuses,
+    spot: Spot,
+    decoded: &Option<Decoded>,
+) -> Option<LintFault>
     ensures { result ≡ option_and_then (silence_fault known.now spot.frame spot.symbol) decoded.now }
 {
     match decoded {
@@ -71,7 +75,7 @@ fn silence_found(known: &Known, spot: Spot, decoded: &Option<Decoded>) -> Option
 }
 
 /// The fault of an address that SETNEWDA gives, if the header tells anything.
-fn moved_found(known: &Known, spot: Spot, decoded: &Option<Decoded>) -> Option<LintFault>
+fn moved_found(known: &AddressStatuses, spot: Spot, decoded: &Option<Decoded>) -> Option<LintFault>
     requires { spot.symbol < usize.MAX }
     ensures { result ≡ option_and_then (moved_fault known.now spot.frame spot.symbol) decoded.now }
 {

@@ -7,7 +7,7 @@ use crate::header::{Mode, Told};
 use crate::words::{read_entries, written_byte, written_length};
 use i3c_ccc::{Code, CodeSet};
 use i3c_frame::Symbol;
-use i3c_text::Stop;
+use i3c_text::LineError;
 use std::alloc::Global;
 
 /// What follows `7E`/W: the code of a command, and what is read with it, where these codes are known by name (I3C Basic
@@ -18,7 +18,7 @@ pub(crate) fn read_code(
     codes: CodeSet,
     symbols: &[Symbol],
     before: usize,
-) -> Result<Told, Stop<Fault>>
+) -> Result<Told, LineError<Fault>>
     requires { before + length symbols.now < usize.MAX }
     ensures { Comes (code_told codes symbols.now before) result }
 {
@@ -36,7 +36,7 @@ fn read_command(
     code: Code,
     symbols: &[Symbol],
     before: usize,
-) -> Result<Told, Stop<Fault>>
+) -> Result<Told, LineError<Fault>>
     requires { before + length symbols.now < usize.MAX }
     ensures { Comes (command_of code symbols.now before) result }
 {

@@ -1,11 +1,11 @@
 ghost use Rattle.std.specs.Prelude.{◌≡◌};
-ghost use Rattle.i3c_monitor.specs.Known.{dynamic_in};
-ghost use Rattle.i3c_text.specs.declared.stop.Stop.TheVariants.{Refused as StopRefused};
+ghost use Rattle.i3c_monitor.specs.AddressStatuses.{dynamic_in};
+ghost use Rattle.i3c_text.specs.declared.line_error.LineError.TheVariants.{Refused as StopRefused};
 
 use i3c_base::{Addr7, Datum, Direction, Request};
 use i3c_deftgts::ListFault;
 use i3c_frame::Symbol;
-use i3c_text::Stop;
+use i3c_text::LineError;
 use thiserror::Error;
 
 /// A direct command: each target that it is for has a header of its own (I3C Basic 5.1.9.1).
@@ -106,7 +106,7 @@ pub enum Decoded {
 
 impl Decoded {
     ghost use Rattle.std.specs.Prelude.{◌≡◌};
-    ghost use Rattle.i3c_monitor.specs.Known.{absent, present};
+    ghost use Rattle.i3c_monitor.specs.AddressStatuses.{absent, present};
     ghost use Rattle.i3c_monitor.specs.Lint.{spoken_to};
 
     /// The dynamic address of a single target to which a header speaks.
@@ -197,10 +197,10 @@ pub enum Fault {
     List(ListFault),
 }
 
-impl From<Fault> for Stop<Fault> {
+impl From<Fault> for LineError<Fault> {
     ghost from_gives = { λ fault stop. stop ≡ StopRefused fault };
 
-    fn from(fault: Fault) -> Stop<Fault> {
-        Stop::Refused(fault)
+    fn from(fault: Fault) -> LineError<Fault> {
+        LineError::Refused(fault)
     }
 }

@@ -10,7 +10,7 @@ use crate::words::{due_word, written_byte, written_length};
 use i3c_base::{Addr7, Datum, Direction, Request};
 use i3c_ccc::CodeSet;
 use i3c_frame::Symbol;
-use i3c_text::Stop;
+use i3c_text::LineError;
 use std::alloc::{AllocError, Global};
 
 /// The address that every I3C device hears (I3C Basic 5.1.2.2.1).
@@ -109,7 +109,7 @@ pub(crate) fn read_header(
     header: &Header,
     symbols: &[Symbol],
     before: usize,
-) -> Result<Told, Stop<Fault>>
+) -> Result<Told, LineError<Fault>>
     requires { before + length symbols.now < usize.MAX }
     ensures { Comes (told codes mode.now header.now symbols.now before) result }
 {
@@ -152,8 +152,8 @@ pub(crate) fn settled_header(
 {
     match read_header(alloc, CodeSet::Extended, mode, header, symbols, before) {
         Ok(told) => Ok(told),
-        Err(Stop::Refused(fault)) => Ok(Told::one(Decoded::Refused(fault), Mode::Skipped)),
-        Err(Stop::Memory) => Err(AllocError),
+        Err(LineError::Refused(fault)) => Ok(Told::one(Decoded::Refused(fault), Mode::Skipped)),
+        Err(LineError::Memory) => Err(AllocError),
     }
 }
 

@@ -12,13 +12,13 @@
 //! What a monitor and a linter both call is in line in both: a call for each header would cost `trace` a sixth more.
 #![tactic(auto)]
 
+mod address_statuses;
 mod behind;
 mod behind_faults;
 mod checks;
 mod commands;
 mod decoded;
 mod header;
-mod known;
 mod lint;
 mod lint_fault;
 mod lint_printing;

@@ -1,9 +1,9 @@
 ghost use Rattle.std.specs.Prelude.{◌≡◌, ◌+◌, ◌<◌, length};
 ghost use Rattle.i3c_monitor.specs.Lint.{are_others, begins_with, carries_more, fault_at, fault_if, is_nobodys, is_others, is_transfer, is_word, may_be_legacy, mode_at, moved_fault, nobody_fault, silence_fault, silent_since, twice_fault};
 
+use crate::address_statuses::{AddressStatuses, Owner};
 use crate::decoded::{Decoded, Direct};
 use crate::header::{BROADCAST, Header, Mode};
-use crate::known::{Known, Owner};
 use crate::lint_fault::{Breach, LintFault};
 use i3c_base::{Addr7, Addresses};
 use i3c_frame::Symbol;
@@ -54,7 +54,7 @@ pub(crate) fn begins_with_word(symbols: &[Symbol]) -> bool
 /// The fault of a header that speaks to an address that nobody was given (I3C Basic 5.1.4).
 pub(crate) fn nobody_fault(
     legacies: Addresses,
-    known: &Known,
+    known: &AddressStatuses,
     spot: Spot,
     symbols: &[Symbol],
     decoded: &Decoded,
@@ -89,7 +89,11 @@ fn may_be_legacy(decoded: &Decoded, symbols: &[Symbol]) -> bool
 }
 
 /// The fault of an owner that answers or asks, and was silent before, without having been given the address again.
-pub(crate) fn silence_fault(known: &Known, spot: Spot, decoded: &Decoded) -> Option<LintFault>
+pub(crate) fn silence_fault(
+    known: &AddressStatuses,
+    spot: Spot,
+    decoded: &Decoded,
+) -> Option<LintFault>
     ensures { result ≡ silence_fault known.now spot.frame spot.symbol decoded.now }
 {
     let address = decoded.present()?;
@@ -109,7 +113,11 @@ fn silent_since(owner: &Owner, silent: Option<usize>) -> Option<usize>
 }
 
 /// The fault of a round that gives an address that another identity was given (I3C Basic 5.1.4.2).
-pub(crate) fn twice_fault(known: &Known, spot: Spot, symbols: &[Symbol]) -> Option<LintFault>
+pub(crate) fn twice_fault(
+    known: &AddressStatuses,
+    spot: Spot,
+    symbols: &[Symbol],
+) -> Option<LintFault>
     requires { spot.symbol + length symbols.now < usize.MAX }
     ensures { result ≡ twice_fault known.now spot.frame spot.symbol symbols.now }
 {
@@ -133,7 +141,11 @@ pub(crate) fn twice_fault(known: &Known, spot: Spot, symbols: &[Symbol]) -> Opti
 }
 
 /// The fault of SETNEWDA that gives an address which another identity was given (I3C Basic 5.1.9.3.11).
-pub(crate) fn moved_fault(known: &Known, spot: Spot, decoded: &Decoded) -> Option<LintFault>
+pub(crate) fn moved_fault(
+    known: &AddressStatuses,
+    spot: Spot,
+    decoded: &Decoded,
+) -> Option<LintFault>
     requires { spot.symbol < usize.MAX }
     ensures { result ≡ moved_fault known.now spot.frame spot.symbol decoded.now }
 {

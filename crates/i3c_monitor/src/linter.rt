@@ -1,10 +1,10 @@
 ghost use Rattle.std.specs.Prelude.{◌+◌, ◌^◌, ◌<◌, ◌≤◌, length};
 
+use crate::address_statuses::AddressStatuses;
 use crate::behind::count_behind;
 use crate::checks::{checks, push_found};
 use crate::decoded::Decoded;
 use crate::header::{Header, Mode, settled_header};
-use crate::known::Known;
 use crate::lint::{Spot, mode_at};
 use crate::lint_fault::LintFault;
 use crate::report::Report;
@@ -26,7 +26,7 @@ pub struct Linter<'a> {
     /// How many frames have begun.
     frames: usize,
     mode: Mode,
-    known: Known,
+    known: AddressStatuses,
     /// The faults of the frame so far.
     faults: Vec<LintFault>,
     ghost in_range: { before + length rest.now + 1 < 2 ^ 64 },
@@ -49,7 +49,7 @@ impl<'a> Linter<'a> {
             before: 0,
             frames: 0,
             mode: Mode::Skipped,
-            known: Known::new(),
+            known: AddressStatuses::new(),
             faults: Vec::new(alloc),
         }
     }

@@ -5,7 +5,7 @@ use crate::decoded::Decoded;
 use crate::header::{Header, Mode, read_header};
 use i3c_ccc::CodeSet;
 use i3c_frame::Symbol;
-use i3c_text::Stop;
+use i3c_text::LineError;
 use std::alloc::{AllocError, Global};
 
 /// A monitor goes through the symbols of a trace and tells what they are.
@@ -104,11 +104,11 @@ impl<'a> Monitor<'a> {
                 self.mode = told.mode;
                 Ok(told.decoded)
             }
-            Err(Stop::Refused(fault)) => {
+            Err(LineError::Refused(fault)) => {
                 self.rest = &[];
                 Ok(Some(Decoded::Refused(fault)))
             }
-            Err(Stop::Memory) => Err(AllocError),
+            Err(LineError::Memory) => Err(AllocError),
         }
     }
 }

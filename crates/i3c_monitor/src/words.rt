@@ -5,7 +5,7 @@ ghost use Rattle.i3c_monitor.specs.Due.{Comes, broken, due_word, entries_told, w
 use crate::decoded::Fault;
 use i3c_deftgts::{ListFault, read_list};
 use i3c_frame::Symbol;
-use i3c_text::Stop;
+use i3c_text::LineError;
 use i3c_word::{Word, read_word};
 use std::alloc::{AllocError, Global};
 
@@ -55,18 +55,18 @@ pub(crate) fn read_entries(
     alloc: Global,
     symbols: &[Symbol],
     before: usize,
-) -> Result<usize, Stop<Fault>>
+) -> Result<usize, LineError<Fault>>
     requires { before + length symbols.now < usize.MAX }
     ensures { Comes (entries_told symbols.now before) result }
 {
     let words = leading_words(alloc, symbols)?;
     if words.len() < symbols.len() {
         let number = before + words.len() + 1;
-        return Err(Stop::Refused(broken_list(&words, number)));
+        return Err(LineError::Refused(broken_list(&words, number)));
     }
     match read_list(&words) {
         Ok(list) => Ok(list.len()),
-        Err(fault) => Err(Stop::Refused(Fault::List(fault))),
+        Err(fault) => Err(LineError::Refused(Fault::List(fault))),
     }
 }
 

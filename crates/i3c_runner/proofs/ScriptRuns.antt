@@ -5,7 +5,7 @@ use Rattle.std.proofs.lemmas.List.{length-drop, take_all}
 use Rattle.std.proofs.lemmas.List.Elements.{All-append}
 use Rattle.i3c_lines.specs.declared.refusals.Refusal.{Refusal}
 use Rattle.i3c_streams.specs.declared.faults.ScriptFault.{ScriptFault}
-use Rattle.i3c_text.specs.declared.stop.Stop.{Stop}
+use Rattle.i3c_text.specs.declared.line_error.LineError.{LineError}
 use Rattle.std.specs.Io.KnownBytes.{Appends}
 use Rattle.i3c_lines.specs.Forms.{HasNoForm, IsCommand, IsSkipped}
 use Rattle.i3c_facts.specs.Forms.{IsMark}
@@ -18,34 +18,34 @@ use Rattle.i3c_script.specs.Stops.{refusals}
 use Rattle.i3c_runner.proofs.Gathered.{flush_all, flush_some, puts_both, puts_none, some_puts}
 
 -- the refusal that a line comes to
-unfoldable pub refusal_in : Result (Unit {0}) (Stop Refusal) → Option Refusal
+unfoldable pub refusal_in : Result (Unit {0}) (LineError Refusal) → Option Refusal
 refusal_in (Ok done) = None
-refusal_in (Err Stop.Memory) = None
-refusal_in (Err (Stop.Refused why)) = Some why
+refusal_in (Err LineError.Memory) = None
+refusal_in (Err (LineError.Refused why)) = Some why
 
-pub its_text : (outcome : Result (Unit {0}) (Stop Refusal)) → end_text outcome ≡ refused_text (refusal_in outcome)
+pub its_text : (outcome : Result (Unit {0}) (LineError Refusal)) → end_text outcome ≡ refused_text (refusal_in outcome)
 unfolding refusal_in
 its_text (Ok done) = refl
-its_text (Err Stop.Memory) = refl
-its_text (Err (Stop.Refused why)) = refl
+its_text (Err LineError.Memory) = refl
+its_text (Err (LineError.Refused why)) = refl
 
-pub its_refusals : (outcome : Result (Unit {0}) (Stop Refusal)) → refusals outcome ≡ refusals_of (refusal_in outcome)
+pub its_refusals : (outcome : Result (Unit {0}) (LineError Refusal)) → refusals outcome ≡ refusals_of (refusal_in outcome)
 unfolding refusal_in
 its_refusals (Ok done) = refl
-its_refusals (Err Stop.Memory) = refl
-its_refusals (Err (Stop.Refused why)) = refl
+its_refusals (Err LineError.Memory) = refl
+its_refusals (Err (LineError.Refused why)) = refl
 
 -- a result that passes isn't short of memory
 pub passes : (result : Result (Unit {0}) ScriptFault) (done : Unit {0}) → result ≡ Ok done → result ≡ Err ScriptFault.Memory → ⊥
 passes result done one two = subst (λ r. MatchResult r (λ _. ⊥) (λ _. Unit {0})) (sym two ∙ one) tt
 
 -- what a line did that isn't short of memory
-pub does_in : (old : Standing) (line : List ℕ) (before after : List ℕ) (outcome : Result (Unit {0}) (Stop Refusal)) (new : Standing) → Reads old line before after outcome new → before ≡ [] → outcome ≢ Err Stop.Memory
+pub does_in : (old : Standing) (line : List ℕ) (before after : List ℕ) (outcome : Result (Unit {0}) (LineError Refusal)) (new : Standing) → Reads old line before after outcome new → before ≡ [] → outcome ≢ Err LineError.Memory
     → LineRuns old line after (refusal_in outcome) new
 unfolding refusal_in
 does_in old line before after (Ok done) new (said, told, does) none alive = subst (λ t. LineRuns old line t None new) (sym (told ∙ ap (λ t. t ++ said) none)) does
-does_in old line before after (Err (Stop.Refused why)) new (said, told, does) none alive = subst (λ t. LineRuns old line t (Some why) new) (sym (told ∙ ap (λ t. t ++ said) none)) does
-does_in old line before after (Err Stop.Memory) new reads none alive = absurd (alive refl)
+does_in old line before after (Err (LineError.Refused why)) new (said, told, does) none alive = subst (λ t. LineRuns old line t (Some why) new) (sym (told ∙ ap (λ t. t ++ said) none)) does
+does_in old line before after (Err LineError.Memory) new reads none alive = absurd (alive refl)
 
 -- a line is read by the bytes that tell what it is
 length_taken : (n : ℕ) (line : List ℕ) → length (take n line) ≡ min n (length line)
@@ -237,7 +237,7 @@ held_runs begun bytes old new from to (Err fault) one two ends =
     subst (λ b. RunStops b old new from fault) (append_assoc begun bytes (10 ∷ [])) (line_stops fault (begun ++ bytes) old new from (no_feed_in_both begun bytes one two) (stops_whole fault (begun ++ bytes) old new from ends))
 
 -- the effect of a line that was run
-pub line_ran : (line text : List ℕ) (outcome : Result (Unit {0}) (Stop Refusal)) (old new : Output) (from to : Progress)
+pub line_ran : (line text : List ℕ) (outcome : Result (Unit {0}) (LineError Refusal)) (old new : Output) (from to : Progress)
     → LineRuns from.state line text (refusal_in outcome) to.state → Puts old new (text ++ end_text outcome) → to.refused ≡ min (from.refused + refusals outcome) 18446744073709551615 → LineDone line old new from to
 line_ran line text outcome old new from to does out count = record {
   said = text;
@@ -247,7 +247,7 @@ line_ran line text outcome old new from to does out count = record {
   count = count ∙ ap (λ n. min (from.refused + n) 18446744073709551615) (its_refusals outcome);
 }
 
-pub line_lost : (line text : List ℕ) (outcome : Result (Unit {0}) (Stop Refusal)) (old new : Output) (from : Progress) (to : Standing)
+pub line_lost : (line text : List ℕ) (outcome : Result (Unit {0}) (LineError Refusal)) (old new : Output) (from : Progress) (to : Standing)
     → LineRuns from.state line text (refusal_in outcome) to → PutsSome old new (text ++ end_text outcome) → LineLost line old new from
 line_lost line text outcome old new from to does out = record {
   said = text;
@@ -321,7 +321,7 @@ runs_flushed_last bytes rest old mid new from to (Err fault) result stops last =
     stopped (RunsTo bytes rest old (written new) from to) (RunStops bytes old (written new) from) result (stops_flushed bytes old mid new from fault result stops last)
 
 -- a line whose text is put behind
-pub line_put : (line text : List ℕ) (outcome : Result (Unit {0}) (Stop Refusal)) (old new : Output) (from to : Progress) (result : Result (Unit {0}) ScriptFault)
+pub line_put : (line text : List ℕ) (outcome : Result (Unit {0}) (LineError Refusal)) (old new : Output) (from to : Progress) (result : Result (Unit {0}) ScriptFault)
     → LineRuns from.state line text (refusal_in outcome) to.state → to.refused ≡ min (from.refused + refusals outcome) 18446744073709551615
     → PutsOrFails old new (text ++ end_text outcome) result → LineEnds line old new from to result
 line_put line text outcome old new from to (Ok done) does count put = line_ran line text outcome old new from to does put count

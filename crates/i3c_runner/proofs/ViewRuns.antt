@@ -2,7 +2,7 @@
 use Rattle.std.proofs.Common.{◌≡◌, ◌⊎◌, ◌∙◌, ℕ, ◌+◌, List, [], ◌∷◌, ◌++◌, min, Option, IfSome, OnOk, Result, Ok, Err, ap, append_assoc, inl, inr, refl, subst, sym}
 use Rattle.i3c_frame.specs.declared.symbols.Symbol.{Symbol}
 use Rattle.i3c_lines.specs.declared.refusals.Refusal.{Refusal}
-use Rattle.i3c_text.specs.declared.stop.Stop.{Stop}
+use Rattle.i3c_text.specs.declared.line_error.LineError.{LineError}
 use Rattle.i3c_script.specs.Obeying.{wire_on}
 use Rattle.i3c_script.specs.Printed.{end_text}
 use Rattle.i3c_script.specs.Stops.{refusals}
@@ -111,7 +111,7 @@ none_viewed gives known old from =
     record { lines = []; to = from; rest = unread known ++ 10 ∷ []; run = refl; seen = refl; first = script_is known known [] [] [] (none_read known [] refl) refl }
 
 -- a line that was run
-pub line_ran : (line said text : List ℕ) (wire : List Symbol) (outcome : Result (Unit {0}) (Stop Refusal)) (from to : Progress) → LineRuns from.state line said (refusal_in outcome) to.state
+pub line_ran : (line said text : List ℕ) (wire : List Symbol) (outcome : Result (Unit {0}) (LineError Refusal)) (from to : Progress) → LineRuns from.state line said (refusal_in outcome) to.state
     → text ≡ said ++ end_text outcome → wire_on to.state.script.stage ≡ kept (wire_on from.state.script.stage ++ wire)
     → to.refused ≡ min (from.refused + refusals outcome) 18446744073709551615 → LineRan line text wire from to
 line_ran line said text wire outcome from to does shows sent count = record {

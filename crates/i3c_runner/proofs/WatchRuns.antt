@@ -4,7 +4,7 @@ use Rattle.std.specs.Fmt.{decimal}
 use Rattle.std.specs.Io.KnownBytes.{Appends}
 use Rattle.i3c_base.specs.Cutting.{CutList}
 use Rattle.i3c_lines.specs.declared.refusals.Refusal.{Refusal}
-use Rattle.i3c_text.specs.declared.stop.Stop.{Stop}
+use Rattle.i3c_text.specs.declared.line_error.LineError.{LineError}
 use Rattle.i3c_script.specs.declared.stage.Stage.{Stage}
 use Rattle.i3c_script.specs.Obeying.{ScriptState}
 use Rattle.i3c_script.specs.Printed.{end_text}
@@ -221,21 +221,21 @@ module _ {T : Type 0} (hears : Hears T) (watching : Watching) (known : Option (L
   }
 
 -- a refusal that is noted changes nothing on the bus
-pub stays_there : (now : Standing) (outcome : Result (Unit {0}) (Stop Refusal)) → (noted now outcome).script ≡ now.script
+pub stays_there : (now : Standing) (outcome : Result (Unit {0}) (LineError Refusal)) → (noted now outcome).script ≡ now.script
 stays_there now (Ok done) = refl
-stays_there now (Err (Stop.Refused why)) = refl
-stays_there now (Err Stop.Memory) = refl
+stays_there now (Err (LineError.Refused why)) = refl
+stays_there now (Err LineError.Memory) = refl
 
 -- what is told of a line that isn't short of memory
-told_in : (watching : Watching) (number : ℕ) (line : List ℕ) (outcome : Result (Unit {0}) (Stop Refusal)) (waited : CutList) (after : ScriptState) (told : List ℕ) → outcome ≢ Err Stop.Memory
+told_in : (watching : Watching) (number : ℕ) (line : List ℕ) (outcome : Result (Unit {0}) (LineError Refusal)) (waited : CutList) (after : ScriptState) (told : List ℕ) → outcome ≢ Err LineError.Memory
     → IsExplainedIf watching number line outcome waited after told → IsTold watching number line (refusal_in outcome) waited after told
 unfolding refusal_in
 told_in watching number line (Ok done) waited after told alive tells on = tells on
-told_in watching number line (Err (Stop.Refused why)) waited after told alive tells on = tells on
-told_in watching number line (Err Stop.Memory) waited after told alive tells on = absurd (alive refl)
+told_in watching number line (Err (LineError.Refused why)) waited after told alive tells on = tells on
+told_in watching number line (Err LineError.Memory) waited after told alive tells on = absurd (alive refl)
 
 -- a line that was run, as it is shown and told
-pub line_ran : (watching : Watching) (number : ℕ) (line said text told : List ℕ) (outcome : Result (Unit {0}) (Stop Refusal)) (waited : CutList) (from to : Progress) → LineRuns from.state line said (refusal_in outcome) to.state → outcome ≢ Err Stop.Memory
+pub line_ran : (watching : Watching) (number : ℕ) (line said text told : List ℕ) (outcome : Result (Unit {0}) (LineError Refusal)) (waited : CutList) (from to : Progress) → LineRuns from.state line said (refusal_in outcome) to.state → outcome ≢ Err LineError.Memory
     → IsExplainedIf watching number line outcome waited to.state.script told → text ≡ numbered_by watching number (echoed watching line ++ (said ++ end_text outcome)) → to.refused ≡ min (from.refused + refusals outcome) 18446744073709551615
     → LineRan watching number line waited text told from to
 line_ran watching number line said text told outcome waited from to does alive tells shows count = record {

@@ -18,7 +18,7 @@ use Rattle.i3c_lines.specs.Faults.{IsEither, IsReason}
 use Rattle.i3c_lines.specs.Forms.{HasNoForm, IsCommand, IsSkipped}
 use Rattle.i3c_lines.specs.Naming.{letters, place_named, slot_named}
 use Rattle.i3c_lines.specs.Refusing.{refusal_text}
-use Rattle.i3c_text.specs.declared.stop.Stop.{Stop}
+use Rattle.i3c_text.specs.declared.line_error.LineError.{LineError}
 use Rattle.i3c_script.specs.declared.stage.Stage.{Stage}
 use Rattle.i3c_script.specs.Obeying.{ScriptState}
 use Rattle.i3c_runner.specs.Expecting.{name_in_slot}
@@ -221,12 +221,12 @@ abbrev pub IsDoneAs : List ℕ → Command → Type 0
 IsDoneAs line command = HasNoForm line ⊎ IsSkipped line ⊎ IsCommand line command
 
 -- the same of a line with this result
-abbrev pub IsReadOf : List ℕ → Result (Unit {0}) (Stop Refusal) → Command → Type 0
+abbrev pub IsReadOf : List ℕ → Result (Unit {0}) (LineError Refusal) → Command → Type 0
 IsReadOf line (Ok done) command = IsDoneAs line command
 IsReadOf line (Err why) command = IsRefusedAs line command
 
 -- all that is told of a line with this result; nothing is said of one that memory is short for
-abbrev pub IsOutcomeTold : ℕ → List ℕ → Result (Unit {0}) (Stop Refusal) → CutList → ScriptState → List ℕ → Type 0
+abbrev pub IsOutcomeTold : ℕ → List ℕ → Result (Unit {0}) (LineError Refusal) → CutList → ScriptState → List ℕ → Type 0
 IsOutcomeTold number line (Ok done) waited after told = IsExplained number line None waited after told
-IsOutcomeTold number line (Err (Stop.Refused why)) waited after told = IsExplained number line (Some why) waited after told
-IsOutcomeTold number line (Err Stop.Memory) waited after told = ⊤
+IsOutcomeTold number line (Err (LineError.Refused why)) waited after told = IsExplained number line (Some why) waited after told
+IsOutcomeTold number line (Err LineError.Memory) waited after told = ⊤

@@ -3,7 +3,7 @@ use Rattle.std.specs.Prelude.{◌≡◌, ⊤, ℕ, ◌+◌, List, [], ◌∷◌,
 use Rattle.std.specs.Io.KnownBytes.{Consumes}
 use Rattle.i3c_lines.specs.declared.refusals.Refusal.{Refusal}
 use Rattle.i3c_streams.specs.declared.faults.ScriptFault.{ScriptFault}
-use Rattle.i3c_text.specs.declared.stop.Stop.{Stop}
+use Rattle.i3c_text.specs.declared.line_error.LineError.{LineError}
 use Rattle.i3c_runner.specs.declared.script.Script.{Script}
 use Rattle.i3c_script.specs.Obeying.{script}
 use Rattle.i3c_script.specs.Telling.{Prints}
@@ -24,17 +24,17 @@ abbrev pub progress : Script → Progress
 progress running = record { state = state running; refused = running.refused }
 
 -- the result of a line, with the output before and after it; nothing is said of a line that memory is short for
-abbrev pub Reads : Standing → List ℕ → List ℕ → List ℕ → Result (Unit {0}) (Stop Refusal) → Standing → Type 0
+abbrev pub Reads : Standing → List ℕ → List ℕ → List ℕ → Result (Unit {0}) (LineError Refusal) → Standing → Type 0
 Reads old line before after result new = Prints (λ said refused. LineRuns old line said refused new) before after result
 
 -- a refusal is noted for the facts behind it
-abbrev pub noted : Standing → Result (Unit {0}) (Stop Refusal) → Standing
+abbrev pub noted : Standing → Result (Unit {0}) (LineError Refusal) → Standing
 noted now (Ok done) = now
-noted now (Err (Stop.Refused why)) = record now { before = Before.Refused why }
-noted now (Err Stop.Memory) = now
+noted now (Err (LineError.Refused why)) = record now { before = Before.Refused why }
+noted now (Err LineError.Memory) = now
 
 -- the result of a line that was counted
-abbrev pub ReadsCounted : Standing → List ℕ → List ℕ → List ℕ → Result (Unit {0}) (Stop Refusal) → Standing → Type 0
+abbrev pub ReadsCounted : Standing → List ℕ → List ℕ → List ℕ → Result (Unit {0}) (LineError Refusal) → Standing → Type 0
 ReadsCounted now line before after result new = Prints (λ said refused. CountedRuns now line said refused new) before after result
 
 -- the expectations that last were tested, and told behind a text
@@ -42,16 +42,16 @@ abbrev pub HaveLasted : Standing → List ℕ → List ℕ → Standing → Type
 HaveLasted now before after new = (told : List ℕ) × (after ≡ before ++ told) × LastsAt now now.script.stage told new
 
 -- expectations that last, tested after a command with this outcome: the line has the same outcome. Nothing is said where memory is short
-abbrev pub Outlasts : Standing → List ℕ → List ℕ → Result (Unit {0}) (Stop Refusal) → Result (Unit {0}) (Stop Refusal) → Standing → Type 0
+abbrev pub Outlasts : Standing → List ℕ → List ℕ → Result (Unit {0}) (LineError Refusal) → Result (Unit {0}) (LineError Refusal) → Standing → Type 0
 Outlasts now before after (Ok done) (Ok same) new = HaveLasted now before after new
-Outlasts now before after (Ok done) (Err (Stop.Refused why)) new = ⊥
-Outlasts now before after (Ok done) (Err Stop.Memory) new = ⊤
-Outlasts now before after (Err (Stop.Refused why)) (Ok done) new = ⊥
-Outlasts now before after (Err (Stop.Refused why)) (Err (Stop.Refused same)) new = (same ≡ why) × HaveLasted (record now { before = Before.Refused why }) before after new
-Outlasts now before after (Err (Stop.Refused why)) (Err Stop.Memory) new = ⊤
-Outlasts now before after (Err Stop.Memory) (Ok done) new = ⊥
-Outlasts now before after (Err Stop.Memory) (Err (Stop.Refused why)) new = ⊥
-Outlasts now before after (Err Stop.Memory) (Err Stop.Memory) new = ⊤
+Outlasts now before after (Ok done) (Err (LineError.Refused why)) new = ⊥
+Outlasts now before after (Ok done) (Err LineError.Memory) new = ⊤
+Outlasts now before after (Err (LineError.Refused why)) (Ok done) new = ⊥
+Outlasts now before after (Err (LineError.Refused why)) (Err (LineError.Refused same)) new = (same ≡ why) × HaveLasted (record now { before = Before.Refused why }) before after new
+Outlasts now before after (Err (LineError.Refused why)) (Err LineError.Memory) new = ⊤
+Outlasts now before after (Err LineError.Memory) (Ok done) new = ⊥
+Outlasts now before after (Err LineError.Memory) (Err (LineError.Refused why)) new = ⊥
+Outlasts now before after (Err LineError.Memory) (Err LineError.Memory) new = ⊤
 
 -- a line was run, and its output was put behind and counted
 pub record LineDone (line : List ℕ) (old new : Output) (from to : Progress) : Type 0 where

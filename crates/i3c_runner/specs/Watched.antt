@@ -5,7 +5,7 @@ use Rattle.std.specs.Io.KnownBytes.{Appends}
 use Rattle.i3c_base.specs.Cutting.{CutList}
 use Rattle.i3c_lines.specs.declared.refusals.Refusal.{Refusal}
 use Rattle.i3c_lines.specs.Faults.{IsReason}
-use Rattle.i3c_text.specs.declared.stop.Stop.{Stop}
+use Rattle.i3c_text.specs.declared.line_error.LineError.{LineError}
 use Rattle.i3c_script.specs.declared.stage.Stage.{Stage}
 use Rattle.i3c_script.specs.Obeying.{ScriptState}
 use Rattle.i3c_streams.specs.declared.faults.ScriptFault.{ScriptFault}
@@ -92,7 +92,7 @@ abbrev pub IsTold : Watching → ℕ → List ℕ → Option Refusal → CutList
 IsTold watching number line refused waited after told = watching.explain ≡ true → IsExplained number line refused waited after told
 
 -- the same of a line with this result
-abbrev pub IsExplainedIf : Watching → ℕ → List ℕ → Result (Unit {0}) (Stop Refusal) → CutList → ScriptState → List ℕ → Type 0
+abbrev pub IsExplainedIf : Watching → ℕ → List ℕ → Result (Unit {0}) (LineError Refusal) → CutList → ScriptState → List ℕ → Type 0
 IsExplainedIf watching number line outcome waited after told = watching.explain ≡ true → IsOutcomeTold number line outcome waited after told
 
 -- if explanations are asked for, the cuts that wait on a stage are known

@@ -110,13 +110,13 @@ impl Check {
         self.text.clear();
         self.reason.clear();
         match line_fault(self.alloc, line)? {
-            Some(fault) => self.tell_fault(number, line, &fault),
+            Some(fault) => self.print_fault(number, line, &fault),
             None => self.check_formed(number, line),
         }
     }
 
     /// Tells why a line has no form.
-    fn tell_fault(
+    fn print_fault(
         &mut self,
         number: u64,
         line: &[u8],
@@ -161,12 +161,12 @@ impl Check {
         };
         match self.names.place_of(name) {
             Some(_) => self.check_meant(number, rest),
-            None => self.tell_name(number, name),
+            None => self.print_name(number, name),
         }
     }
 
     /// Tells a name that no line before gives.
-    fn tell_name(&mut self, number: u64, name: &Name) -> Result<(), AllocError>
+    fn print_name(&mut self, number: u64, name: &Name) -> Result<(), AllocError>
         requires fresh { self.old.text ≡ [] }
         requires silent { self.old.reason ≡ [] }
         ensures told { OnOk result ((self.new.text ≡ told_line number (name_reason name.now)) × (min self.new.told u64.MAX ≡ min (self.old.told + 1) u64.MAX)) }

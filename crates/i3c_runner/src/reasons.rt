@@ -12,7 +12,7 @@ use i3c_bus::{Bus, Command as Frame, Refusal as BusRefusal};
 use i3c_legacy::{DeclareFault, LegacyFault};
 use i3c_lines::{Command, Name, Names, Refusal, form_fault, is_skipped, slot_meant};
 use i3c_script::Stage;
-use i3c_text::{Stop, Text};
+use i3c_text::{LineError, Text};
 use std::alloc::{AllocError, Global};
 
 /// Where a refusal is explained.
@@ -26,16 +26,16 @@ const THERE: &[u8] = b", which is there; the promises leave such devices out (do
 
 /// The state of a script before a line, for its explanation: the cuts that wait.
 #[derive(Drop)]
-pub(crate) struct Known {
+pub(crate) struct Explainer {
     pub(crate) cuts: Cuts,
 }
 
-impl Known {
+impl Explainer {
     /// Before the first line.
-    pub(crate) fn new() -> Known
+    pub(crate) fn new() -> Explainer
         ensures { result.cuts ≡ no_cuts }
     {
-        Known { cuts: Cuts::new() }
+        Explainer { cuts: Cuts::new() }
     }
 
     /// Explains the result of a line that was just obeyed: why it was refused, which of the waiting cuts its frame never
@@ -45,7 +45,7 @@ impl Known {
         script: &Script,
         number: u64,
         line: &[u8],
-        outcome: &Result<(), Stop<Refusal>>,
+        outcome: &Result<(), LineError<Refusal>>,
         text: &mut Text,
     ) -> Result<(), AllocError>
         requires { IsReadOf line.now outcome.now script.now.command }
@@ -57,11 +57,11 @@ impl Known {
                 self.explain_bus(script, number, text)?;
                 explain_done(script, number, line, text)
             }
-            Err(Stop::Refused(why)) => {
+            Err(LineError::Refused(why)) => {
                 explain_refused(script, number, line, why, text)?;
                 self.explain_bus(script, number, text)
             }
-            Err(Stop::Memory) => Err(AllocError),
+            Err(LineError::Memory) => Err(AllocError),
         }
     }
 

@@ -4,7 +4,7 @@ ghost use Rattle.i3c_lines.specs.Gathering.{gathered};
 ghost use Rattle.i3c_streams.specs.Outcomes.{HasNoFeed, output, written};
 ghost use Rattle.i3c_script.specs.Printed.{end_text};
 ghost use Rattle.i3c_facts.specs.declared.before.Before.{Before as BeforeValue};
-ghost use Rattle.i3c_text.specs.declared.stop.Stop.{Stop as StopValue};
+ghost use Rattle.i3c_text.specs.declared.line_error.LineError.{LineError as StopValue};
 ghost use Rattle.i3c_runner.specs.Scripts.{LinesGoOut, refused_text};
 ghost use Rattle.i3c_lines.specs.Forms.{HasNoForm};
 ghost use Rattle.i3c_runner.specs.Expecting.{AlwaysAt, HasBegun, MarkDoes, TestsAt};
@@ -23,7 +23,7 @@ use i3c_script::Stage;
 use i3c_streams::{
     CHUNK, MOST_BYTES, Piece, ScriptFault, Tally, gather, position_of_feed, read_piece, write_last,
 };
-use i3c_text::{Stop, Text};
+use i3c_text::{LineError, Text};
 use std::alloc::{AllocError, Global};
 use std::io::{Read, Write};
 use std::mem;
@@ -228,7 +228,7 @@ impl Script {
 
     /// Obeys a line, if it has a command or is a mark. `settle` notes a refusal. `K` names the caller, so that each caller
     /// has it in line.
-    pub(crate) fn obey<K>(&mut self, line: &[u8]) -> Result<(), Stop<Refusal>>
+    pub(crate) fn obey<K>(&mut self, line: &[u8]) -> Result<(), LineError<Refusal>>
         ensures held { self.new.line ≡ self.old.line }
         ensures gathered { self.new.gathered ≡ self.old.gathered }
         ensures refused { self.new.refused ≡ self.old.refused }
@@ -261,7 +261,7 @@ impl Script {
     /// Obeys a line without a command, which may be a mark.
     #[cold]
     #[inline(never)]
-    fn obey_mark(&mut self, line: &[u8]) -> Result<(), Stop<Refusal>>
+    fn obey_mark(&mut self, line: &[u8]) -> Result<(), LineError<Refusal>>
         requires { HasNoForm line.now }
         ensures held { self.new.line ≡ self.old.line }
         ensures gathered { self.new.gathered ≡ self.old.gathered }
@@ -270,13 +270,13 @@ impl Script {
     {
         match read_mark(self.alloc, line) {
             Ok(Some(mark)) => self.obey_read(mark),
-            Ok(None) => Err(Stop::Refused(Refusal::BadLine)),
-            Err(_) => Err(Stop::Memory),
+            Ok(None) => Err(LineError::Refused(Refusal::BadLine)),
+            Err(_) => Err(LineError::Memory),
         }
     }
 
     /// Obeys a mark that was read.
-    fn obey_read(&mut self, mark: Mark) -> Result<(), Stop<Refusal>>
+    fn obey_read(&mut self, mark: Mark) -> Result<(), LineError<Refusal>>
         ensures held { self.new.line ≡ self.old.line }
         ensures gathered { self.new.gathered ≡ self.old.gathered }
         ensures refused { self.new.refused ≡ self.old.refused }
@@ -294,14 +294,14 @@ impl Script {
     }
 
     /// Tests an expectation that is to last. It lasts if it holds.
-    fn last(&mut self, facts: Facts) -> Result<(), Stop<Refusal>>
+    fn last(&mut self, facts: Facts) -> Result<(), LineError<Refusal>>
         ensures held { self.new.line ≡ self.old.line }
         ensures gathered { self.new.gathered ≡ self.old.gathered }
         ensures refused { self.new.refused ≡ self.old.refused }
         ensures begins { Prints (λ said refused. AlwaysAt (state self.old) self.old.stage facts said refused (noted (state self.new) result)) self.old.text self.new.text result }
     {
         let Stage::Running(running) = &self.stage else {
-            return Err(Stop::Refused(Refusal::NoBus));
+            return Err(LineError::Refused(Refusal::NoBus));
         };
         let number = self.lines;
         let one = Lasting { number, facts };
@@ -321,7 +321,7 @@ impl Script {
     /// Tests the lasting expectations, behind a command with this result.
     #[cold]
     #[inline(never)]
-    fn outlast(&mut self, outcome: Result<(), Stop<Refusal>>) -> Result<(), Stop<Refusal>>
+    fn outlast(&mut self, outcome: Result<(), LineError<Refusal>>) -> Result<(), LineError<Refusal>>
         ensures held { self.new.line ≡ self.old.line }
         ensures gathered { self.new.gathered ≡ self.old.gathered }
         ensures refused { self.new.refused ≡ self.old.refused }
@@ -333,13 +333,13 @@ impl Script {
                 self.retest()?;
                 Ok(())
             }
-            Err(Stop::Refused(why)) => self.outlast_refused(&why),
-            Err(Stop::Memory) => Err(Stop::Memory),
+            Err(LineError::Refused(why)) => self.outlast_refused(&why),
+            Err(LineError::Memory) => Err(LineError::Memory),
         }
     }
 
     /// Tests the expectations that last, behind a command that was refused, and passes the refusal on.
-    fn outlast_refused(&mut self, why: &Refusal) -> Result<(), Stop<Refusal>>
+    fn outlast_refused(&mut self, why: &Refusal) -> Result<(), LineError<Refusal>>
         ensures held { self.new.line ≡ self.old.line }
         ensures gathered { self.new.gathered ≡ self.old.gathered }
         ensures refused { self.new.refused ≡ self.old.refused }
@@ -348,7 +348,7 @@ impl Script {
     {
         self.before = Before::Refused(*why);
         self.retest()?;
-        Err(Stop::Refused(*why))
+        Err(LineError::Refused(*why))
     }
 
     /// Tests the expectations that last: those that don't hold are told, and last no longer.
@@ -376,14 +376,14 @@ impl Script {
     }
 
     /// Tests what is expected, and prints whether it is met.
-    fn test(&mut self, facts: &Facts) -> Result<(), Stop<Refusal>>
+    fn test(&mut self, facts: &Facts) -> Result<(), LineError<Refusal>>
         ensures held { self.new.line ≡ self.old.line }
         ensures gathered { self.new.gathered ≡ self.old.gathered }
         ensures refused { self.new.refused ≡ self.old.refused }
         ensures tests { Prints (λ said refused. TestsAt (state self.old) self.old.stage facts.now said refused (noted (state self.new) result)) self.old.text self.new.text result }
     {
         let Stage::Running(running) = &self.stage else {
-            return Err(Stop::Refused(Refusal::NoBus));
+            return Err(LineError::Refused(Refusal::NoBus));
         };
         let bus = running.bus();
         if facts.hold(bus, &self.names, &self.before) {
@@ -406,10 +406,10 @@ impl Script {
     /// What a line comes to: a refusal is printed, counted and noted, and want of memory ends the run.
     pub(crate) fn settle<K>(
         &mut self,
-        outcome: Result<(), Stop<Refusal>>,
+        outcome: Result<(), LineError<Refusal>>,
     ) -> Result<(), ScriptFault>
         ensures fault { IfErr result (λ fault. fault ≡ ScriptFault.Memory) }
-        ensures memory { outcome ≡ Err Stop.Memory → result ≡ Err ScriptFault.Memory }
+        ensures memory { outcome ≡ Err LineError.Memory → result ≡ Err ScriptFault.Memory }
         ensures told { OnOk result (self.new.text ≡ self.old.text ++ end_text outcome) }
         ensures counted { self.new.refused ≡ min (self.old.refused + refusals outcome) u64.MAX }
         ensures held { self.new.line ≡ self.old.line }
@@ -420,8 +420,8 @@ impl Script {
         let _counted = self.refused;
         match outcome {
             Ok(()) => Ok(()),
-            Err(Stop::Memory) => Err(ScriptFault::Memory),
-            Err(Stop::Refused(refusal)) => self.refuse(&refusal),
+            Err(LineError::Memory) => Err(ScriptFault::Memory),
+            Err(LineError::Refused(refusal)) => self.refuse(&refusal),
         }
     }
 

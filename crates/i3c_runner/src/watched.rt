@@ -6,11 +6,11 @@ ghost use Rattle.i3c_runner.specs.Reasons.{IsReadOf};
 ghost use Rattle.i3c_runner.specs.Watched.{HeardIf, IsExplainedIf, KnowsCuts, WatchedGoesOut, numbered};
 
 use crate::expecting::line_fault;
-use crate::reasons::Known;
+use crate::reasons::Explainer;
 use crate::script::Script;
 use i3c_lines::{FormFault, Refusal};
 use i3c_streams::{CHUNK, MOST_BYTES, ScriptFault, ScriptLines, Tally, Watching, write_out};
-use i3c_text::{Stop, Text};
+use i3c_text::{LineError, Text};
 use std::alloc::{AllocError, Global};
 use std::io::{Read, Write};
 
@@ -72,7 +72,7 @@ struct Watched;
 struct WatchedRun {
     script: Script,
     watching: Watching,
-    known: Known,
+    known: Explainer,
     plain: Text,
     shown: Text,
     told: Text,
@@ -93,7 +93,7 @@ impl WatchedRun {
         WatchedRun {
             script: Script::new(alloc),
             watching,
-            known: Known::new(),
+            known: Explainer::new(),
             plain: Text::new(alloc),
             shown: Text::new(alloc),
             told: Text::new(alloc),
@@ -212,7 +212,7 @@ impl WatchedRun {
         &mut self,
         number: u64,
         line: &[u8],
-        outcome: &Result<(), Stop<Refusal>>,
+        outcome: &Result<(), LineError<Refusal>>,
     ) -> Result<(), AllocError>
         requires { IsReadOf line.now outcome.now self.old.script.command }
         ensures told { OnOk result (IsExplainedIf self.old.watching number line.now outcome.now self.old.known.cuts (state self.old.script).script self.new.told) }

@@ -11,23 +11,23 @@
 //! * `showing` prints a scene, and what is unmet there.
 #![tactic(auto)]
 
-mod known;
 mod line;
-mod live;
 mod machine;
 mod named;
 mod place_byte;
 mod risk;
 mod runner;
 mod scene;
+mod scene_bus;
+mod scene_names;
 mod showing;
 mod ways;
 
 pub use line::{Expectation, Line};
-pub use live::Live;
 pub use named::{Named, place_in};
 pub use place_byte::PlaceByte;
 pub use risk::Risk;
 pub use runner::Runner;
 pub use scene::{BeginFault, Scene};
+pub use scene_bus::SceneBus;
 pub use ways::{Ways, each_is_a_pair, ways_of};

@@ -1,8 +1,8 @@
 use crate::line::Line;
-use crate::live::sends;
 use crate::risk::Risk;
 use crate::runner::Runner;
 use crate::scene::Scene;
+use crate::scene_bus::sends;
 use crate::ways::{Ways, ways_of};
 use i3c_base::Slot;
 use i3c_explore::Machine;

@@ -1,6 +1,6 @@
 use crate::line::Line;
-use crate::live::{Live, sets_some};
 use crate::scene::Scene;
+use crate::scene_bus::{SceneBus, sets_some};
 use crate::ways::Ways;
 use i3c_base::Slot;
 use std::alloc::{AllocError, Global};
@@ -8,7 +8,7 @@ use std::alloc::{AllocError, Global};
 /// A bus awake that lines are run on, one after another.
 #[derive(Drop)]
 pub struct Runner {
-    pub(crate) live: Live,
+    pub(crate) live: SceneBus,
     // where the line that ran last changed one slot at most, this slot
     pub(crate) touched: Option<Slot>,
     // whether the line that ran last may have given a name, or set what frames accept or what has left the log
@@ -22,7 +22,7 @@ impl Runner {
     ghost use Rattle.i3c_scene.specs.Trying.{RunsIn, all_hold};
 
     /// One on which no line ran.
-    pub(crate) fn new(live: Live) -> Runner
+    pub(crate) fn new(live: SceneBus) -> Runner
         ensures { result.live ≡ live }
     {
         Runner {

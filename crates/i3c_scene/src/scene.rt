@@ -1,10 +1,10 @@
 ghost use Rattle.std.specs.Prelude.{◌≡◌, IsTrue};
 
-use crate::known::Known;
-use crate::live::Live;
 use crate::named::Named;
+use crate::scene_bus::SceneBus;
+use crate::scene_names::SceneNames;
 use i3c_base::{Cuts, Setup};
-use i3c_bus::{Bus, Hand, Still};
+use i3c_bus::{Bus, BusSnapshot, Hand};
 use i3c_legacy::Legacies;
 use i3c_script::Settings;
 use std::alloc::{AllocError, Global};
@@ -22,10 +22,10 @@ pub struct Scene {
 /// What a scene has.
 #[derive(Drop)]
 pub(crate) struct Rest {
-    pub still: Box<Still>,
+    pub still: Box<BusSnapshot>,
     pub settings: Settings,
     pub cuts: Cuts,
-    pub known: Known,
+    pub known: SceneNames,
 }
 
 impl Model for Scene {
@@ -84,7 +84,7 @@ impl Scene {
             still,
             settings: Settings::new(),
             cuts: Cuts::new(),
-            known: Known::new(names),
+            known: SceneNames::new(names),
         };
         match Box::new(alloc, rest) {
             Ok(rest) => Ok(Scene { rest }),
@@ -105,7 +105,7 @@ impl Scene {
     }
 
     /// Whether a bus that is awake is the same: in the same state, with the same settings, cuts and names.
-    pub(crate) fn is_same(&self, live: &Live) -> bool
+    pub(crate) fn is_same(&self, live: &SceneBus) -> bool
         ensures { IsTrue result → self.now ≡ live.now }
     {
         let rest = &*self.rest;

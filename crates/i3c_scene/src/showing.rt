@@ -3,9 +3,9 @@ ghost use Rattle.i3c_scene.specs.Shown.{shown_text};
 ghost use Rattle.i3c_scene.specs.Unmet.{LineTells};
 
 use crate::line::{Expectation, Line};
-use crate::live::Live;
 use crate::runner::Runner;
 use crate::scene::Scene;
+use crate::scene_bus::SceneBus;
 use crate::ways::Ways;
 use i3c_facts::Before;
 use i3c_script::show_bus;
@@ -52,7 +52,7 @@ impl Scene {
     }
 }
 
-impl Live {
+impl SceneBus {
     ghost use Rattle.std.specs.Prelude.{◌≡◌, ◌<◌, ◌++◌, ◌^◌, ℕ, List, IfOk, MatchOption, None, Some};
     ghost use Rattle.i3c_facts.specs.declared.before.Before.{Before as BeforeValue};
     ghost use Rattle.i3c_scene.specs.Trying.{RunsIn};
@@ -66,13 +66,13 @@ impl Live {
             × IsTold self.new before line.now.expectations.items told said × (text.new ≡ text.old ++ said)) }
     {
         match self.run(line, ways) {
-            Ok(before) => self.tell_unmet(&before, line.expectations.as_slice(), text),
+            Ok(before) => self.print_unmet(&before, line.expectations.as_slice(), text),
             Err(short) => Err(short),
         }
     }
 
     /// Tells the first expectation that doesn't hold.
-    fn tell_unmet(
+    fn print_unmet(
         &self,
         before: &Before,
         expectations: &[Expectation],

@@ -18,7 +18,7 @@ use Rattle.i3c_bus.specs.Assigning.{AreRounds, IsAssignment, given_reply, last_r
 use Rattle.i3c_bus.specs.Hands.{HandFits, is_session}
 use Rattle.i3c_bus.specs.Wire.{IsWire}
 use Rattle.i3c_lines.specs.declared.refusals.Refusal.{Refusal}
-use Rattle.i3c_text.specs.declared.stop.Stop.{Stop}
+use Rattle.i3c_text.specs.declared.line_error.LineError.{LineError}
 use Rattle.i3c_script.specs.declared.piece.Piece.{Piece}
 use Rattle.i3c_script.specs.declared.settings.Settings.{Settings}
 use Rattle.i3c_script.specs.Assigning.{Assigns, IsSession, IsSessionTold, Rounds}
@@ -49,7 +49,7 @@ module _ {P : Type 0} (past : PastKept P) (note : P → Symbol → P → Type 0)
 
   module _ {L : Type 0} (heard : L → Piece → L) where
     -- a session that was played, or whose opening was refused, is heard
-    pub assigned : {C : Type 0} (st new : State) (settings : Settings) (cuts : CutList) (was now : P) (served : Served) (given : List (ℕ × Identity)) (complete : Bool) (played : Result (Unit {0}) ActiveStays) (before after : L) (result : Result (Unit {0}) (Stop Refusal))
+    pub assigned : {C : Type 0} (st new : State) (settings : Settings) (cuts : CutList) (was now : P) (served : Served) (given : List (ℕ × Identity)) (complete : Bool) (played : Result (Unit {0}) ActiveStays) (before after : L) (result : Result (Unit {0}) (LineError Refusal))
         → OnOk played (Tells note was now (IsAssignment st cuts served given complete new))
         → (C → Step st (Event.OpenDaa cuts) (Reply.Refused BusRefusal.ActiveStays) new) → (C → Tells note was now (IsWire st (Event.OpenDaa cuts) (Reply.Refused BusRefusal.ActiveStays) new)) → IfErr played (λ why. C)
         → Hears heard (IsSessionTold played served given complete) before after result
@@ -65,7 +65,7 @@ module _ {P : Type 0} (past : PastKept P) (note : P → Symbol → P → Type 0)
 module _ {P L : Type 0} (past : PastKept P) (heard : L → Piece → L) where
   -- while a session is open none is opened
   pub stays_open : (hand : Hand) (session : ℕ) (st : State) (settings : Settings) (cuts : CutList) (was : P) (listener : L) → hand ≡ Hand.Session session → HandFits hand st
-      → Hears heard (λ pieces refused. Assigns past (situation st settings cuts was) pieces refused (situation st settings no_cuts was)) listener listener (Err (Stop.Refused (Refusal.Bus BusRefusal.SessionOpen)))
+      → Hears heard (λ pieces refused. Assigns past (situation st settings cuts was) pieces refused (situation st settings no_cuts was)) listener listener (Err (LineError.Refused (Refusal.Bus BusRefusal.SessionOpen)))
   stays_open hand session st settings cuts was listener is fits =
       let opened : st.in_session ≡ true = fits.1 ∙ ap is_session is in
       let refused : Step st (Event.OpenDaa cuts) (Reply.Refused BusRefusal.SessionOpen) st =
@@ -75,7 +75,7 @@ module _ {P L : Type 0} (past : PastKept P) (heard : L → Piece → L) where
       ([], refl, inr (BusRefusal.SessionOpen, unsent past st st settings cuts was (Event.OpenDaa cuts) (Reply.Refused BusRefusal.SessionOpen) refl refused refl, refl, refl))
 
 -- a session uses up the cuts that waited
-pub used_up : {P L : Type 0} (past : PastKept P) (heard : L → Piece → L) (old : Situation P) (st new : State) (settings : Settings) (cuts left : CutList) (was now : P) (before after : L) (result : Result (Unit {0}) (Stop Refusal)) → situation st settings cuts was ≡ old
+pub used_up : {P L : Type 0} (past : PastKept P) (heard : L → Piece → L) (old : Situation P) (st new : State) (settings : Settings) (cuts left : CutList) (was now : P) (before after : L) (result : Result (Unit {0}) (LineError Refusal)) → situation st settings cuts was ≡ old
     → left ≡ no_cuts → Hears heard (λ pieces refused. Assigns past (situation st settings cuts was) pieces refused (situation new settings no_cuts now)) before after result
     → Hears heard (λ pieces refused. Assigns past old pieces refused (situation new settings left now)) before after result
 used_up past heard old st new settings cuts left was now before after result is none assigns =

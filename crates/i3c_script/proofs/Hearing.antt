@@ -3,7 +3,7 @@ use Rattle.std.proofs.Common.{◌≡◌, ◌∙◌, ℕ, List, [], ◌∷◌, �
 use Rattle.std.proofs.lemmas.List.{append-nil}
 use Rattle.std.specs.Prelude.{OnOk}
 use Rattle.i3c_lines.specs.declared.refusals.Refusal.{Refusal}
-use Rattle.i3c_text.specs.declared.stop.Stop.{Stop}
+use Rattle.i3c_text.specs.declared.line_error.LineError.{LineError}
 use Rattle.i3c_script.specs.declared.piece.Piece.{Piece}
 use Rattle.i3c_script.specs.Hearing.{Hears, all_heard}
 use Rattle.i3c_script.specs.Pieces.{with_next}
@@ -32,16 +32,16 @@ module _ {L : Type 0} (heard : L → Piece → L) where
 
   -- a weaker property of pieces holds too
   pub hears_by : (Is Of : List Piece → Option Refusal → Type 0) → ((pieces : List Piece) (refused : Option Refusal) → Is pieces refused → Of pieces refused)
-      → (before after : L) (result : Result (Unit {0}) (Stop Refusal)) → Hears heard Is before after result → Hears heard Of before after result
+      → (before after : L) (result : Result (Unit {0}) (LineError Refusal)) → Hears heard Is before after result → Hears heard Of before after result
   hears_by Is Of of before after (Ok done) (pieces, heard, is) = (pieces, heard, of pieces None is)
-  hears_by Is Of of before after (Err (Stop.Refused why)) (pieces, heard, is) = (pieces, heard, of pieces (Some why) is)
-  hears_by Is Of of before after (Err Stop.Memory) h = h
+  hears_by Is Of of before after (Err (LineError.Refused why)) (pieces, heard, is) = (pieces, heard, of pieces (Some why) is)
+  hears_by Is Of of before after (Err LineError.Memory) h = h
 
 -- what holds of pieces, whoever heard them
-pub unheard : {L : Type 0} (heard : L → Piece → L) (Is : List Piece → Option Refusal → Type 0) (before after : L) (result : Result (Unit {0}) (Stop Refusal)) → Hears heard Is before after result → Ends (λ refused. (pieces : List Piece) × Is pieces refused) result
+pub unheard : {L : Type 0} (heard : L → Piece → L) (Is : List Piece → Option Refusal → Type 0) (before after : L) (result : Result (Unit {0}) (LineError Refusal)) → Hears heard Is before after result → Ends (λ refused. (pieces : List Piece) × Is pieces refused) result
 unheard heard Is before after (Ok done) (pieces, told, is) = (pieces, is)
-unheard heard Is before after (Err (Stop.Refused why)) (pieces, told, is) = (pieces, is)
-unheard heard Is before after (Err Stop.Memory) h = h
+unheard heard Is before after (Err (LineError.Refused why)) (pieces, told, is) = (pieces, is)
+unheard heard Is before after (Err LineError.Memory) h = h
 
 -- a text that hears pieces has their texts behind it
 pub text_heard : (before : List ℕ) (pieces : List Piece) → all_heard with_piece before pieces ≡ before ++ pieces_text pieces
@@ -55,10 +55,10 @@ list_heard before (piece ∷ pieces) = list_heard (before ++ piece ∷ []) piece
 
 -- so what a text hears is what is printed
 pub printed_by : (Is : List Piece → Option Refusal → Type 0) (Of : List ℕ → Option Refusal → Type 0) → ((pieces : List Piece) (refused : Option Refusal) → Is pieces refused → Of (pieces_text pieces) refused)
-    → (before after : List ℕ) (result : Result (Unit {0}) (Stop Refusal)) → Hears with_piece Is before after result → Prints Of before after result
+    → (before after : List ℕ) (result : Result (Unit {0}) (LineError Refusal)) → Hears with_piece Is before after result → Prints Of before after result
 printed_by Is Of of before after (Ok done) (pieces, heard, is) = (pieces_text pieces, heard ∙ text_heard before pieces, of pieces None is)
-printed_by Is Of of before after (Err (Stop.Refused why)) (pieces, heard, is) = (pieces_text pieces, heard ∙ text_heard before pieces, of pieces (Some why) is)
-printed_by Is Of of before after (Err Stop.Memory) h = h
+printed_by Is Of of before after (Err (LineError.Refused why)) (pieces, heard, is) = (pieces_text pieces, heard ∙ text_heard before pieces, of pieces (Some why) is)
+printed_by Is Of of before after (Err LineError.Memory) h = h
 
 -- the same where nothing is refused
 pub text_on : {E : Type 0} (r : Result (Unit {0}) E) (before after : List ℕ) (pieces : List Piece) → OnOk r (after ≡ all_heard with_piece before pieces) → OnOk r (after ≡ before ++ pieces_text pieces)

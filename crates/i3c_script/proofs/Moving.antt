@@ -27,7 +27,7 @@ use Rattle.i3c_bus.specs.Wire.{IsWire}
 use Rattle.i3c_lines.specs.declared.names.Name.{Name}
 use Rattle.i3c_lines.specs.declared.refusals.Refusal.{Refusal}
 use Rattle.i3c_lines.specs.Keeping.{NamesKept, slot_meant}
-use Rattle.i3c_text.specs.declared.stop.Stop.{Stop}
+use Rattle.i3c_text.specs.declared.line_error.LineError.{LineError}
 use Rattle.i3c_script.specs.declared.piece.Piece.{Piece}
 use Rattle.i3c_script.specs.declared.replies.Subject.{Subject}
 use Rattle.i3c_script.specs.declared.settings.Settings.{Settings}
@@ -68,7 +68,7 @@ module _ {P : Type 0} (past : PastKept P) where
 
   module _ {L : Type 0} (heard : L → Piece → L) where
     -- a frame whose cuts are taken before
-    pub answers_framed : (old mid new : Situation P) (event : Event) (before after : L) (result : Result (Unit {0}) (Stop Refusal)) → is_some (cuts_in event) ≡ true → mid ≡ record old { cuts = no_cuts }
+    pub answers_framed : (old mid new : Situation P) (event : Event) (before after : L) (result : Result (Unit {0}) (LineError Refusal)) → is_some (cuts_in event) ≡ true → mid ≡ record old { cuts = no_cuts }
         → Hears heard (λ pieces refused. Answers past mid event pieces refused new) before after result → Hears heard (λ pieces refused. Answers past old event pieces refused new) before after result
     answers_framed old mid new event before after result frame same h =
         hears_by heard (λ pieces refused. Answers past mid event pieces refused new) (λ pieces refused. Answers past old event pieces refused new)
@@ -76,13 +76,13 @@ module _ {P : Type 0} (past : PastKept P) where
         (a.0, framed old new event a.0 frame (subst (λ r. Moves past r event a.0 new) same a.1), subst (λ (r : Situation P). IsTold (subject_of event) (reply_from r.settings.forgotten a.0) pieces refused) same a.2)) before after result h
 
     -- a step whose reply is heard
-    pub answered : (subject : Subject) (old new : Situation P) (event : Event) (reply : Reply) (before after : L) (result : Result (Unit {0}) (Stop Refusal)) → Moves past old event reply new
+    pub answered : (subject : Subject) (old new : Situation P) (event : Event) (reply : Reply) (before after : L) (result : Result (Unit {0}) (LineError Refusal)) → Moves past old event reply new
         → Hears heard (IsTold subject (reply_from old.settings.forgotten reply)) before after result → Hears heard (λ pieces refused. AnswersOf past subject old event pieces refused new) before after result
     answered subject old new event reply before after result move told =
         hears_by heard (IsTold subject (reply_from old.settings.forgotten reply)) (λ pieces refused. AnswersOf past subject old event pieces refused new) (λ pieces refused one. (reply, move, one)) before after result told
 
     -- a line whose name means this slot
-    pub in_slot : {N : Type 0} (kept : NamesKept N) (old new : Situation P) (names : N) (name : Name) (event : ℕ → Event) (slot : ℕ) (before after : L) (result : Result (Unit {0}) (Stop Refusal)) → Ok slot ≡ slot_meant kept names name
+    pub in_slot : {N : Type 0} (kept : NamesKept N) (old new : Situation P) (names : N) (name : Name) (event : ℕ → Event) (slot : ℕ) (before after : L) (result : Result (Unit {0}) (LineError Refusal)) → Ok slot ≡ slot_meant kept names name
         → Hears heard (λ pieces refused. Answers past old (event slot) pieces refused new) before after result → Hears heard (λ pieces refused. AnswersIn past kept old names name event pieces refused new) before after result
     in_slot kept old new names name event slot before after result is told =
         subst (λ r. Hears heard (λ pieces refused. MatchResult r (λ s. Answers past old (event s) pieces refused new) (λ why. (new ≡ old) × IsRefused why pieces refused)) before after result) is told
@@ -143,7 +143,7 @@ unhanded old new frame policy cuts reply step = go (is_handed reply) refl
 
 module _ {P L : Type 0} (past : PastKept P) (heard : L → Piece → L) where
   -- a frame under the role
-  pub sent : (old new : State) (settings : Settings) (fixed : Fixed) (cuts left : CutList) (was now : P) (frame : Frame) (reply : Reply) (before after : L) (result : Result (Unit {0}) (Stop Refusal))
+  pub sent : (old new : State) (settings : Settings) (fixed : Fixed) (cuts left : CutList) (was now : P) (frame : Frame) (reply : Reply) (before after : L) (result : Result (Unit {0}) (LineError Refusal))
       → Accepts settings old fixed → left ≡ no_cuts → Step old (event_of frame fixed cuts) reply new → IsSent past was (IsWire old (event_of frame fixed cuts) reply new) now
       → Hears heard (IsTold (frame_subject frame) (reply_from settings.forgotten reply)) before after result
       → Hears heard (λ pieces refused. Sends past (situation old settings cuts was) frame pieces refused (situation new settings left now)) before after result
@@ -174,7 +174,7 @@ module _ {P : Type 0} (past : PastKept P) where
 
   module _ {L : Type 0} (heard : L → Piece → L) where
     -- a line that sends nothing and takes no cuts, whose reply is heard
-    pub quietly : (old new : State) (settings : Settings) (cuts : CutList) (was : P) (event : Event) (reply : Reply) (before after : L) (result : Result (Unit {0}) (Stop Refusal))
+    pub quietly : (old new : State) (settings : Settings) (cuts : CutList) (was : P) (event : Event) (reply : Reply) (before after : L) (result : Result (Unit {0}) (LineError Refusal))
         → is_some (cuts_in event) ≡ false → is_handed reply ≡ false → reply_from settings.forgotten reply ≡ reply → Step old event reply new → IsWire old event reply new []
         → Hears heard (IsTold (subject_of event) reply) before after result
         → Hears heard (λ pieces refused. Answers past (situation old settings cuts was) event pieces refused (situation new settings cuts was)) before after result

@@ -25,7 +25,7 @@ use Rattle.i3c_lines.specs.declared.names.Place.{Place}
 use Rattle.i3c_lines.specs.declared.refusals.Refusal.{Refusal}
 use Rattle.i3c_lines.specs.Keeping.{NamesKept, NamesSlot, names_kept, slot_meant}
 use Rattle.i3c_lines.specs.Naming.{GivesAlone, legacy_names, place_named, slot_names}
-use Rattle.i3c_text.specs.declared.stop.Stop.{Stop}
+use Rattle.i3c_text.specs.declared.line_error.LineError.{LineError}
 use Rattle.i3c_script.specs.declared.piece.Piece.{Piece}
 use Rattle.i3c_script.specs.declared.replies.Subject.{Subject}
 use Rattle.i3c_script.specs.declared.settings.Settings.{Settings}
@@ -204,9 +204,9 @@ abbrev pub Obeys : ScriptState → Command → List ℕ → Option Refusal → S
 Obeys old command said refused new = ObeysAt old.stage old.names command said refused new
 
 -- a command is obeyed for a listener, unless memory is short
-abbrev pub IsHeard : {L : Type 0} → (L → Piece → L) → ScriptState → Command → L → L → Result (Unit {0}) (Stop Refusal) → ScriptState → Type 0
+abbrev pub IsHeard : {L : Type 0} → (L → Piece → L) → ScriptState → Command → L → L → Result (Unit {0}) (LineError Refusal) → ScriptState → Type 0
 IsHeard heard old command before after result new = Hears heard (λ pieces refused. ComesTo old.stage old.names command pieces refused new) before after result
 
 -- a command is obeyed, unless memory is short
-abbrev pub IsObeyed : ScriptState → Command → List ℕ → List ℕ → Result (Unit {0}) (Stop Refusal) → ScriptState → Type 0
+abbrev pub IsObeyed : ScriptState → Command → List ℕ → List ℕ → Result (Unit {0}) (LineError Refusal) → ScriptState → Type 0
 IsObeyed old command before after result new = Prints (λ said refused. Obeys old command said refused new) before after result

@@ -12,21 +12,21 @@ use Rattle.i3c_frame.specs.Texts.{text_of}
 use Rattle.i3c_lines.specs.declared.names.Name.{Name}
 use Rattle.i3c_lines.specs.declared.names.Names.{Names}
 use Rattle.i3c_text.specs.Hex.{byte_text, bytes_text, hex_text}
-use Rattle.i3c_lines.specs.Data.{told_token}
+use Rattle.i3c_lines.specs.Data.{datum_name}
 use Rattle.i3c_lines.specs.Keeping.{NamesKept}
 use Rattle.i3c_lines.specs.Naming.{letters}
 use Rattle.i3c_lines.specs.Refusing.{refusal_text}
 use Rattle.i3c_lines.specs.declared.refusals.Refusal.{Refusal}
-use Rattle.i3c_text.specs.declared.stop.Stop.{Stop}
+use Rattle.i3c_text.specs.declared.line_error.LineError.{LineError}
 use Rattle.i3c_script.specs.declared.piece.Description.{Description}
 use Rattle.i3c_script.specs.declared.piece.Piece.{Piece}
 use Rattle.i3c_script.specs.Pieces.{numbered_pieces, show_pieces}
 
 -- what a line's end prints: its refusal, if it is refused
-abbrev pub end_text : Result (Unit {0}) (Stop Refusal) → List ℕ
+abbrev pub end_text : Result (Unit {0}) (LineError Refusal) → List ℕ
 end_text (Ok done) = []
-end_text (Err Stop.Memory) = []
-end_text (Err (Stop.Refused why)) = codes "refused " ++ (refusal_text why ++ 10 ∷ [])
+end_text (Err LineError.Memory) = []
+end_text (Err (LineError.Refused why)) = codes "refused " ++ (refusal_text why ++ 10 ∷ [])
 
 -- some tokens and a number
 abbrev pub number_text : List ℕ → ℕ → List ℕ
@@ -150,7 +150,7 @@ piece_text Piece.Asked = codes "asked" ++ 10 ∷ []
 piece_text (Piece.Served served) = served_text served
 piece_text Piece.Done = codes "done" ++ 10 ∷ []
 piece_text (Piece.Bytes bytes) = read_text (codes "bytes") bytes
-piece_text (Piece.Told what bytes) = read_text (told_token what) bytes
+piece_text (Piece.Told what bytes) = read_text (datum_name what) bytes
 piece_text Piece.Opened = codes "open" ++ 10 ∷ []
 piece_text (Piece.Assigned a identity) = assigned_text a identity
 piece_text Piece.Nobody = codes "nobody" ++ 10 ∷ []

@@ -5,7 +5,7 @@ use Rattle.i3c_base.specs.declared.answers.RoundReply.{RoundReply}
 use Rattle.i3c_step.specs.declared.replies.Refusal.{Refusal as BusRefusal}
 use Rattle.i3c_step.specs.declared.replies.Reply.{Reply}
 use Rattle.i3c_lines.specs.declared.refusals.Refusal.{Refusal}
-use Rattle.i3c_text.specs.declared.stop.Stop.{Stop}
+use Rattle.i3c_text.specs.declared.line_error.LineError.{LineError}
 
 -- the answer to a frame's own part as a refusal
 abbrev pub answer_refusal : Answer → Option Refusal
@@ -37,13 +37,13 @@ reply_refusal (Reply.Round answer) = round_refusal answer
 reply_refusal Reply.Ended = None
 
 -- what holds of a line's refusal, or of its having none; of a line that is short of memory nothing is said
-abbrev pub Ends : (Option Refusal → Type 0) → Result (Unit {0}) (Stop Refusal) → Type 0
+abbrev pub Ends : (Option Refusal → Type 0) → Result (Unit {0}) (LineError Refusal) → Type 0
 Ends Is (Ok done) = Is None
-Ends Is (Err (Stop.Refused why)) = Is (Some why)
-Ends Is (Err Stop.Memory) = ⊤
+Ends Is (Err (LineError.Refused why)) = Is (Some why)
+Ends Is (Err LineError.Memory) = ⊤
 
 -- how many refusals a line came to
-abbrev pub refusals : Result (Unit {0}) (Stop Refusal) → ℕ
+abbrev pub refusals : Result (Unit {0}) (LineError Refusal) → ℕ
 refusals (Ok done) = 0
-refusals (Err Stop.Memory) = 0
-refusals (Err (Stop.Refused why)) = 1
+refusals (Err LineError.Memory) = 0
+refusals (Err (LineError.Refused why)) = 1

@@ -3,7 +3,7 @@ use Rattle.std.specs.Prelude.{◌≡◌, ◌≢◌, ℕ, List, ◌++◌, Option,
 use Rattle.i3c_step.specs.declared.replies.Reply.{Reply}
 use Rattle.i3c_log_laws.specs.Behind.{reply_from}
 use Rattle.i3c_lines.specs.declared.refusals.Refusal.{Refusal}
-use Rattle.i3c_text.specs.declared.stop.Stop.{Stop}
+use Rattle.i3c_text.specs.declared.line_error.LineError.{LineError}
 use Rattle.i3c_script.specs.declared.piece.Piece.{Piece}
 use Rattle.i3c_script.specs.declared.replies.Subject.{Subject}
 use Rattle.i3c_script.specs.Pieces.{reply_pieces}
@@ -16,11 +16,11 @@ pub record IsTold (subject : Subject) (reply : Reply) (pieces : List Piece) (ref
   pub refusal : refused ≡ reply_refusal reply
 
 -- a text is printed behind the old one, and holds this with the refusal; of a line that is short of memory nothing is said
-abbrev pub Prints : (List ℕ → Option Refusal → Type 0) → List ℕ → List ℕ → Result (Unit {0}) (Stop Refusal) → Type 0
+abbrev pub Prints : (List ℕ → Option Refusal → Type 0) → List ℕ → List ℕ → Result (Unit {0}) (LineError Refusal) → Type 0
 Prints Is old new result = Ends (λ refused. (said : List ℕ) × (new ≡ old ++ said) × Is said refused) result
 
 -- a reply counts `forgotten` more records, unless the number is too large
-abbrev pub Counts : ℕ → Reply → Reply → Result (Unit {0}) (Stop Refusal) → Type 0
+abbrev pub Counts : ℕ → Reply → Reply → Result (Unit {0}) (LineError Refusal) → Type 0
 Counts forgotten old new (Ok done) = new ≡ reply_from forgotten old
-Counts forgotten old new (Err Stop.Memory) = ⊤
-Counts forgotten old new (Err (Stop.Refused why)) = ⊥
+Counts forgotten old new (Err LineError.Memory) = ⊤
+Counts forgotten old new (Err (LineError.Refused why)) = ⊥

@@ -12,7 +12,7 @@ use crate::replies::hear_session;
 use i3c_base::Cuts;
 use i3c_bus::{ActiveStays, Assignment, Bus, Hand, Refusal as BusRefusal};
 use i3c_lines::Refusal;
-use i3c_text::Stop;
+use i3c_text::LineError;
 
 /// `daa`: plays a whole session, in whose opening these are cut. A request at its opening is turned down. It answers the role
 /// or session in hand afterwards, and the line's result.
@@ -22,7 +22,7 @@ pub(crate) fn assign<P: Past, L: Listener>(
     past: &mut P,
     cuts: &Cuts,
     listener: &mut L,
-) -> (Hand, Result<(), Stop<Refusal>>)
+) -> (Hand, Result<(), LineError<Refusal>>)
     requires fits { HandFits hand bus.old.state }
     ensures assigns { (settings : SettingsValue) → Hears L.heard (λ pieces refused. Assigns P.kept (situation bus.old.state settings cuts.now past.old) pieces refused (situation bus.new.state settings no_cuts past.new)) listener.old listener.new result.1 }
     ensures fits { HandFits result.0 bus.new.state }
@@ -32,7 +32,7 @@ pub(crate) fn assign<P: Past, L: Listener>(
         Hand::Session(session) => {
             return (
                 Hand::Session(session),
-                Err(Stop::Refused(Refusal::Bus(BusRefusal::SessionOpen))),
+                Err(LineError::Refused(Refusal::Bus(BusRefusal::SessionOpen))),
             );
         }
     };
@@ -47,14 +47,14 @@ fn answer_session<L: Listener>(
     assigned: Result<(), ActiveStays>,
     all: &Assignment,
     listener: &mut L,
-) -> Result<(), Stop<Refusal>>
+) -> Result<(), LineError<Refusal>>
     ensures { Hears L.heard (IsSessionTold assigned all.now.served all.now.given.items all.now.complete) listener.old listener.new result }
 {
     match assigned {
         Ok(()) => match hear_session(all, listener) {
             Ok(()) => outcome_of_session(all.complete),
-            Err(_) => Err(Stop::Memory),
+            Err(_) => Err(LineError::Memory),
         },
-        Err(ActiveStays) => Err(Stop::Refused(Refusal::Bus(BusRefusal::ActiveStays))),
+        Err(ActiveStays) => Err(LineError::Refused(Refusal::Bus(BusRefusal::ActiveStays))),
     }
 }

@@ -8,7 +8,7 @@ use crate::piece::{Description, Listener, Piece};
 use i3c_base::{Addr7, Bytes, Identity, Record, Served, Slot};
 use i3c_bus::Request;
 use i3c_frame::Symbol;
-use i3c_lines::{Name, told_token};
+use i3c_lines::{Name, datum_name};
 use i3c_text::Text;
 use std::alloc::AllocError;
 use std::fmt::Write;
@@ -35,7 +35,7 @@ impl Listener for Text {
             Piece::Served(served) => print_served(&served, self),
             Piece::Done => self.push(b"done\n"),
             Piece::Bytes(bytes) => print_read(b"bytes", &bytes, self),
-            Piece::Told(what, bytes) => print_read(told_token(what).as_bytes(), &bytes, self),
+            Piece::Told(what, bytes) => print_read(datum_name(what).as_bytes(), &bytes, self),
             Piece::Opened => self.push(b"open\n"),
             Piece::Assigned(address, identity) => print_assigned(address, &identity, self),
             Piece::Nobody => self.push(b"nobody\n"),

@@ -18,7 +18,7 @@ use i3c_bus::{
     SlotTaken,
 };
 use i3c_lines::{Name, Refusal};
-use i3c_text::Stop;
+use i3c_text::LineError;
 use std::alloc::AllocError;
 
 /// The part of a line's event that its reply doesn't repeat.
@@ -62,7 +62,7 @@ pub(crate) fn answer_frame<L: Listener>(
     frame: &Frame,
     reply: &Reply,
     listener: &mut L,
-) -> Result<(), Stop<Refusal>>
+) -> Result<(), LineError<Refusal>>
     ensures { Hears L.heard (IsTold (frame_subject frame.now) reply.now) listener.old listener.new result }
 {
     match reply {
@@ -73,7 +73,7 @@ pub(crate) fn answer_frame<L: Listener>(
             },
         ) => match listener.hear(Piece::Done) {
             Ok(()) => Ok(()),
-            Err(_) => Err(Stop::Memory),
+            Err(_) => Err(LineError::Memory),
         },
         _ => answer_reply(frame_subject(frame), reply, listener),
     }
@@ -84,12 +84,12 @@ pub(crate) fn answer_reply<L: Listener>(
     subject: Subject,
     reply: &Reply,
     listener: &mut L,
-) -> Result<(), Stop<Refusal>>
+) -> Result<(), LineError<Refusal>>
     ensures { Hears L.heard (IsTold subject reply.now) listener.old listener.new result }
 {
     match hear_reply(subject, reply, listener) {
         Ok(()) => outcome_of(reply),
-        Err(_) => Err(Stop::Memory),
+        Err(_) => Err(LineError::Memory),
     }
 }
 
@@ -99,7 +99,7 @@ pub(crate) fn answer_reply<L: Listener>(
 ///
 /// The number is more than a `usize` holds.
 #[inline(always)]
-pub(crate) fn count_from(forgotten: usize, reply: &mut Reply) -> Result<(), Stop<Refusal>>
+pub(crate) fn count_from(forgotten: usize, reply: &mut Reply) -> Result<(), LineError<Refusal>>
     ensures { Counts forgotten reply.old reply.new result }
 {
     if forgotten == 0 {
@@ -107,7 +107,7 @@ pub(crate) fn count_from(forgotten: usize, reply: &mut Reply) -> Result<(), Stop
     }
     match number_from(forgotten, reply) {
         Ok(()) => Ok(()),
-        Err(_) => Err(Stop::Memory),
+        Err(_) => Err(LineError::Memory),
     }
 }
 
@@ -144,15 +144,15 @@ fn number_served(forgotten: usize, served: &mut Served) -> Result<(), AllocError
 pub(crate) fn answer_raised<L: Listener>(
     raised: Result<u64, RaiseRefusal>,
     listener: &mut L,
-) -> Result<(), Stop<Refusal>>
+) -> Result<(), LineError<Refusal>>
     ensures { Hears L.heard (IsTold SubjectValue.Nothing (raised_reply raised)) listener.old listener.new result }
 {
     match raised {
         Ok(number) => match listener.hear(Piece::Raised(number)) {
             Ok(()) => Ok(()),
-            Err(_) => Err(Stop::Memory),
+            Err(_) => Err(LineError::Memory),
         },
-        Err(why) => Err(Stop::Refused(Refusal::Bus(why.into()))),
+        Err(why) => Err(LineError::Refused(Refusal::Bus(why.into()))),
     }
 }
 
@@ -162,15 +162,15 @@ pub(crate) fn answer_attached<L: Listener>(
     slot: Slot,
     attached: Result<(), SlotTaken>,
     listener: &mut L,
-) -> Result<(), Stop<Refusal>>
+) -> Result<(), LineError<Refusal>>
     ensures { Hears L.heard (IsTold (SubjectValue.Attached name.now slot) (attached_reply attached)) listener.old listener.new result }
 {
     match attached {
         Ok(()) => match listener.hear(Piece::Entered(*name, slot)) {
             Ok(()) => Ok(()),
-            Err(_) => Err(Stop::Memory),
+            Err(_) => Err(LineError::Memory),
         },
-        Err(SlotTaken) => Err(Stop::Refused(Refusal::Bus(BusRefusal::SlotTaken))),
+        Err(SlotTaken) => Err(LineError::Refused(Refusal::Bus(BusRefusal::SlotTaken))),
     }
 }
 
@@ -178,15 +178,15 @@ pub(crate) fn answer_attached<L: Listener>(
 pub(crate) fn answer_dropped<L: Listener>(
     dropped: Result<(), DropRefusal>,
     listener: &mut L,
-) -> Result<(), Stop<Refusal>>
+) -> Result<(), LineError<Refusal>>
     ensures { Hears L.heard (IsTold SubjectValue.Nothing (dropped_reply dropped)) listener.old listener.new result }
 {
     match dropped {
         Ok(()) => match listener.hear(Piece::Dropped) {
             Ok(()) => Ok(()),
-            Err(_) => Err(Stop::Memory),
+            Err(_) => Err(LineError::Memory),
         },
-        Err(why) => Err(Stop::Refused(Refusal::Bus(why.into()))),
+        Err(why) => Err(LineError::Refused(Refusal::Bus(why.into()))),
     }
 }
 
@@ -194,15 +194,15 @@ pub(crate) fn answer_dropped<L: Listener>(
 pub(crate) fn answer_join<L: Listener>(
     asked: Result<(), JoinRefusal>,
     listener: &mut L,
-) -> Result<(), Stop<Refusal>>
+) -> Result<(), LineError<Refusal>>
     ensures { Hears L.heard (IsTold SubjectValue.Nothing (joins_reply asked)) listener.old listener.new result }
 {
     match asked {
         Ok(()) => match listener.hear(Piece::Asked) {
             Ok(()) => Ok(()),
-            Err(_) => Err(Stop::Memory),
+            Err(_) => Err(LineError::Memory),
         },
-        Err(why) => Err(Stop::Refused(Refusal::Bus(why.into()))),
+        Err(why) => Err(LineError::Refused(Refusal::Bus(why.into()))),
     }
 }
 
@@ -210,15 +210,15 @@ pub(crate) fn answer_join<L: Listener>(
 pub(crate) fn answer_role<L: Listener>(
     asked: Result<(), RoleRefusal>,
     listener: &mut L,
-) -> Result<(), Stop<Refusal>>
+) -> Result<(), LineError<Refusal>>
     ensures { Hears L.heard (IsTold SubjectValue.Nothing (role_reply asked)) listener.old listener.new result }
 {
     match asked {
         Ok(()) => match listener.hear(Piece::Asked) {
             Ok(()) => Ok(()),
-            Err(_) => Err(Stop::Memory),
+            Err(_) => Err(LineError::Memory),
         },
-        Err(why) => Err(Stop::Refused(Refusal::Bus(why.into()))),
+        Err(why) => Err(LineError::Refused(Refusal::Bus(why.into()))),
     }
 }
 

@@ -19,11 +19,11 @@ use crate::slot_lookup::{entrance, slot_of_device, slots_of_devices};
 use crate::tenures::is_handed;
 use arrayvec::ArrayVec;
 use i3c_base::{Addr7, Cuts, Fixed, Setup, Slot};
-use i3c_bus::{Bus, Command as Frame, Event, Hand, Reply, Still};
+use i3c_bus::{Bus, BusSnapshot, Command as Frame, Event, Hand, Reply};
 use i3c_frame::Symbol;
 use i3c_legacy::Legacies;
 use i3c_lines::{Command, EXCEPTED, Name, Naming, Refusal, slot_meant};
-use i3c_text::Stop;
+use i3c_text::LineError;
 use std::alloc::{AllocError, Global};
 use std::marker::Model;
 use std::mem;
@@ -137,7 +137,7 @@ impl<P: Past> ScriptBus<P> {
         names: &mut N,
         command: &Command,
         listener: &mut L,
-    ) -> Result<(), Stop<Refusal>>
+    ) -> Result<(), LineError<Refusal>>
         ensures { Hears L.heard (λ pieces refused. ObeysOn P.kept N.kept self.old names.old command.now pieces refused self.new names.new) listener.old listener.new result }
     {
         match command {
@@ -180,12 +180,12 @@ impl<P: Past> ScriptBus<P> {
         name: &Name,
         byte: Option<u8>,
         listener: &mut L,
-    ) -> Result<(), Stop<Refusal>>
+    ) -> Result<(), LineError<Refusal>>
         ensures { Hears L.heard (λ pieces refused. AnswersIn P.kept N.kept self.old names.now name.now (λ slot. EventValue.Raise slot byte) pieces refused self.new) listener.old listener.new result }
     {
         match slot_meant(names, name) {
             Ok(slot) => self.raise_in(slot, byte, listener),
-            Err(why) => Err(Stop::Refused(why)),
+            Err(why) => Err(LineError::Refused(why)),
         }
     }
 
@@ -196,7 +196,7 @@ impl<P: Past> ScriptBus<P> {
         slot: Slot,
         byte: Option<u8>,
         listener: &mut L,
-    ) -> Result<(), Stop<Refusal>>
+    ) -> Result<(), LineError<Refusal>>
         ensures { Hears L.heard (λ pieces refused. Answers P.kept self.old (EventValue.Raise slot byte) pieces refused self.new) listener.old listener.new result }
     {
         let raised = self.bus.raise(slot, byte);
@@ -204,7 +204,11 @@ impl<P: Past> ScriptBus<P> {
     }
 
     /// A line that sends a frame under the role. The frame takes the cuts that wait.
-    fn send<K, L: Listener>(&mut self, frame: &Frame, listener: &mut L) -> Result<(), Stop<Refusal>>
+    fn send<K, L: Listener>(
+        &mut self,
+        frame: &Frame,
+        listener: &mut L,
+    ) -> Result<(), LineError<Refusal>>
         ensures { Hears L.heard (λ pieces refused. Sends P.kept self.old frame.now pieces refused self.new) listener.old listener.new result }
     {
         let Some(hand) = &self.hand else {
@@ -231,7 +235,7 @@ impl<P: Past> ScriptBus<P> {
         name: &Name,
         setup: Setup,
         listener: &mut L,
-    ) -> Result<(), Stop<Refusal>>
+    ) -> Result<(), LineError<Refusal>>
         ensures { Hears L.heard (λ pieces refused. Enters P.kept N.kept self.old names.old name.now setup pieces refused self.new names.new) listener.old listener.new result }
     {
         match entrance(&self.bus, names, name) {
@@ -240,9 +244,9 @@ impl<P: Past> ScriptBus<P> {
                     let attached = self.bus.attach(slot, setup);
                     answer_attached(name, slot, attached, listener)
                 }
-                Err(_) => Err(Stop::Memory),
+                Err(_) => Err(LineError::Memory),
             },
-            Err(why) => Err(Stop::Refused(why)),
+            Err(why) => Err(LineError::Refused(why)),
         }
     }
 
@@ -253,7 +257,7 @@ impl<P: Past> ScriptBus<P> {
         names: &N,
         name: &Name,
         listener: &mut L,
-    ) -> Result<(), Stop<Refusal>>
+    ) -> Result<(), LineError<Refusal>>
         ensures { Hears L.heard (λ pieces refused. AnswersIn P.kept N.kept self.old names.now name.now EventValue.DropOff pieces refused self.new) listener.old listener.new result }
     {
         match slot_meant(names, name) {
@@ -261,7 +265,7 @@ impl<P: Past> ScriptBus<P> {
                 let dropped = self.bus.drop_off(slot);
                 answer_dropped(dropped, listener)
             }
-            Err(why) => Err(Stop::Refused(why)),
+            Err(why) => Err(LineError::Refused(why)),
         }
     }
 
@@ -272,7 +276,7 @@ impl<P: Past> ScriptBus<P> {
         names: &N,
         name: &Name,
         listener: &mut L,
-    ) -> Result<(), Stop<Refusal>>
+    ) -> Result<(), LineError<Refusal>>
         ensures { Hears L.heard (λ pieces refused. AnswersIn P.kept N.kept self.old names.now name.now EventValue.AskJoin pieces refused self.new) listener.old listener.new result }
     {
         match slot_meant(names, name) {
@@ -280,7 +284,7 @@ impl<P: Past> ScriptBus<P> {
                 let asked = self.bus.ask_join(slot);
                 answer_join(asked, listener)
             }
-            Err(why) => Err(Stop::Refused(why)),
+            Err(why) => Err(LineError::Refused(why)),
         }
     }
 
@@ -291,7 +295,7 @@ impl<P: Past> ScriptBus<P> {
         names: &N,
         name: &Name,
         listener: &mut L,
-    ) -> Result<(), Stop<Refusal>>
+    ) -> Result<(), LineError<Refusal>>
         ensures { Hears L.heard (λ pieces refused. AnswersIn P.kept N.kept self.old names.now name.now EventValue.AskRole pieces refused self.new) listener.old listener.new result }
     {
         match slot_meant(names, name) {
@@ -299,13 +303,17 @@ impl<P: Past> ScriptBus<P> {
                 let asked = self.bus.ask_role(slot);
                 answer_role(asked, listener)
             }
-            Err(why) => Err(Stop::Refused(why)),
+            Err(why) => Err(LineError::Refused(why)),
         }
     }
 
     /// `handover`: the role is offered to the device at an address.
     #[inline(never)]
-    fn hand_over<L: Listener>(&mut self, to: Addr7, listener: &mut L) -> Result<(), Stop<Refusal>>
+    fn hand_over<L: Listener>(
+        &mut self,
+        to: Addr7,
+        listener: &mut L,
+    ) -> Result<(), LineError<Refusal>>
         ensures { Hears L.heard (λ pieces refused. Answers P.kept self.old (EventValue.HandOver to self.old.cuts) pieces refused self.new) listener.old listener.new result }
     {
         let cuts = self.take_cuts();
@@ -314,7 +322,7 @@ impl<P: Past> ScriptBus<P> {
 
     /// `open`: a session is opened, and stays open.
     #[inline(never)]
-    fn open<L: Listener>(&mut self, listener: &mut L) -> Result<(), Stop<Refusal>>
+    fn open<L: Listener>(&mut self, listener: &mut L) -> Result<(), LineError<Refusal>>
         ensures { Hears L.heard (λ pieces refused. Answers P.kept self.old (EventValue.OpenDaa self.old.cuts) pieces refused self.new) listener.old listener.new result }
     {
         let cuts = self.take_cuts();
@@ -323,7 +331,7 @@ impl<P: Past> ScriptBus<P> {
 
     /// `round`: one round of the open session.
     #[inline(never)]
-    fn round<L: Listener>(&mut self, listener: &mut L) -> Result<(), Stop<Refusal>>
+    fn round<L: Listener>(&mut self, listener: &mut L) -> Result<(), LineError<Refusal>>
         ensures { Hears L.heard (λ pieces refused. Answers P.kept self.old (EventValue.Round self.old.cuts) pieces refused self.new) listener.old listener.new result }
     {
         let cuts = self.take_cuts();
@@ -332,14 +340,18 @@ impl<P: Past> ScriptBus<P> {
 
     /// `end`: the open session ends.
     #[inline(never)]
-    fn end<L: Listener>(&mut self, listener: &mut L) -> Result<(), Stop<Refusal>>
+    fn end<L: Listener>(&mut self, listener: &mut L) -> Result<(), LineError<Refusal>>
         ensures { Hears L.heard (λ pieces refused. Answers P.kept self.old EventValue.EndDaa pieces refused self.new) listener.old listener.new result }
     {
         self.answer(&Event::EndDaa, listener)
     }
 
     /// The bus answers an event, and its reply is heard.
-    fn answer<L: Listener>(&mut self, event: &Event, listener: &mut L) -> Result<(), Stop<Refusal>>
+    fn answer<L: Listener>(
+        &mut self,
+        event: &Event,
+        listener: &mut L,
+    ) -> Result<(), LineError<Refusal>>
         // a frame's cuts are taken before
         requires { cuts_left event.now self.old.cuts ≡ self.old.cuts }
         ensures { Hears L.heard (λ pieces refused. Answers P.kept self.old event.now pieces refused self.new) listener.old listener.new result }
@@ -349,7 +361,7 @@ impl<P: Past> ScriptBus<P> {
                 count_from(self.settings.forgotten, &mut reply)?;
                 answer_reply(subject_of(event), &reply, listener)
             }
-            Err(_) => Err(Stop::Memory),
+            Err(_) => Err(LineError::Memory),
         }
     }
 
@@ -381,11 +393,11 @@ impl<P: Past> ScriptBus<P> {
         names: &N,
         kinds: Fixed,
         but: &[Name],
-    ) -> Result<(), Stop<Refusal>>
+    ) -> Result<(), LineError<Refusal>>
         requires { length but.now ≤ EXCEPTED }
         ensures { MatchResult (slots_named (slot_of_device N.kept self.old.state names.now) but.now)
             (λ slots. (result ≡ Ok tt) × Sets self.old kinds slots self.new)
-            (λ why. (result ≡ Err (Stop.Refused why)) × (self.new ≡ self.old)) }
+            (λ why. (result ≡ Err (LineError.Refused why)) × (self.new ≡ self.old)) }
     {
         let mut slots = ArrayVec::new();
         match slots_of_devices(&self.bus, names, but, &mut slots) {
@@ -393,7 +405,7 @@ impl<P: Past> ScriptBus<P> {
                 self.set(kinds, slots);
                 Ok(())
             }
-            Err(why) => Err(Stop::Refused(why)),
+            Err(why) => Err(LineError::Refused(why)),
         }
     }
 
@@ -415,7 +427,7 @@ impl<P: Past> ScriptBus<P> {
 
     /// `daa`: a whole session. The cuts that wait apply to its opening frame.
     #[inline(never)]
-    fn assign<L: Listener>(&mut self, listener: &mut L) -> Result<(), Stop<Refusal>>
+    fn assign<L: Listener>(&mut self, listener: &mut L) -> Result<(), LineError<Refusal>>
         ensures { Hears L.heard (λ pieces refused. Assigns P.kept self.old pieces refused self.new) listener.old listener.new result }
     {
         let hand = take(&mut self.hand);
@@ -433,28 +445,32 @@ impl<P: Past> ScriptBus<P> {
 
     /// `cut`: whatever device is in the slot by then loses power at a bit of the next frame.
     #[inline(never)]
-    fn cut<N: Naming>(&mut self, names: &N, name: &Name, bit: u16) -> Result<(), Stop<Refusal>>
+    fn cut<N: Naming>(&mut self, names: &N, name: &Name, bit: u16) -> Result<(), LineError<Refusal>>
         ensures { MatchResult (slot_of_device N.kept self.old.state names.now name.now)
             (λ slot. (result ≡ Ok tt) × (self.new ≡ record self.old { cuts = cut_at self.old.cuts slot bit }))
-            (λ why. (result ≡ Err (Stop.Refused why)) × (self.new ≡ self.old)) }
+            (λ why. (result ≡ Err (LineError.Refused why)) × (self.new ≡ self.old)) }
     {
         match slot_of_device(&self.bus, names, name) {
             Ok(slot) => {
                 self.cuts.add(slot, bit);
                 Ok(())
             }
-            Err(why) => Err(Stop::Refused(why)),
+            Err(why) => Err(LineError::Refused(why)),
         }
     }
 
     /// `show`: the bus as it is.
     #[inline(never)]
-    fn show<N: Naming, L: Listener>(&self, names: &N, listener: &mut L) -> Result<(), Stop<Refusal>>
+    fn show<N: Naming, L: Listener>(
+        &self,
+        names: &N,
+        listener: &mut L,
+    ) -> Result<(), LineError<Refusal>>
         ensures { Hears L.heard (IsDone (show_pieces N.kept self.now.settings.forgotten self.now.state names.now)) listener.old listener.new result }
     {
         match hear_bus(&self.bus, names, self.settings.forgotten, listener) {
             Ok(()) => Ok(()),
-            Err(_) => Err(Stop::Memory),
+            Err(_) => Err(LineError::Memory),
         }
     }
 
@@ -465,14 +481,14 @@ impl<P: Past> ScriptBus<P> {
         names: &N,
         first: u64,
         listener: &mut L,
-    ) -> Result<(), Stop<Refusal>>
+    ) -> Result<(), LineError<Refusal>>
         ensures { Hears L.heard (IsDone (show_behind_pieces N.kept (first - 1 - self.now.settings.forgotten) self.now.settings.forgotten self.now.state names.now)) listener.old listener.new result }
     {
         let forgotten = self.settings.forgotten;
         let count = (first.saturating_sub(1) as usize).saturating_sub(forgotten);
         match hear_bus_behind(&self.bus, names, count, forgotten, listener) {
             Ok(()) => Ok(()),
-            Err(_) => Err(Stop::Memory),
+            Err(_) => Err(LineError::Memory),
         }
     }
 
@@ -482,24 +498,24 @@ impl<P: Past> ScriptBus<P> {
         &self,
         names: &N,
         listener: &mut L,
-    ) -> Result<(), Stop<Refusal>>
+    ) -> Result<(), LineError<Refusal>>
         ensures { Hears L.heard (IsDone (show_all_pieces N.kept self.now.settings.forgotten self.now.state names.now (P.kept.ended self.now.past))) listener.old listener.new result }
     {
         match hear_all(&self.bus, names, &self.settings, &self.past, listener) {
             Ok(()) => Ok(()),
-            Err(_) => Err(Stop::Memory),
+            Err(_) => Err(LineError::Memory),
         }
     }
 
     /// `symbols`: the last symbols of the wire.
     #[inline(never)]
-    fn show_symbols<L: Listener>(&mut self, listener: &mut L) -> Result<(), Stop<Refusal>>
+    fn show_symbols<L: Listener>(&mut self, listener: &mut L) -> Result<(), LineError<Refusal>>
         ensures same { self.new ≡ self.old }
         ensures told { Hears L.heard (IsDone (symbols_pieces (P.kept.symbols self.old.past))) listener.old listener.new result }
     {
         match self.past.hear_symbols(listener) {
             Ok(()) => Ok(()),
-            Err(_) => Err(Stop::Memory),
+            Err(_) => Err(LineError::Memory),
         }
     }
 
@@ -509,13 +525,13 @@ impl<P: Past> ScriptBus<P> {
         &mut self,
         count: u16,
         listener: &mut L,
-    ) -> Result<(), Stop<Refusal>>
+    ) -> Result<(), LineError<Refusal>>
         ensures same { self.new ≡ self.old }
         ensures told { Hears L.heard (IsDone (frames_pieces count (P.kept.symbols self.old.past))) listener.old listener.new result }
     {
         match self.past.hear_frames(count, listener) {
             Ok(()) => Ok(()),
-            Err(_) => Err(Stop::Memory),
+            Err(_) => Err(LineError::Memory),
         }
     }
 
@@ -524,7 +540,7 @@ impl<P: Past> ScriptBus<P> {
     /// # Errors
     ///
     /// There is no memory for it.
-    pub fn wake_into(&mut self, alloc: Global, still: &Still) -> Result<(), AllocError>
+    pub fn wake_into(&mut self, alloc: Global, still: &BusSnapshot) -> Result<(), AllocError>
         ensures { OnOk result (self.new ≡ record self.old { state = still.now }) }
     {
         let hand = take(&mut self.hand);
@@ -537,7 +553,7 @@ impl<P: Past> ScriptBus<P> {
     }
 
     /// It comes back to a bus at rest, from which its own differs in one slot at most.
-    pub fn wake_at(&mut self, still: &Still, slot: Slot)
+    pub fn wake_at(&mut self, still: &BusSnapshot, slot: Slot)
         requires { IsNear slot still.now self.old.state }
         ensures { self.new ≡ record self.old { state = still.now } }
     {

@@ -12,7 +12,7 @@ use i3c_bus::Refusal as BusRefusal;
 use i3c_frame::Symbol;
 use i3c_legacy::Legacies;
 use i3c_lines::{Command, Name, Names, Refusal};
-use i3c_text::{Stop, Text};
+use i3c_text::{LineError, Text};
 use std::alloc::{AllocError, Global};
 use std::mem;
 
@@ -45,7 +45,7 @@ impl Stage {
         names: &mut Names,
         command: &Command,
         text: &mut Text,
-    ) -> Result<(), Stop<Refusal>>
+    ) -> Result<(), LineError<Refusal>>
         ensures obeys { IsObeyed (script self.old names.old) command.now text.old text.new result (script self.new names.new) }
     {
         self.obey_heard::<K, Text>(alloc, names, command, text)
@@ -58,7 +58,7 @@ impl Stage {
         names: &mut Names,
         command: &Command,
         listener: &mut L,
-    ) -> Result<(), Stop<Refusal>>
+    ) -> Result<(), LineError<Refusal>>
         ensures obeys { IsHeard L.heard (script self.old names.old) command.now listener.old listener.new result (script self.new names.new) }
     {
         match self {
@@ -87,14 +87,14 @@ impl Stage {
         name: &Name,
         setup: Setup,
         listener: &mut L,
-    ) -> Result<(), Stop<Refusal>>
+    ) -> Result<(), LineError<Refusal>>
         ensures { IsHeard L.heard (script self.old names.old) (CommandValue.Main name.now setup) listener.old listener.new result (script self.new names.new) }
     {
         let Stage::Before(legacies) = self else {
             return Err(Refusal::BusMade.into());
         };
         match main_refusal(names, name, setup.identity.bcr) {
-            Some(why) => return Err(Stop::Refused(why)),
+            Some(why) => return Err(LineError::Refused(why)),
             None => {}
         }
         let journal = Journal::new(alloc)?;
@@ -152,14 +152,14 @@ fn add_legacy<L: Listener>(
     address: Addr7,
     lvr: Lvr,
     listener: &mut L,
-) -> Result<(), Stop<Refusal>>
+) -> Result<(), LineError<Refusal>>
     ensures { Hears L.heard (λ pieces refused. ObeysBefore legacies.old names.old (CommandValue.Legacy name.now address lvr) pieces refused (script (Stage.Before legacies.new) names.new)) listener.old listener.new result }
 {
     if names.place_of(name).is_some() {
         return Err(Refusal::NameTaken.into());
     }
     if let Err(fault) = legacies.add(address, lvr) {
-        return Err(Stop::Refused(Refusal::Legacy(fault)));
+        return Err(LineError::Refused(Refusal::Legacy(fault)));
     }
     names.give_address(name, address)?;
     listener.hear(Piece::Legacy(*name, address))?;
@@ -172,11 +172,11 @@ fn declare<L: Listener>(
     address: Addr7,
     identity: Identity,
     listener: &mut L,
-) -> Result<(), Stop<Refusal>>
+) -> Result<(), LineError<Refusal>>
     ensures { (names : NamesValue) → Hears L.heard (λ pieces refused. ObeysBefore legacies.old names (CommandValue.Declare address identity) pieces refused (script (Stage.Before legacies.new) names)) listener.old listener.new result }
 {
     if let Err(fault) = legacies.declare(address, identity) {
-        return Err(Stop::Refused(Refusal::Declare(fault)));
+        return Err(LineError::Refused(Refusal::Declare(fault)));
     }
     listener.hear(Piece::Declared(address))?;
     Ok(())

@@ -6,11 +6,11 @@
 #![tactic(auto)]
 
 mod digits;
+mod line_error;
 mod numerals;
-mod stop;
 mod text;
 
 pub use digits::{digit, read_byte, read_digits, write_digits};
+pub use line_error::LineError;
 pub use numerals::PID_DIGITS;
-pub use stop::Stop;
 pub use text::Text;

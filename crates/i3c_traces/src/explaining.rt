@@ -11,7 +11,7 @@ ghost use Rattle.i3c_traces.specs.Traces.{Goes};
 
 use crate::linting::lint_text;
 use crate::reasons::{frame_after, frame_behind, push_break, push_decoded, push_report};
-use crate::trace::{read_text, tell_text};
+use crate::trace::{print_text, read_text};
 use i3c_base::{Addresses, Request};
 use i3c_ccc::CodeSet;
 use i3c_frame::{Frames, Symbol, read_frames};
@@ -65,11 +65,11 @@ pub fn run_explained_knowing<R: Read, W: Write>(
 {
     let text = read_text(alloc, reader)?;
     note_reasons(alloc, codes, legacies, &text, notes);
-    tell_text_as(alloc, codes, legacies, &text, writer)
+    print_text_as(alloc, codes, legacies, &text, writer)
 }
 
 /// Tells a text as a trace, with its faults if legacy targets are named. A trace has no expectations, so none is unmet.
-fn tell_text_as<W: Write>(
+fn print_text_as<W: Write>(
     alloc: Global,
     codes: CodeSet,
     legacies: Option<Addresses>,
@@ -82,7 +82,7 @@ fn tell_text_as<W: Write>(
 {
     match legacies {
         Some(legacies) => lint_text(alloc, legacies, text, writer),
-        None => tell_text(alloc, codes, text, writer),
+        None => print_text(alloc, codes, text, writer),
     }
 }
 

@@ -5,7 +5,7 @@ ghost use Rattle.i3c_streams.specs.Faults.{IsLineFault};
 ghost use Rattle.i3c_traces.specs.Symbols.{FramesGo, HaveFrames, break_at, due_after, fault_of, text_size};
 
 use crate::linting::lint_frames;
-use crate::trace::{tell_fault, tell_trace};
+use crate::trace::{print_fault, print_trace};
 use i3c_base::Addresses;
 use i3c_ccc::CodeSet;
 use i3c_frame::{Break, Due, Frames, Symbol, TraceFault};
@@ -118,7 +118,7 @@ fn whole_len(symbols: &[Symbol]) -> usize
 
 /// Tells frames as `run_trace` tells a trace or, with the addresses of legacy targets, as `run_lint` does. They begin at these
 /// times, as far as these go, and the lines of those frames end with them.
-pub fn tell_frames<W: Write>(
+pub fn print_frames<W: Write>(
     alloc: Global,
     codes: CodeSet,
     legacies: Option<Addresses>,
@@ -132,8 +132,8 @@ pub fn tell_frames<W: Write>(
 {
     match (legacies, &frames.broken) {
         (Some(legacies), _) => lint_frames(alloc, legacies, frames, times, writer),
-        (None, None) => tell_trace(alloc, codes, &frames.symbols, times, writer),
-        (None, Some(broken)) => tell_fault(alloc, &fault_of(broken), writer),
+        (None, None) => print_trace(alloc, codes, &frames.symbols, times, writer),
+        (None, Some(broken)) => print_fault(alloc, &fault_of(broken), writer),
     }
 }
 

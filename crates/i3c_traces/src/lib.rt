@@ -14,6 +14,6 @@ mod reasons;
 mod trace;
 
 pub use explaining::{explain_frames, run_explained, run_explained_knowing};
-pub use frames::{frames_of, tell_frames};
+pub use frames::{frames_of, print_frames};
 pub use linting::run_lint;
 pub use trace::{run_trace, run_trace_knowing};

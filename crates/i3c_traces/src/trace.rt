@@ -51,11 +51,11 @@ pub fn run_trace_knowing<R: Read, W: Write>(
     ensures unmet { IfOk result (λ tally. tally.unmet ≡ 0) }
 {
     let text = read_text(alloc, reader)?;
-    tell_text(alloc, codes, &text, writer)
+    print_text(alloc, codes, &text, writer)
 }
 
 /// Tells a text as a trace that knows these codes.
-pub(crate) fn tell_text<W: Write>(
+pub(crate) fn print_text<W: Write>(
     alloc: Global,
     codes: CodeSet,
     text: &[u8],
@@ -66,8 +66,8 @@ pub(crate) fn tell_text<W: Write>(
     ensures unmet { IfOk result (λ tally. tally.unmet ≡ 0) }
 {
     match read_trace_bytes(alloc, text) {
-        Ok(symbols) => tell_trace(alloc, codes, &symbols, &[], writer),
-        Err(fault) => tell_fault(alloc, &fault, writer),
+        Ok(symbols) => print_trace(alloc, codes, &symbols, &[], writer),
+        Err(fault) => print_fault(alloc, &fault, writer),
     }
 }
 
@@ -102,7 +102,7 @@ fn ascii_byte(byte: u8) -> u8
 }
 
 /// Writes the lines of a trace, one after another. Its frames begin at these times, as far as these go.
-pub(crate) fn tell_trace<W: Write>(
+pub(crate) fn print_trace<W: Write>(
     alloc: Global,
     codes: CodeSet,
     trace: &[Symbol],
@@ -167,7 +167,7 @@ fn push_decoded(
 }
 
 /// Writes the line of a text that is no trace.
-pub(crate) fn tell_fault<W: Write>(
+pub(crate) fn print_fault<W: Write>(
     alloc: Global,
     fault: &TraceFault,
     out: &mut W,

@@ -8,7 +8,7 @@ use Rattle.i3c_wave.specs.declared.capture_text.CaptureWords.{CaptureWords}
 use Rattle.i3c_wave.specs.declared.dump.Dump.{Dump}
 use Rattle.i3c_wave.specs.declared.dump.DumpStep.{DumpStep}
 use Rattle.i3c_wave.specs.declared.dump.Item.{Item}
-use Rattle.i3c_wave.specs.declared.dump.Place.{Place}
+use Rattle.i3c_wave.specs.declared.dump.DumpPosition.{DumpPosition}
 use Rattle.i3c_wave.specs.declared.dump_word.Code.{Code}
 use Rattle.i3c_wave.specs.declared.dump_word.Command.{Command}
 use Rattle.i3c_wave.specs.declared.dump_word.Lead.{Lead}
@@ -45,16 +45,16 @@ of_defined : (is_defined : Bool) (r : Result ⊤ CaptureFault) (at : ℕ) → Is
 of_defined is_defined (Ok value) at h = of_both is_defined _ _ tt tt
 of_defined is_defined (Err fault) at h = h
 
-of_ended_at : (place : Place) (r : Result ⊤ CaptureFault) (at : ℕ) → IsOfText r → IsOfText (ended_at place r at)
-of_ended_at Place.Between r at h = h
-of_ended_at Place.Passed r at h = tt
-of_ended_at (Place.Scale magnitude) r at h = tt
-of_ended_at Place.Scaled r at h = tt
-of_ended_at Place.Kind r at h = tt
-of_ended_at Place.Width r at h = tt
-of_ended_at (Place.Code narrow) r at h = tt
-of_ended_at (Place.Name code) r at h = tt
-of_ended_at Place.Vector r at h = tt
+of_ended_at : (place : DumpPosition) (r : Result ⊤ CaptureFault) (at : ℕ) → IsOfText r → IsOfText (ended_at place r at)
+of_ended_at DumpPosition.Between r at h = h
+of_ended_at DumpPosition.Passed r at h = tt
+of_ended_at (DumpPosition.Scale magnitude) r at h = tt
+of_ended_at DumpPosition.Scaled r at h = tt
+of_ended_at DumpPosition.Kind r at h = tt
+of_ended_at DumpPosition.Width r at h = tt
+of_ended_at (DumpPosition.Code narrow) r at h = tt
+of_ended_at (DumpPosition.Name code) r at h = tt
+of_ended_at DumpPosition.Vector r at h = tt
 
 of_is_ended : (dump : Dump) (at : ℕ) → IsOfText (is_ended dump at)
 of_is_ended dump at = of_ended_at dump.place _ at (of_defined dump.is_defined _ at (of_missing dump.scl dump.sda))
@@ -93,16 +93,16 @@ of_begun : (dump : Dump) (at : ℕ) (word : List ℕ) → IsOfText (begun_word d
 of_begun dump at [] = tt
 of_begun dump at (first ∷ rest) = of_led dump at (lead_of first) (first ∷ rest) rest
 
-of_ended : (place : Place) (dump : Dump) (at : ℕ) → IsOfText (ended_from place dump at)
-of_ended Place.Between dump at = tt
-of_ended Place.Passed dump at = tt
-of_ended (Place.Scale magnitude) dump at = tt
-of_ended Place.Scaled dump at = tt
-of_ended Place.Kind dump at = tt
-of_ended Place.Width dump at = tt
-of_ended (Place.Code narrow) dump at = tt
-of_ended (Place.Name code) dump at = tt
-of_ended Place.Vector dump at = tt
+of_ended : (place : DumpPosition) (dump : Dump) (at : ℕ) → IsOfText (ended_from place dump at)
+of_ended DumpPosition.Between dump at = tt
+of_ended DumpPosition.Passed dump at = tt
+of_ended (DumpPosition.Scale magnitude) dump at = tt
+of_ended DumpPosition.Scaled dump at = tt
+of_ended DumpPosition.Kind dump at = tt
+of_ended DumpPosition.Width dump at = tt
+of_ended (DumpPosition.Code narrow) dump at = tt
+of_ended (DumpPosition.Name code) dump at = tt
+of_ended DumpPosition.Vector dump at = tt
 
 of_unit : (dump : Dump) (magnitude : Magnitude) (at : ℕ) (setup : Option ℕ) → IsOfText (scaled_unit dump magnitude at setup)
 of_unit dump magnitude at None = tt
@@ -116,31 +116,31 @@ of_scale : (dump : Dump) (magnitude : Option Magnitude) (at : ℕ) (word : List 
 of_scale dump None at word = of_scaled dump (magnitude_of (take (digits_in word) word)) at (drop (digits_in word) word)
 of_scale dump (Some magnitude) at word = of_both (digits_in word == 0) _ _ (of_unit dump magnitude at (unit_setup word)) tt
 
-of_inside : (scl sda : List ℕ) (place : Place) (dump : Dump) (at : ℕ) (word : List ℕ) → IsOfText (inside_from scl sda place dump at word)
-of_inside scl sda Place.Between dump at word = tt
-of_inside scl sda Place.Passed dump at word = tt
-of_inside scl sda (Place.Scale magnitude) dump at word = of_scale dump magnitude at word
-of_inside scl sda Place.Scaled dump at word = tt
-of_inside scl sda Place.Kind dump at word = tt
-of_inside scl sda Place.Width dump at word = tt
-of_inside scl sda (Place.Code true) dump at word = tt
-of_inside scl sda (Place.Code false) dump at word = tt
-of_inside scl sda (Place.Name code) dump at word = tt
-of_inside scl sda Place.Vector dump at word = tt
+of_inside : (scl sda : List ℕ) (place : DumpPosition) (dump : Dump) (at : ℕ) (word : List ℕ) → IsOfText (inside_from scl sda place dump at word)
+of_inside scl sda DumpPosition.Between dump at word = tt
+of_inside scl sda DumpPosition.Passed dump at word = tt
+of_inside scl sda (DumpPosition.Scale magnitude) dump at word = of_scale dump magnitude at word
+of_inside scl sda DumpPosition.Scaled dump at word = tt
+of_inside scl sda DumpPosition.Kind dump at word = tt
+of_inside scl sda DumpPosition.Width dump at word = tt
+of_inside scl sda (DumpPosition.Code true) dump at word = tt
+of_inside scl sda (DumpPosition.Code false) dump at word = tt
+of_inside scl sda (DumpPosition.Name code) dump at word = tt
+of_inside scl sda DumpPosition.Vector dump at word = tt
 
 of_last : (scl sda : List ℕ) (dump : Dump) (at : ℕ) (word : List ℕ) → IsOfText (if bytes_eq word (codes "$end") then ended dump at else inside scl sda dump at word)
 of_last scl sda dump at word = of_both (bytes_eq word (codes "$end")) _ _ (of_ended dump.place dump at) (of_inside scl sda dump.place dump at word)
 
-of_word : (scl sda : List ℕ) (place : Place) (dump : Dump) (at : ℕ) (word : List ℕ) → IsOfText (word_from scl sda place dump at word)
-of_word scl sda Place.Between dump at word = of_begun dump at word
-of_word scl sda Place.Passed dump at word = of_last scl sda dump at word
-of_word scl sda (Place.Scale magnitude) dump at word = of_last scl sda dump at word
-of_word scl sda Place.Scaled dump at word = of_last scl sda dump at word
-of_word scl sda Place.Kind dump at word = of_last scl sda dump at word
-of_word scl sda Place.Width dump at word = of_last scl sda dump at word
-of_word scl sda (Place.Code narrow) dump at word = of_last scl sda dump at word
-of_word scl sda (Place.Name code) dump at word = of_last scl sda dump at word
-of_word scl sda Place.Vector dump at word = tt
+of_word : (scl sda : List ℕ) (place : DumpPosition) (dump : Dump) (at : ℕ) (word : List ℕ) → IsOfText (word_from scl sda place dump at word)
+of_word scl sda DumpPosition.Between dump at word = of_begun dump at word
+of_word scl sda DumpPosition.Passed dump at word = of_last scl sda dump at word
+of_word scl sda (DumpPosition.Scale magnitude) dump at word = of_last scl sda dump at word
+of_word scl sda DumpPosition.Scaled dump at word = of_last scl sda dump at word
+of_word scl sda DumpPosition.Kind dump at word = of_last scl sda dump at word
+of_word scl sda DumpPosition.Width dump at word = of_last scl sda dump at word
+of_word scl sda (DumpPosition.Code narrow) dump at word = of_last scl sda dump at word
+of_word scl sda (DumpPosition.Name code) dump at word = of_last scl sda dump at word
+of_word scl sda DumpPosition.Vector dump at word = tt
 
 -- what is heard
 of_reading : (capture : Capture) (reading : Reading) → IsOfText (read_as capture reading)

@@ -4,7 +4,7 @@ use Rattle.i3c_wave.specs.declared.capture.Line.{Line}
 use Rattle.i3c_wave.specs.declared.capture_fault.CaptureFault.{CaptureFault}
 use Rattle.i3c_wave.specs.declared.dump.Dump.{Dump}
 use Rattle.i3c_wave.specs.declared.dump.Item.{Item}
-use Rattle.i3c_wave.specs.declared.dump.Place.{Place}
+use Rattle.i3c_wave.specs.declared.dump.DumpPosition.{DumpPosition}
 use Rattle.i3c_wave.specs.declared.dump.DumpStep.{DumpStep}
 use Rattle.i3c_wave.specs.declared.dump_word.Code.{Code}
 use Rattle.i3c_wave.specs.declared.dump_word.Command.{Command}
@@ -18,10 +18,10 @@ Says outcome dump result = MatchResult result (λ item. outcome ≡ Ok (record {
 
 -- a dump before the first word: without a timescale a unit is 1 ns
 abbrev pub new_dump : Dump
-new_dump = record { place = Place.Between; scl = None; sda = None; setup = 3; is_defined = false }
+new_dump = record { place = DumpPosition.Between; scl = None; sda = None; setup = 3; is_defined = false }
 
 -- the dump at another place
-abbrev pub at_place : Dump → Place → Dump
+abbrev pub at_place : Dump → DumpPosition → Dump
 at_place dump place = record dump { place = place }
 
 -- nothing is said of the lines
@@ -40,8 +40,8 @@ defined is_defined (Ok _) at = if is_defined then Ok tt else Err (CaptureFault.B
 defined is_defined (Err fault) at = Err fault
 
 -- a text ends between commands
-abbrev pub ended_at : Place → Result ⊤ CaptureFault → ℕ → Result ⊤ CaptureFault
-ended_at Place.Between outcome at = outcome
+abbrev pub ended_at : DumpPosition → Result ⊤ CaptureFault → ℕ → Result ⊤ CaptureFault
+ended_at DumpPosition.Between outcome at = outcome
 ended_at place outcome at = Err (CaptureFault.BadWord at)
 
 abbrev pub is_ended : Dump → ℕ → Result ⊤ CaptureFault
@@ -64,20 +64,20 @@ value_said dump level (Some code) = record { dump = dump; item = level_said (lin
 
 -- the code behind a vector: a vector is no level of a line
 abbrev pub behind_vector : Dump → List ℕ → DumpStep
-behind_vector dump code = value_said (at_place dump Place.Between) None (code_of code)
+behind_vector dump code = value_said (at_place dump DumpPosition.Between) None (code_of code)
 
 -- the declarations end, if both lines were declared
 abbrev pub definitions_ended : Dump → Result ⊤ CaptureFault → Result DumpStep CaptureFault
-definitions_ended dump (Ok _) = Ok (nothing (record dump { place = Place.Passed; is_defined = true }))
+definitions_ended dump (Ok _) = Ok (nothing (record dump { place = DumpPosition.Passed; is_defined = true }))
 definitions_ended dump (Err fault) = Err fault
 
 -- the step at the first word of a command
 abbrev pub command_said : Dump → Command → Result DumpStep CaptureFault
 command_said dump Command.End = Ok (nothing dump)
 command_said dump Command.Values = Ok (nothing dump)
-command_said dump Command.Timescale = Ok (nothing (at_place dump (Place.Scale None)))
-command_said dump Command.Var = Ok (nothing (at_place dump Place.Kind))
-command_said dump Command.Other = Ok (nothing (at_place dump Place.Passed))
+command_said dump Command.Timescale = Ok (nothing (at_place dump (DumpPosition.Scale None)))
+command_said dump Command.Var = Ok (nothing (at_place dump DumpPosition.Kind))
+command_said dump Command.Other = Ok (nothing (at_place dump DumpPosition.Passed))
 command_said dump Command.EndDefinitions = definitions_ended dump (missing dump.scl dump.sda)
 
 -- the step at a time
@@ -97,7 +97,7 @@ led_word dump at Lead.Time word rest = time_said dump at (number_of rest)
 led_word dump at Lead.Low word rest = coded dump (Some false) at rest
 led_word dump at Lead.High word rest = coded dump (Some true) at rest
 led_word dump at Lead.NoLevel word rest = coded dump None at rest
-led_word dump at Lead.Vector word rest = Ok (nothing (at_place dump Place.Vector))
+led_word dump at Lead.Vector word rest = Ok (nothing (at_place dump DumpPosition.Vector))
 led_word dump at Lead.Other word rest = Err (CaptureFault.BadWord at)
 
 -- the step at a word between commands
@@ -106,10 +106,10 @@ begun_word dump at [] = Err (CaptureFault.BadWord at)
 begun_word dump at (first ∷ rest) = led_word dump at (lead_of first) (first ∷ rest) rest
 
 -- the end of a command: a timescale and a signal are whole before it
-abbrev pub ended_from : Place → Dump → ℕ → Result DumpStep CaptureFault
-ended_from Place.Passed dump at = Ok (nothing (at_place dump Place.Between))
-ended_from Place.Scaled dump at = Ok (nothing (at_place dump Place.Between))
-ended_from (Place.Scale magnitude) dump at = Err (CaptureFault.BadTimescale at)
+abbrev pub ended_from : DumpPosition → Dump → ℕ → Result DumpStep CaptureFault
+ended_from DumpPosition.Passed dump at = Ok (nothing (at_place dump DumpPosition.Between))
+ended_from DumpPosition.Scaled dump at = Ok (nothing (at_place dump DumpPosition.Between))
+ended_from (DumpPosition.Scale magnitude) dump at = Err (CaptureFault.BadTimescale at)
 ended_from place dump at = Err (CaptureFault.BadWord at)
 
 abbrev pub ended : Dump → ℕ → Result DumpStep CaptureFault
@@ -126,19 +126,19 @@ first_of (Some first) code = Some first
 
 -- a signal of this code has the name of a line, or another
 abbrev pub named : Dump → Option Line → Option Code → Dump
-named dump None code = at_place dump Place.Passed
-named dump (Some Line.Scl) code = record dump { place = Place.Passed; scl = first_of dump.scl code }
-named dump (Some Line.Sda) code = record dump { place = Place.Passed; sda = first_of dump.sda code }
+named dump None code = at_place dump DumpPosition.Passed
+named dump (Some Line.Scl) code = record dump { place = DumpPosition.Passed; scl = first_of dump.scl code }
+named dump (Some Line.Sda) code = record dump { place = DumpPosition.Passed; sda = first_of dump.sda code }
 
 -- the unit of a timescale
 abbrev pub scaled_unit : Dump → Magnitude → ℕ → Option ℕ → Result DumpStep CaptureFault
 scaled_unit dump magnitude at None = Err (CaptureFault.BadTimescale at)
-scaled_unit dump magnitude at (Some setup) = Ok (nothing (record dump { place = Place.Scaled; setup = scaled setup magnitude }))
+scaled_unit dump magnitude at (Some setup) = Ok (nothing (record dump { place = DumpPosition.Scaled; setup = scaled setup magnitude }))
 
 -- the unit behind a number, or in a word of its own
 abbrev pub scaled_by : Dump → Option Magnitude → ℕ → List ℕ → Result DumpStep CaptureFault
 scaled_by dump None at unit = Err (CaptureFault.BadTimescale at)
-scaled_by dump (Some magnitude) at unit = if length unit == 0 then Ok (nothing (at_place dump (Place.Scale (Some magnitude)))) else scaled_unit dump magnitude at (unit_setup unit)
+scaled_by dump (Some magnitude) at unit = if length unit == 0 then Ok (nothing (at_place dump (DumpPosition.Scale (Some magnitude)))) else scaled_unit dump magnitude at (unit_setup unit)
 
 -- a word of a timescale: its number, its unit, or both
 abbrev pub scale_word : Dump → Option Magnitude → ℕ → List ℕ → Result DumpStep CaptureFault
@@ -146,23 +146,23 @@ scale_word dump None at word = scaled_by dump (magnitude_of (take (digits_in wor
 scale_word dump (Some magnitude) at word = if digits_in word == 0 then scaled_unit dump magnitude at (unit_setup word) else Err (CaptureFault.BadTimescale at)
 
 -- a word inside a command: none is behind the unit of a timescale
-abbrev pub inside_from : List ℕ → List ℕ → Place → Dump → ℕ → List ℕ → Result DumpStep CaptureFault
-inside_from scl sda (Place.Scale magnitude) dump at word = scale_word dump magnitude at word
-inside_from scl sda Place.Scaled dump at word = Err (CaptureFault.BadTimescale at)
-inside_from scl sda Place.Kind dump at word = Ok (nothing (at_place dump Place.Width))
-inside_from scl sda Place.Width dump at word = Ok (nothing (at_place dump (Place.Code (bytes_eq word (codes "1")))))
-inside_from scl sda (Place.Code true) dump at word = Ok (nothing (at_place dump (Place.Name (code_of word))))
-inside_from scl sda (Place.Code false) dump at word = Ok (nothing (at_place dump (Place.Name None)))
-inside_from scl sda (Place.Name code) dump at word = Ok (nothing (named dump (line_named scl sda word) code))
+abbrev pub inside_from : List ℕ → List ℕ → DumpPosition → Dump → ℕ → List ℕ → Result DumpStep CaptureFault
+inside_from scl sda (DumpPosition.Scale magnitude) dump at word = scale_word dump magnitude at word
+inside_from scl sda DumpPosition.Scaled dump at word = Err (CaptureFault.BadTimescale at)
+inside_from scl sda DumpPosition.Kind dump at word = Ok (nothing (at_place dump DumpPosition.Width))
+inside_from scl sda DumpPosition.Width dump at word = Ok (nothing (at_place dump (DumpPosition.Code (bytes_eq word (codes "1")))))
+inside_from scl sda (DumpPosition.Code true) dump at word = Ok (nothing (at_place dump (DumpPosition.Name (code_of word))))
+inside_from scl sda (DumpPosition.Code false) dump at word = Ok (nothing (at_place dump (DumpPosition.Name None)))
+inside_from scl sda (DumpPosition.Name code) dump at word = Ok (nothing (named dump (line_named scl sda word) code))
 inside_from scl sda place dump at word = Ok (nothing dump)
 
 abbrev pub inside : List ℕ → List ℕ → Dump → ℕ → List ℕ → Result DumpStep CaptureFault
 inside scl sda dump at word = inside_from scl sda dump.place dump at word
 
 -- the step at the next word
-abbrev pub word_from : List ℕ → List ℕ → Place → Dump → ℕ → List ℕ → Result DumpStep CaptureFault
-word_from scl sda Place.Between dump at word = begun_word dump at word
-word_from scl sda Place.Vector dump at word = Ok (behind_vector dump word)
+abbrev pub word_from : List ℕ → List ℕ → DumpPosition → Dump → ℕ → List ℕ → Result DumpStep CaptureFault
+word_from scl sda DumpPosition.Between dump at word = begun_word dump at word
+word_from scl sda DumpPosition.Vector dump at word = Ok (behind_vector dump word)
 word_from scl sda place dump at word = if bytes_eq word (codes "$end") then ended dump at else inside scl sda dump at word
 
 abbrev pub word_said : List ℕ → List ℕ → Dump → ℕ → List ℕ → Result DumpStep CaptureFault

@@ -13,7 +13,7 @@ const UNSCALED: u64 = 3;
 
 /// The place of a dump between two words.
 #[derive(Clone, Copy, PartialEq, Eq)]
-pub(crate) enum Place {
+pub(crate) enum DumpPosition {
     /// Between commands.
     Between,
     /// In a command that is passed over.
@@ -38,7 +38,7 @@ pub(crate) enum Place {
 /// declarations have ended.
 #[derive(Clone, Copy, Drop)]
 pub(crate) struct Dump {
-    place: Place,
+    place: DumpPosition,
     scl: Option<Code>,
     sda: Option<Code>,
     setup: u64,
@@ -75,7 +75,7 @@ impl Dump {
         ensures { result ≡ new_dump }
     {
         Dump {
-            place: Place::Between,
+            place: DumpPosition::Between,
             scl: None,
             sda: None,
             setup: UNSCALED,
@@ -101,9 +101,9 @@ impl Dump {
         ensures { Says (word_said scl.now sda.now self.old at word.now) self.new result }
     {
         match self.place {
-            Place::Between => self.begin(at, word),
-            Place::Vector => {
-                self.place = Place::Between;
+            DumpPosition::Between => self.begin(at, word),
+            DumpPosition::Vector => {
+                self.place = DumpPosition::Between;
                 Ok(self.value(None, word))
             }
             _ => self.take_inside(scl, sda, at, word),
@@ -148,7 +148,7 @@ impl Dump {
         ensures { result ≡ is_ended self.now at }
     {
         match self.place {
-            Place::Between => self.defined(at),
+            DumpPosition::Between => self.defined(at),
             _ => Err(CaptureFault::BadWord(at)),
         }
     }
@@ -192,7 +192,7 @@ impl Dump {
             Lead::High => self.coded(Some(true), at, rest),
             Lead::NoLevel => self.coded(None, at, rest),
             Lead::Vector => {
-                self.place = Place::Vector;
+                self.place = DumpPosition::Vector;
                 Ok(Item::Nothing)
             }
             Lead::Other => Err(CaptureFault::BadWord(at)),
@@ -214,12 +214,12 @@ impl Dump {
     {
         match command {
             Command::End | Command::Values => Ok(nothing(self)),
-            Command::Timescale => Ok(nothing(self.at_place(Place::Scale(None)))),
-            Command::Var => Ok(nothing(self.at_place(Place::Kind))),
-            Command::Other => Ok(nothing(self.at_place(Place::Passed))),
+            Command::Timescale => Ok(nothing(self.at_place(DumpPosition::Scale(None)))),
+            Command::Var => Ok(nothing(self.at_place(DumpPosition::Kind))),
+            Command::Other => Ok(nothing(self.at_place(DumpPosition::Passed))),
             Command::EndDefinitions => match self.missing() {
                 Ok(()) => Ok(nothing(Dump {
-                    place: Place::Passed,
+                    place: DumpPosition::Passed,
                     is_defined: true,
                     ..self
                 })),
@@ -266,8 +266,10 @@ impl Dump {
         ensures { result ≡ ended self at }
     {
         match self.place {
-            Place::Passed | Place::Scaled => Ok(nothing(self.at_place(Place::Between))),
-            Place::Scale(_) => Err(CaptureFault::BadTimescale(at)),
+            DumpPosition::Passed | DumpPosition::Scaled => Ok(nothing(self.at_place(
+                DumpPosition::Between,
+            ))),
+            DumpPosition::Scale(_) => Err(CaptureFault::BadTimescale(at)),
             _ => Err(CaptureFault::BadWord(at)),
         }
     }
@@ -277,14 +279,20 @@ impl Dump {
         ensures { result ≡ inside scl.now sda.now self at word.now }
     {
         match self.place {
-            Place::Between | Place::Vector | Place::Passed => Ok(nothing(self)),
-            Place::Scale(magnitude) => self.scale(magnitude, at, word),
-            Place::Scaled => Err(CaptureFault::BadTimescale(at)),
-            Place::Kind => Ok(nothing(self.at_place(Place::Width))),
-            Place::Width => Ok(nothing(self.at_place(Place::Code(is_word(word, b"1"))))),
-            Place::Code(true) => Ok(nothing(self.at_place(Place::Name(code_of(word))))),
-            Place::Code(false) => Ok(nothing(self.at_place(Place::Name(None)))),
-            Place::Name(code) => Ok(nothing(self.named(line_named(scl, sda, word), code))),
+            DumpPosition::Between | DumpPosition::Vector | DumpPosition::Passed => Ok(nothing(
+                self,
+            )),
+            DumpPosition::Scale(magnitude) => self.scale(magnitude, at, word),
+            DumpPosition::Scaled => Err(CaptureFault::BadTimescale(at)),
+            DumpPosition::Kind => Ok(nothing(self.at_place(DumpPosition::Width))),
+            DumpPosition::Width => Ok(nothing(self.at_place(DumpPosition::Code(is_word(
+                word, b"1",
+            ))))),
+            DumpPosition::Code(true) => Ok(nothing(self.at_place(DumpPosition::Name(code_of(
+                word,
+            ))))),
+            DumpPosition::Code(false) => Ok(nothing(self.at_place(DumpPosition::Name(None)))),
+            DumpPosition::Name(code) => Ok(nothing(self.named(line_named(scl, sda, word), code))),
         }
     }
 
@@ -292,7 +300,7 @@ impl Dump {
     fn named(self, line: Option<Line>, code: Option<Code>) -> Dump
         ensures { result ≡ named self line code }
     {
-        let passed = self.at_place(Place::Passed);
+        let passed = self.at_place(DumpPosition::Passed);
         match (line, self.scl, self.sda) {
             (Some(Line::Scl), None, _) => Dump {
                 scl: code,
@@ -334,7 +342,7 @@ impl Dump {
     {
         match magnitude {
             Some(magnitude) if unit.is_empty() => {
-                Ok(nothing(self.at_place(Place::Scale(Some(magnitude)))))
+                Ok(nothing(self.at_place(DumpPosition::Scale(Some(magnitude)))))
             }
             Some(magnitude) => self.scale_unit(magnitude, at, unit),
             None => Err(CaptureFault::BadTimescale(at)),
@@ -352,7 +360,7 @@ impl Dump {
     {
         match unit_setup(unit) {
             Some(setup) => Ok(nothing(Dump {
-                place: Place::Scaled,
+                place: DumpPosition::Scaled,
                 setup: scaled(setup, magnitude),
                 ..self
             })),
@@ -361,7 +369,7 @@ impl Dump {
     }
 
     /// The dump at another place.
-    fn at_place(self, place: Place) -> Dump
+    fn at_place(self, place: DumpPosition) -> Dump
         ensures { result ≡ at_place self place }
     {
         Dump { place, ..self }

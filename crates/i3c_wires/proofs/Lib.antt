@@ -1,6 +1,6 @@
 pub mod MaskLaws
-pub mod PlaneLaws
-pub mod KeptPlanes
+pub mod ColumnLaws
+pub mod KeptColumns
 pub mod Reading
 pub mod Uncut
 pub mod TurnLaws

@@ -15,7 +15,7 @@ use Rattle.i3c_base.specs.Cutting.{CutList, cut_of}
 use Rattle.i3c_wires.specs.Contest.{drives_one, holders, is_one}
 use Rattle.i3c_wires.specs.Masks.{is_at, mask_of}
 use Rattle.i3c_wires.specs.Turns.{IsQuiet}
-use Rattle.i3c_wires.proofs.PlaneLaws.{Contested, contested_first, contested_last, contested_one, contested_zero, mask_width, still_driving}
+use Rattle.i3c_wires.proofs.ColumnLaws.{Contested, contested_first, contested_last, contested_one, contested_zero, mask_width, still_driving}
 use Rattle.i3c_wires.proofs.Reading.{Reading, drives, drives_is, reading_more, stays, stays_is}
 
 -- ---- lists
@@ -388,25 +388,25 @@ module _ (cuts : CutList) (keys : List (ℕ × ℕ)) (width : ℕ) where
         | inr low ↦ omega (arith, low, other i one)
       ]
 
-  pub turning_one : (turns bits still t drop plane : ℕ) → length keys ≤ bits_of mask_width → bits < 2 ^ 64 → turns < 2 ^ 64 → Turning cuts keys width turns bits still → IsTop turns t
-      → drop ≡ mask_of (λ e. is_at (width - suc t) (cut_of cuts e.0)) keys → plane ≡ mask_of (drives_one t) keys → bit_and still (bit_not mask_width drop) ≢ 0
-      → bit_and (bit_and still (bit_not mask_width drop)) (bit_not mask_width plane) ≡ 0
+  pub turning_one : (turns bits still t drop column : ℕ) → length keys ≤ bits_of mask_width → bits < 2 ^ 64 → turns < 2 ^ 64 → Turning cuts keys width turns bits still → IsTop turns t
+      → drop ≡ mask_of (λ e. is_at (width - suc t) (cut_of cuts e.0)) keys → column ≡ mask_of (drives_one t) keys → bit_and still (bit_not mask_width drop) ≢ 0
+      → bit_and (bit_and still (bit_not mask_width drop)) (bit_not mask_width column) ≡ 0
       → Turning cuts keys width (clear_bit turns t) (set_bit bits t) (bit_and still (bit_not mask_width drop))
-  turning_one turns bits still t drop plane few fits turns_fit h top cut ones some none =
+  turning_one turns bits still t drop column few fits turns_fit h top cut ones some none =
       turned turns bits (set_bit bits t) still (bit_and still (bit_not mask_width drop)) t true h top turns_fit
       (λ i other low. bit_at_set_other w64 bits t top.fits i other) (λ i high. bit_at_set_other w64 bits t top.fits i (λ e. absurd (omega (arith, e, high, top.fits)))) (one_bit _ t (bit_at_set_same w64 bits t top.fits)) some
-      (contested_one cuts keys width t (bits / 2 ^ suc t) still drop plane (record { few = few; cut = cut; ones = ones }) (turning_next turns bits still t h top) none)
+      (contested_one cuts keys width t (bits / 2 ^ suc t) still drop column (record { few = few; cut = cut; ones = ones }) (turning_next turns bits still t h top) none)
 
-  pub turning_zero : (turns bits still t drop plane : ℕ) → length keys ≤ bits_of mask_width → bits < 2 ^ 64 → turns < 2 ^ 64 → Turning cuts keys width turns bits still → IsTop turns t
-      → drop ≡ mask_of (λ e. is_at (width - suc t) (cut_of cuts e.0)) keys → plane ≡ mask_of (drives_one t) keys
-      → bit_and (bit_and still (bit_not mask_width drop)) (bit_not mask_width plane) ≢ 0
-      → Turning cuts keys width (clear_bit turns t) (clear_bit bits t) (bit_and (bit_and still (bit_not mask_width drop)) (bit_not mask_width plane))
-  turning_zero turns bits still t drop plane few fits turns_fit h top cut ones some =
-      turned turns bits (clear_bit bits t) still (bit_and (bit_and still (bit_not mask_width drop)) (bit_not mask_width plane)) t false h top turns_fit
+  pub turning_zero : (turns bits still t drop column : ℕ) → length keys ≤ bits_of mask_width → bits < 2 ^ 64 → turns < 2 ^ 64 → Turning cuts keys width turns bits still → IsTop turns t
+      → drop ≡ mask_of (λ e. is_at (width - suc t) (cut_of cuts e.0)) keys → column ≡ mask_of (drives_one t) keys
+      → bit_and (bit_and still (bit_not mask_width drop)) (bit_not mask_width column) ≢ 0
+      → Turning cuts keys width (clear_bit turns t) (clear_bit bits t) (bit_and (bit_and still (bit_not mask_width drop)) (bit_not mask_width column))
+  turning_zero turns bits still t drop column few fits turns_fit h top cut ones some =
+      turned turns bits (clear_bit bits t) still (bit_and (bit_and still (bit_not mask_width drop)) (bit_not mask_width column)) t false h top turns_fit
       (λ i other low. bit_at_clear_other w64 bits t top.fits i low other)
       (λ i high. bit_at_above (clear_bit bits t) 64 i (omega (arith, fits, and_le_l bits (bit_not w64 (1 * 2 ^ t % 2 ^ 64)))) high ∙ sym (bit_at_above bits 64 i fits high))
       (none_bit _ t (bit_at_clear_same w64 bits t top.fits)) some
-      (contested_zero cuts keys width t (bits / 2 ^ suc t) still drop plane (record { few = few; cut = cut; ones = ones }) (turning_next turns bits still t h top) some)
+      (contested_zero cuts keys width t (bits / 2 ^ suc t) still drop column (record { few = few; cut = cut; ones = ones }) (turning_next turns bits still t h top) some)
 
   -- no turn is left
   pub turning_last : (bits still : ℕ) (winners : List ℕ) → 0 < width → Turning cuts keys width 0 bits still → ((p : ℕ × ℕ → Bool) → still ≡ mask_of p keys → winners ≡ map (λ e. e.0) (filter p keys))

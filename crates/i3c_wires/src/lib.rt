@@ -6,13 +6,13 @@
 #![tactic(auto)]
 
 mod arbitration;
+mod bit_columns;
 mod lines;
 mod masks;
 mod outcome;
-mod planes;
 mod turns;
 
 pub use arbitration::{contest, contest_uncut};
+pub use bit_columns::{BitColumns, Won};
 pub use lines::Lines;
 pub use outcome::Contest;
-pub use planes::{Planes, Won};

@@ -44,7 +44,7 @@ pub fn get(
 }
 
 /// How many bytes are read of a datum, at an address whose interrupts have a mandatory byte or have none.
-pub fn told_count(what: Datum, has_byte: bool) -> usize
+pub fn datum_length(what: Datum, has_byte: bool) -> usize
     ensures same { (entry : Option Entry) → has_byte ≡ byte_due entry → result ≡ told_length what entry }
     ensures few { result ≤ 6 }
     ensures some { 1 ≤ result }

@@ -9,7 +9,7 @@ mod wire;
 mod writing;
 
 pub use answers::{Get, Read, Write, get_bits, write_bits};
-pub use getting::{get, told_count};
+pub use getting::{datum_length, get};
 pub use reading::{read, transfer_length};
 pub use wire::{tell_get, tell_read, tell_write};
 pub use writing::write;

@@ -2,7 +2,7 @@ use crate::ending::{Ending, explore_ending, lines_ending, status_of};
 use crate::stack::make_stack;
 use crate::watcher::Watcher;
 use i3c_cli::{
-    Fault, Output, print_version, reading_fault, run_capture, run_file, run_stress, tell_fault,
+    Fault, Output, print_fault, print_version, reading_fault, run_capture, run_file, run_stress,
 };
 use i3c_explore::{Limits, Part};
 use i3c_task::{STANDARD_INPUT, Task, task_named};
@@ -24,7 +24,7 @@ where
         Err(_) => Err(Fault::Memory),
     };
     if let Err(fault) = &outcome {
-        tell_fault(rt, fault);
+        print_fault(rt, fault);
     }
     status_of(&outcome)
 }

@@ -1,5 +1,5 @@
 use crate::course::{BusRun, PlainRun, on_bus, on_plain, slots};
-use crate::cutting::{Bits, Place, cuts_of};
+use crate::cutting::{Bits, PlacedCut, cuts_of};
 use crate::faults::Fault;
 use crate::script::{KNOWN, Script};
 use i3c_base::{Answer, Cuts, Record, RoundReply, Served};
@@ -28,7 +28,7 @@ pub(crate) enum Disagreement {
     /// At an event, with the script's own cuts.
     Event(usize),
     /// With this cut and no other.
-    Cut(Place),
+    Cut(PlacedCut),
 }
 
 /// What has to be the same.
@@ -258,7 +258,7 @@ fn each_slot(
     for slot in slots() {
         if before.plain.present(slot) {
             let shared = before.seen.shares_address(slot);
-            let place = Place {
+            let place = PlacedCut {
                 at,
                 slot,
                 bit: 0,
@@ -273,14 +273,14 @@ fn each_slot(
 fn each_bit(
     alloc: Global,
     script: &mut Script,
-    place: Place,
+    place: PlacedCut,
     last: u16,
     bits: Bits,
     verdict: &mut Verdict,
 ) -> Result<(), Fault> {
     for bit in 0..=last {
         if bits.has(place.slot, bit) {
-            one_cut(alloc, script, Place { bit, ..place }, verdict)?;
+            one_cut(alloc, script, PlacedCut { bit, ..place }, verdict)?;
         }
     }
     Ok(())
@@ -290,7 +290,7 @@ fn each_bit(
 fn one_cut(
     alloc: Global,
     script: &mut Script,
-    place: Place,
+    place: PlacedCut,
     verdict: &mut Verdict,
 ) -> Result<(), Fault> {
     let _ = KNOWN;
@@ -308,7 +308,7 @@ fn one_cut(
 fn judge_cut(
     alloc: Global,
     script: &Script,
-    place: Place,
+    place: PlacedCut,
     ran: &[BusRun],
     verdict: &mut Verdict,
 ) -> Result<(), Fault> {

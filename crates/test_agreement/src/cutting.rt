@@ -27,7 +27,7 @@ impl Bits {
 
 /// A slot that is cut at a bit of the event of an index.
 #[derive(Clone, Copy, Debug)]
-pub(crate) struct Place {
+pub(crate) struct PlacedCut {
     pub at: usize,
     pub slot: Slot,
     pub bit: u16,
@@ -35,7 +35,7 @@ pub(crate) struct Place {
     pub shared: bool,
 }
 
-impl Place {
+impl PlacedCut {
     /// The cut alone.
     pub fn cuts(&self) -> Cuts {
         let mut cuts = Cuts::new();

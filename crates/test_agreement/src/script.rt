@@ -48,7 +48,7 @@ impl Script {
 }
 
 /// The types in an event and a reply: the prover wants them named in each function that moves one into a list.
-pub(crate) type Known = (
+pub(crate) type EventTypes = (
     Refusal,
     Framed,
     Served,
@@ -68,4 +68,4 @@ pub(crate) type Known = (
 );
 
 // what a function names so that the prover knows the types inside a reply
-pub(crate) const KNOWN: Option<Known> = None;
+pub(crate) const KNOWN: Option<EventTypes> = None;

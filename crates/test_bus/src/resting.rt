@@ -4,33 +4,33 @@ ghost use Rattle.i3c_bus.specs.Hands.{HandFits};
 use crate::checks::{holds, same};
 use crate::setting::{all, interrupted, slot};
 use i3c_base::Cuts;
-use i3c_bus::{Bus, Command, Event, Hand, Reply, Served, Still, Verdict};
+use i3c_bus::{Bus, BusSnapshot, Command, Event, Hand, Reply, Served, Verdict};
 use i3c_frame::Silent;
 use std::alloc::Global;
 use std::process::Abort;
 
 /// A bus at rest whose T has an interrupt that waits.
-fn at_rest<R: Abort>(rt: &R, alloc: Global) -> Still {
+fn at_rest<R: Abort>(rt: &R, alloc: Global) -> BusSnapshot {
     let (bus, role) = interrupted(rt, alloc);
     rested(rt, alloc, bus, Hand::Role(role))
 }
 
 /// The bus at rest.
-fn rested<R: Abort>(rt: &R, alloc: Global, bus: Bus, hand: Hand) -> Still
+fn rested<R: Abort>(rt: &R, alloc: Global, bus: Bus, hand: Hand) -> BusSnapshot
     requires { HandFits hand bus.state }
 {
     bus.rest(alloc, hand).expect(rt, "a bus at rest")
 }
 
 /// The bus once more.
-fn woken<R: Abort>(rt: &R, alloc: Global, still: &Still) -> (Bus, Hand)
+fn woken<R: Abort>(rt: &R, alloc: Global, still: &BusSnapshot) -> (Bus, Hand)
     ensures { HandFits result.1 result.0.state }
 {
     still.wake(alloc).expect(rt, "a bus that is awake")
 }
 
 /// The bus after a serve that recorded T's interrupt.
-fn served<R: Abort>(rt: &R, alloc: Global, still: &Still) -> Still {
+fn served<R: Abort>(rt: &R, alloc: Global, still: &BusSnapshot) -> BusSnapshot {
     let (mut bus, hand) = woken(rt, alloc, still);
     let mut accept = all(Verdict::Accept);
     let reply = bus.command(
@@ -46,7 +46,7 @@ fn served<R: Abort>(rt: &R, alloc: Global, still: &Still) -> Still {
 }
 
 /// The bus after the opening of a session, where T's interrupt waits.
-fn opened<R: Abort>(rt: &R, alloc: Global, still: &Still) -> Still {
+fn opened<R: Abort>(rt: &R, alloc: Global, still: &BusSnapshot) -> BusSnapshot {
     let (mut bus, hand) = woken(rt, alloc, still);
     same(rt, bus.waiting(slot()), 1);
     let open = Event::OpenDaa(Cuts::new());
@@ -56,7 +56,7 @@ fn opened<R: Abort>(rt: &R, alloc: Global, still: &Still) -> Still {
 }
 
 /// A copy of a bus with an open session.
-fn copied<R: Abort>(rt: &R, alloc: Global, open: &Still) -> Still {
+fn copied<R: Abort>(rt: &R, alloc: Global, open: &BusSnapshot) -> BusSnapshot {
     let (bus, hand) = woken(rt, alloc, open);
     let is_session = matches!(&hand, Hand::Session(_));
     holds(rt, is_session, "a session is open");

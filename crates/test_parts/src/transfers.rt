@@ -8,7 +8,7 @@ use crate::told::{Answer, told, told_hex, told_text, told_trace};
 use crate::words::{BITS, DATA, WAYS, Words};
 use i3c_base::{Addr7, Bytes, REGISTERS};
 use i3c_xfer::{
-    Get, Read, Write, get, get_bits, read, tell_get, tell_read, tell_write, told_count,
+    Get, Read, Write, datum_length, get, get_bits, read, tell_get, tell_read, tell_write,
     transfer_length, write, write_bits,
 };
 use std::alloc::Global;
@@ -169,7 +169,7 @@ fn of_get(setting: &Setting, call: &str, words: &mut Words<'_>) -> Answer {
     let alloc = setting.alloc;
     let what = words.named(&DATA)?;
     let to = words.address()?;
-    let count = told_count(what, words.named(&BITS)?);
+    let count = datum_length(what, words.named(&BITS)?);
     let begun = setting.begun;
     if begun > MOST_BEGUN {
         return Err(Fault::Unknown);
@@ -193,7 +193,7 @@ fn of_get(setting: &Setting, call: &str, words: &mut Words<'_>) -> Answer {
 /// How many bytes a datum has, where interrupts have a byte or have none.
 fn count_of(words: &mut Words<'_>) -> Result<usize, Fault> {
     let what = words.named(&DATA)?;
-    Ok(told_count(what, words.named(&BITS)?))
+    Ok(datum_length(what, words.named(&BITS)?))
 }
 
 /// The symbols of a datum after the header of its frame.

@@ -1,7 +1,7 @@
 -- What happens is noted, and where nothing happens all is as it was.
 use Rattle.std.proofs.Common.{◌≡◌, ◌∙◌, None, ap, set, subst, sym}
 use Rattle.std.proofs.lemmas.List.{set-get_or}
-use Rattle.i3c_device.specs.Marks.{AreMarks}
+use Rattle.i3c_device.specs.SlotIndex.{AreMarks}
 use Rattle.i3c_device.proofs.slot_update.update_in.Goals as goal
 
 pub returns-then-concerns-clause-changed : goal.returns-then-concerns-clause-changed

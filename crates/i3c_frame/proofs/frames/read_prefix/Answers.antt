@@ -1,6 +1,6 @@
 use Rattle.std.proofs.Common.{◌≡◌, ◌++◌, [], ◌∷◌, refl, rules, subst, sym}
 use Rattle.std.proofs.lemmas.List.Elements.{All-push}
-use Rattle.i3c_frame.specs.declared.traces.Place.TheVariants.{Outside}
+use Rattle.i3c_frame.specs.declared.traces.FramePosition.TheVariants.{Outside}
 use Rattle.i3c_frame.specs.Firsts.{BeginsWith, IsFirst}
 use Rattle.i3c_frame.specs.Texts.{IsInRange}
 use Rattle.i3c_frame.proofs.TraceLaws.{place_after-push, whole_push}

@@ -1,7 +1,7 @@
 use Rattle.std.proofs.Common.{◌≡◌, ◌+◌, ◌++◌, [], ◌∷◌, arith, length, map, rules, sym, ◌∙◌, ap, inl, inr, refl, subst}
 use Rattle.std.proofs.lemmas.List.Elements.{All-push}
 use Rattle.i3c_frame.specs.declared.firsts.First.TheVariants.{Other}
-use Rattle.i3c_frame.specs.declared.traces.Place.TheVariants.{Outside}
+use Rattle.i3c_frame.specs.declared.traces.FramePosition.TheVariants.{Outside}
 use Rattle.i3c_frame.specs.declared.traces.TraceFault.TheVariants.{BadSymbol, NoStop}
 use Rattle.i3c_frame.specs.Firsts.{BeginsWith, IsFirst}
 use Rattle.i3c_frame.specs.Parts.{parts}

@@ -1,5 +1,5 @@
 use Rattle.std.proofs.Common.{◌≡◌, ◌++◌, Some, All, length, map}
-use Rattle.i3c_frame.specs.declared.traces.Place.TheVariants.{Outside}
+use Rattle.i3c_frame.specs.declared.traces.FramePosition.TheVariants.{Outside}
 use Rattle.i3c_frame.specs.Parts.{parts}
 use Rattle.i3c_frame.specs.Texts.{IsInRange, text_of}
 use Rattle.i3c_frame.specs.Traces.{place_after}

@@ -2,7 +2,7 @@
 use Rattle.std.proofs.Common.{◌<◌, ◌≤◌, ◌≡◌, arith, get_or, length, subst, sym}
 use Rattle.std.proofs.lemmas.List.{get_or_default}
 use Rattle.std.specs.Int.{bit_at, trailing_zeros}
-use Rattle.i3c_wires.proofs.PlaneLaws.{SlotsLeft, lowest_less, lowest_off, mask_width, slots_all, slots_next, slots_none, slots_place, subtracted}
+use Rattle.i3c_wires.proofs.ColumnLaws.{SlotsLeft, lowest_less, lowest_off, mask_width, slots_all, slots_next, slots_none, slots_place, subtracted}
 use Rattle.i3c_wires.proofs.masks.slots_at.Goals as goal
 use Rattle.i3c_wires.proofs.masks.slots_at.Goals.{In-loop-rest}
 

@@ -1,4 +1,4 @@
-use Rattle.i3c_wires.proofs.PlaneLaws.{SlotsLeft}
+use Rattle.i3c_wires.proofs.ColumnLaws.{SlotsLeft}
 use Rattle.i3c_wires.proofs.masks.slots_at.Given as goal
 
 -- the slots at the places so far

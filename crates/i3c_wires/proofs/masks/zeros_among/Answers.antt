@@ -1,7 +1,7 @@
 -- One place more, until none is left.
 use Rattle.std.proofs.Common.{◌<◌, arith, length, subst}
 use Rattle.std.specs.Int.{trailing_zeros}
-use Rattle.i3c_wires.proofs.PlaneLaws.{ZerosSoFar, key_one, key_zero, lowest_less, lowest_off, lowest_place, mask_width, subtracted, zeros_all, zeros_none, zeros_pass, zeros_put}
+use Rattle.i3c_wires.proofs.ColumnLaws.{ZerosSoFar, key_one, key_zero, lowest_less, lowest_off, lowest_place, mask_width, subtracted, zeros_all, zeros_none, zeros_pass, zeros_put}
 use Rattle.i3c_wires.proofs.masks.zeros_among.Goals as goal
 use Rattle.i3c_wires.proofs.masks.zeros_among.Goals.{In-loop-rest, then-keys-place-eq0, else-keys-place-eq0}
 

@@ -1,4 +1,4 @@
-use Rattle.i3c_wires.proofs.PlaneLaws.{ZerosSoFar}
+use Rattle.i3c_wires.proofs.ColumnLaws.{ZerosSoFar}
 use Rattle.i3c_wires.proofs.masks.zeros_among.Given as goal
 
 -- the places so far

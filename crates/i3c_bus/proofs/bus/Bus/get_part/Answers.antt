@@ -15,7 +15,7 @@ returns-clause-told g c =
         c.get-told.result,
         sym c.answer-answer.ensures,
         c.get-told.ensures.acknowledged st same,
-        subst (λ count. IsToldAs st c.args.what count c.args.from c.args.cuts.now (c.args.bits_before + 19) c.get-told.result) c.told_count-count.ensures.same (c.get-told.ensures.told st same),
+        subst (λ count. IsToldAs st c.args.what count c.args.from c.args.cuts.now (c.args.bits_before + 19) c.get-told.result) c.datum_length-count.ensures.same (c.get-told.ensures.told st same),
         c.tell_get.ensures.2,
       ),
     )

@@ -2,7 +2,7 @@ use Rattle.std.proofs.Common.{◌≡◌, ◌∙◌, None, ap, length, rules, sub
 use Rattle.i3c_base.specs.declared.range.TheConstants.{SLOTS}
 use Rattle.i3c_base.specs.State.{no_devices}
 use Rattle.i3c_base.proofs.Lookups.{length-no_devices}
-use Rattle.i3c_device.specs.Marks.{AreMarks}
+use Rattle.i3c_device.specs.SlotIndex.{AreMarks}
 use Rattle.i3c_device.proofs.MarkLaws.{all_none}
 use Rattle.i3c_device.proofs.occupants.Occupants.new.Goals as goal
 use Rattle.i3c_device.proofs.occupants.Occupants.new.Goals.{After-from_fn}

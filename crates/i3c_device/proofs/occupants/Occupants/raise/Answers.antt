@@ -5,7 +5,7 @@ use Rattle.i3c_base.specs.declared.device.Waiting.{Waiting}
 use Rattle.i3c_base.specs.declared.refusals.RaiseRefusal.{RaiseRefusal}
 use Rattle.i3c_base.specs.State.{Device, in_slot}
 use Rattle.i3c_base.specs.Local.{with_raise}
-use Rattle.i3c_device.specs.Marks.{requeued}
+use Rattle.i3c_device.specs.SlotIndex.{requeued}
 use Rattle.i3c_device.specs.Wishing.{wishes_interrupt}
 use Rattle.i3c_device.proofs.SeenWalks.{on_err, on_ok}
 use Rattle.i3c_device.proofs.occupants.Occupants.raise.Goals as goal

@@ -3,7 +3,7 @@ use Rattle.std.proofs.Common.{◌<◌, ◌∙◌, ap, arith, length, length-set,
 use Rattle.std.proofs.lemmas.List.{get_or_default, get_or-set_same}
 use Rattle.i3c_base.specs.declared.device.Waiting.{Waiting}
 use Rattle.i3c_base.specs.State.{Device, in_slot}
-use Rattle.i3c_device.specs.Marks.{requeued}
+use Rattle.i3c_device.specs.SlotIndex.{requeued}
 use Rattle.i3c_device.specs.Wishing.{wishes_interrupt}
 use Rattle.i3c_device.proofs.occupants.Occupants.requeue.Goals as goal
 

@@ -1,7 +1,7 @@
 use Rattle.std.proofs.Common.{Err, subst, sym}
 use Rattle.i3c_drive.specs.Steps.{Reads, position}
 use Rattle.i3c_drive.proofs.Driving.{command_reads, long_reads}
-use Rattle.i3c_text.specs.declared.stop.Stop.{Stop}
+use Rattle.i3c_text.specs.declared.line_error.LineError.{LineError}
 use Rattle.i3c_script.specs.Obeying.{script}
 use Rattle.i3c_drive.proofs.interpreter.Interpreter.obey.Goals as goal
 
@@ -11,7 +11,7 @@ returns-in-Err g c =
     let line = c.args.line.now in
     let heard = g.L.Listener.heard in
     let listener = c.args.listener.now in
-    subst (λ why. Reads heard old line listener listener (Err (Stop.Refused why)) old) (sym c.in-Err.ensures.refused.0) (long_reads heard old line listener c.in-Err.ensures.longer)
+    subst (λ why. Reads heard old line listener listener (Err (LineError.Refused why)) old) (sym c.in-Err.ensures.refused.0) (long_reads heard old line listener c.in-Err.ensures.longer)
 
 pub returns-in-Some : goal.returns-in-Some
 returns-in-Some g c =

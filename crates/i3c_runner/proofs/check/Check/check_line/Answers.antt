@@ -16,13 +16,13 @@ returns-in-Some c =
     let number = c.args.number in
     let line = c.args.line.now in
     let names = c.args.self.now.names in
-    let text = c.tell_fault.new.self.text in
+    let text = c.print_fault.new.self.text in
     let old = c.args.self.now.told in
-    let new = c.tell_fault.new.self.told in
+    let new = c.print_fault.new.self.told in
     let bad : IsBad line × IsSo line c.in-Some.fault = subst (λ fault. MatchOption fault (HasNoForm line → IsMarked line) (λ fault. IsBad line × IsSo line fault)) c.in-Some.is c.in_ok-fault.ensures in
-    on_ok c.tell_fault.result
-    (λ (is : IsFaultTold number line text × (c.tell_fault.new.self.names ≡ names) × (min new 18446744073709551615 ≡ min (old + 1) 18446744073709551615)). (
+    on_ok c.print_fault.result
+    (λ (is : IsFaultTold number line text × (c.print_fault.new.self.names ≡ names) × (min new 18446744073709551615 ≡ min (old + 1) 18446744073709551615)). (
       inl (bad.0, is.0, is.1),
       is.2 ∙ ap (λ n. min (old + n) 18446744073709551615) (sym (told_counts number is.0.0 text is.0.2)),
     ))
-    c.tell_fault.ensures
+    c.print_fault.ensures

@@ -1,5 +1,5 @@
 use Rattle.std.proofs.Common.{◌≡◌, ◌≢◌, ◌∙◌, ◌+◌, ◌++◌, Err, ap, min, subst, sym}
-use Rattle.i3c_text.specs.declared.stop.Stop.{Stop}
+use Rattle.i3c_text.specs.declared.line_error.LineError.{LineError}
 use Rattle.i3c_streams.specs.Outcomes.{PutsOrFails, output}
 use Rattle.i3c_script.specs.Printed.{end_text}
 use Rattle.i3c_runner.specs.Scripts.{LineRuns}
@@ -16,7 +16,7 @@ returns-clause-ends g c =
     let outcome = c.obey-outcome.result in
     let from = progress c.args.self.now in
     let to = progress c.settle.new.self in
-    let alive : outcome ≢ Err Stop.Memory = λ short. passes c.settle.result _ c.in_ok-settle.was (c.settle.ensures.memory short) in
+    let alive : outcome ≢ Err LineError.Memory = λ short. passes c.settle.result _ c.in_ok-settle.was (c.settle.ensures.memory short) in
     let obeyed = does_in (state c.args.self.now) c.args.line.now c.clear.new.self text outcome (noted (state c.obey-outcome.new.self) outcome) c.obey-outcome.ensures.reads c.clear.ensures alive in
     let does = subst (LineRuns (state c.args.self.now) c.args.line.now text (refusal_in outcome)) (sym c.settle.ensures.state) obeyed in
     let same : c.as_bytes.result.now ≡ text ++ end_text outcome = c.as_bytes.ensures ∙ c.in_ok-settle.ensures.told in

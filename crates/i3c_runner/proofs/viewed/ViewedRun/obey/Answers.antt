@@ -1,5 +1,5 @@
 use Rattle.std.proofs.Common.{◌≡◌, ◌≢◌, ◌∙◌, ◌+◌, ◌++◌, Err, ap, min, subst, sym}
-use Rattle.i3c_text.specs.declared.stop.Stop.{Stop}
+use Rattle.i3c_text.specs.declared.line_error.LineError.{LineError}
 use Rattle.i3c_script.specs.Obeying.{script}
 use Rattle.i3c_script.specs.Stops.{refusals}
 use Rattle.i3c_runner.specs.Expecting.{Standing}
@@ -20,7 +20,7 @@ returns-in-Ok-settle c =
     let new = c.take_sent.new.self in
     let line = c.args.line.now in
     let wire = new.wire.items in
-    let alive : outcome ≢ Err Stop.Memory = λ short. passes c.settle.result _ c.in-Ok-settle.is (c.settle.ensures.memory short) in
+    let alive : outcome ≢ Err LineError.Memory = λ short. passes c.settle.result _ c.in-Ok-settle.is (c.settle.ensures.memory short) in
     let does = does_in before line c.clear.new.self obeyed.text outcome (noted (state obeyed) outcome) c.obey-outcome.ensures.reads c.clear.ensures alive in
     let stays : noted (state obeyed) outcome ≡ state settled = sym c.settle.ensures.state in
     let ran = subst (λ s. LineRuns s line obeyed.text (refusal_in outcome) (state settled)) (ap (λ stage. record (state old) { script = script stage old.names }) c.in-Ok.ensures.same) (subst (LineRuns before line obeyed.text (refusal_in outcome)) stays does) in

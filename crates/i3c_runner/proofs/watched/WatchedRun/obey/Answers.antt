@@ -1,5 +1,5 @@
 use Rattle.std.proofs.Common.{◌≡◌, ◌≢◌, ◌∙◌, ◌+◌, ◌++◌, Err, ap, min, subst, sym}
-use Rattle.i3c_text.specs.declared.stop.Stop.{Stop}
+use Rattle.i3c_text.specs.declared.line_error.LineError.{LineError}
 use Rattle.i3c_script.specs.Printed.{end_text}
 use Rattle.i3c_script.specs.Stops.{refusals}
 use Rattle.i3c_runner.specs.Scripts.{LineRuns}
@@ -23,7 +23,7 @@ returns-in-Ok-show-clause-ran c =
     let waited = c.args.self.now.known.cuts in
     let number = c.args.number in
     let same = c.explain.ensures.script in
-    let alive : outcome ≢ Err Stop.Memory = λ short. passes c.settle.result _ c.in-Ok-settle.is (c.settle.ensures.memory short) in
+    let alive : outcome ≢ Err LineError.Memory = λ short. passes c.settle.result _ c.in-Ok-settle.is (c.settle.ensures.memory short) in
     let does = does_in (state old) line c.clear.new.self obeyed.text outcome (noted (state obeyed) outcome) c.obey-outcome.ensures.reads c.clear.ensures alive in
     let stays : noted (state obeyed) outcome ≡ state new = ap (λ s. noted (state s) outcome) (sym same) ∙ sym c.settle.ensures.state ∙ ap (λ s. state s) (sym c.show.ensures.script) in
     let text : settled.text ≡ obeyed.text ++ end_text outcome = c.in-Ok-settle.ensures.told ∙ ap (λ s. s.text ++ end_text outcome) same in

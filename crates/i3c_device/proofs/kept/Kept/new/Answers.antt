@@ -1,5 +1,0 @@
-use Rattle.i3c_device.proofs.KeepLaws.{unpacks_nobody}
-use Rattle.i3c_device.proofs.kept.Kept.new.Goals as goal
-
-pub returns : goal.returns
-returns c = unpacks_nobody c.new.result.items c.new.ensures.items

@@ -1,5 +1,0 @@
-use Rattle.std.proofs.Common.{length}
-use Rattle.i3c_scene.proofs.live.Live.+first_unmet.Given as goal
-
-abbrev pub decreases-first_unmet : goal.decreases-first_unmet
-decreases-first_unmet l = length l.expectations.now

@@ -1,0 +1,321 @@
+ghost use Rattle.std.specs.Prelude.{◌≡◌};
+ghost use Rattle.i3c_scene.specs.Going.{sends};
+ghost use Rattle.i3c_scene.specs.Near.{sets_some};
+
+use crate::line::{Expectation, Line};
+use crate::risk::Risk;
+use crate::scene::{Rest, Scene};
+use crate::scene_names::SceneNames;
+use crate::ways::Ways;
+use i3c_base::Slot;
+use i3c_bus::{Bus, BusSnapshot};
+use i3c_facts::Before;
+use i3c_lines::{Command, Name, Naming, Place, Refusal, slot_meant};
+use i3c_script::{Deaf, ScriptBus, Unkept};
+use i3c_text::LineError;
+use std::alloc::{AllocError, Global};
+use std::marker::Model;
+
+/// Names the lines of an exploration.
+struct Explored;
+
+/// A scene whose bus is awake, so that lines can be obeyed. It has to be put to rest again.
+pub struct SceneBus {
+    pub(crate) bus: ScriptBus<Unkept>,
+    pub(crate) known: SceneNames,
+}
+
+impl Model for SceneBus {
+    ghost use Rattle.i3c_scene.specs.Scenes.{Seen, seen};
+
+    ghost Value = { Seen };
+
+    ghost view = { λ l. seen l.bus.state l.bus.settings l.bus.cuts l.known };
+}
+
+impl Drop for SceneBus {
+    fn drop(self) {
+        let SceneBus { bus, known } = self;
+        drop(known);
+        bus.retire();
+    }
+}
+
+impl Scene {
+    ghost use Rattle.std.specs.Prelude.{◌≡◌, IfOk};
+
+    /// The bus awake, with a role or session of its own.
+    pub(crate) fn wake(&self, alloc: Global) -> Result<SceneBus, AllocError>
+        ensures { IfOk result (λ live. live ≡ self.now) }
+    {
+        let rest = &*self.rest;
+        let known = rest.known.copied()?;
+        let cuts = rest.cuts.clone()?;
+        match rest.still.wake(alloc) {
+            Ok((bus, hand)) => Ok(SceneBus {
+                bus: ScriptBus::of_parts(bus, hand, rest.settings.copied(), cuts, Unkept),
+                known,
+            }),
+            Err(_) => Err(AllocError),
+        }
+    }
+}
+
+impl SceneBus {
+    ghost use Rattle.std.specs.Prelude.{◌≡◌, ◌<◌, ◌^◌, IfOk, IfSome, IsTrue, OnOk};
+    ghost use Rattle.i3c_scene.specs.Near.{HasSameSettings, IsBehind, RaisesIn};
+    ghost use Rattle.i3c_script.specs.Stops.{Ends};
+    ghost use Rattle.i3c_facts.specs.declared.before.Before.{Before as BeforeValue};
+    ghost use Rattle.i3c_scene.specs.Trying.{RunsIn, all_hold, cut_as, slot_at_risk};
+    ghost use Rattle.i3c_scene.specs.declared.ways.Ways.{Ways as WaysValue};
+    ghost use Rattle.i3c_scene.specs.Going.{Does, cut_in, risked};
+
+    /// It comes to a scene. `is_set` says that it has the scene's settings and names.
+    pub(crate) fn wake_to(
+        &mut self,
+        alloc: Global,
+        scene: &Scene,
+        is_set: bool,
+    ) -> Result<(), AllocError>
+        requires { IsTrue is_set → HasSameSettings scene.now self.old }
+        ensures { OnOk result (self.new ≡ scene.now) }
+    {
+        let rest = &*scene.rest;
+        self.bus.wake_into(alloc, &rest.still)?;
+        self.bus.copy_cuts(&rest.cuts)?;
+        if is_set {
+            return Ok(());
+        }
+        self.bus.set_all(rest.settings.copied());
+        self.known.copy_from(&rest.known)
+    }
+
+    /// It comes back to a scene, from which it differs in one slot at most.
+    pub(crate) fn wake_at(&mut self, scene: &Scene, slot: Slot)
+        requires { IsBehind slot scene.now self.old }
+        ensures { self.new ≡ scene.now }
+    {
+        self.bus.wake_at(&scene.rest.still, slot);
+    }
+
+    /// The raise in a line, if the line is one: the slot of its device, and the byte. The name has to stand for a slot.
+    pub(crate) fn raise_in_line(&self, line: &Line) -> Option<(Slot, Option<u8>)>
+        ensures { IfSome result (λ raise. RaisesIn self.now line.now.command raise.0 raise.1) }
+    {
+        let Some(Command::Raise { name, byte }) = &line.command else {
+            return None;
+        };
+        match slot_meant(&self.known, name) {
+            Ok(slot) => Some((slot, *byte)),
+            Err(_) => None,
+        }
+    }
+
+    /// Tries a line that raises an interrupt in this slot: whether all that is expected holds. It changes no other slot.
+    pub(crate) fn try_raise(
+        &mut self,
+        line: &Line,
+        slot: Slot,
+        byte: Option<u8>,
+    ) -> Result<bool, AllocError>
+        requires { RaisesIn self.old line.now.command slot byte }
+        ensures tried { IfOk result (λ held. (before : BeforeValue) × ((ways : WaysValue) → RunsIn self.old line.now.command line.now.risk ways before self.new) × (held ≡ all_hold self.new before line.now.expectations.items)) }
+        ensures behind { OnOk result (IsBehind slot self.old self.new) }
+    {
+        match self.bus.raise_in(slot, byte, &mut Deaf) {
+            Ok(()) => Ok(self.all_hold(&Before::Done, line.expectations.as_slice())),
+            Err(LineError::Refused(why)) => {
+                Ok(self.all_hold(&Before::Refused(why), line.expectations.as_slice()))
+            }
+            Err(LineError::Memory) => Err(AllocError),
+        }
+    }
+
+    /// The bus at rest.
+    pub(crate) fn kept(&self, alloc: Global) -> Result<Scene, AllocError>
+        ensures { IfOk result (λ scene. scene ≡ self.now) }
+    {
+        let Ok(still) = BusSnapshot::of(alloc, self.bus.bus()) else {
+            return Err(AllocError);
+        };
+        let rest = Rest {
+            still,
+            settings: self.bus.settings().copied(),
+            cuts: self.bus.cuts().clone()?,
+            known: self.known.copied()?,
+        };
+        let rest = Box::new(alloc, rest)?;
+        Ok(Scene { rest })
+    }
+
+    /// The bus at rest, in the room of a scene.
+    pub(crate) fn keep_in(&self, alloc: Global, scene: &mut Scene) -> Result<(), AllocError>
+        ensures { OnOk result (scene.new ≡ self.now) }
+    {
+        let rest = &mut *scene.rest;
+        let Ok(()) = rest.still.copy_from(alloc, self.bus.bus()) else {
+            return Err(AllocError);
+        };
+        rest.settings = self.bus.settings().copied();
+        rest.cuts = self.bus.cuts().clone()?;
+        rest.known.copy_from(&self.known)?;
+        Ok(())
+    }
+
+    /// The bus.
+    pub(crate) fn bus(&self) -> &Bus
+        ensures { result.now.state ≡ self.now.state }
+    {
+        self.bus.bus()
+    }
+
+    /// How many records have left the log.
+    pub(crate) fn forgotten(&self) -> usize
+        ensures { result ≡ self.now.settings.forgotten }
+    {
+        self.bus.forgotten()
+    }
+
+    /// The names.
+    pub(crate) fn known(&self) -> &SceneNames
+        ensures { result.now ≡ self.now.names }
+    {
+        &self.known
+    }
+
+    /// Tries a line in these ways of the devices at risk: whether all that is expected holds.
+    pub(crate) fn tried(&mut self, line: &Line, ways: Ways) -> Result<bool, AllocError>
+        requires one { ways.one < 2 ^ 16 }
+        requires other { ways.other < 2 ^ 16 }
+        ensures { IfOk result (λ held. (before : BeforeValue) × RunsIn self.old line.now.command line.now.risk ways before self.new × (held ≡ all_hold self.new before line.now.expectations.items)) }
+    {
+        match self.run(line, ways) {
+            Ok(before) => Ok(self.all_hold(&before, line.expectations.as_slice())),
+            Err(short) => Err(short),
+        }
+    }
+
+    /// Runs a line in these ways of the devices at risk, and answers the result.
+    pub(crate) fn run(&mut self, line: &Line, ways: Ways) -> Result<Before, AllocError>
+        requires one { ways.one < 2 ^ 16 }
+        requires other { ways.other < 2 ^ 16 }
+        ensures { IfOk result (λ before. RunsIn self.old line.now.command line.now.risk ways before self.new) }
+    {
+        let Some(command) = &line.command else {
+            return Ok(Before::Nothing);
+        };
+        self.cut_as(sends(command), &line.risk, ways);
+        match self.obey(command) {
+            Ok(()) => Ok(Before::Done),
+            Err(LineError::Refused(why)) => Ok(Before::Refused(why)),
+            Err(LineError::Memory) => Err(AllocError),
+        }
+    }
+
+    /// Cuts the devices at risk in these ways, where the line sends a frame.
+    fn cut_as(&mut self, sends: bool, risk: &Risk, ways: Ways)
+        requires one { ways.one < 2 ^ 16 }
+        requires other { ways.other < 2 ^ 16 }
+        ensures { self.new ≡ cut_as self.old sends risk.now ways }
+    {
+        match risk {
+            Risk::Nobody => {}
+            Risk::One(name) => {
+                let slot = self.slot_at_risk(sends, name);
+                self.cut_in(slot, ways.one);
+            }
+            Risk::Two(one, other) => {
+                let first = self.slot_at_risk(sends, one);
+                let second = self.slot_at_risk(sends, other);
+                self.cut_in(first, ways.one);
+                self.cut_in(second, ways.other);
+            }
+        }
+    }
+
+    /// The slot of a name's device, where the line sends a frame in which that device may lose power.
+    fn slot_at_risk(&self, sends: bool, name: &Name) -> Option<Slot>
+        ensures { result ≡ slot_at_risk self.now sends name.now }
+    {
+        if sends {
+            self.risked(self.known.place_of(name))
+        } else {
+            None
+        }
+    }
+
+    /// The slot of a present device at this place, unless that device is the active controller.
+    fn risked(&self, place: Option<Place>) -> Option<Slot>
+        ensures { result ≡ risked self.now.state place }
+    {
+        let Place::Slot(slot) = place? else {
+            return None;
+        };
+        let bus = self.bus.bus();
+        if bus.present(slot) && slot != bus.active() {
+            Some(slot)
+        } else {
+            None
+        }
+    }
+
+    /// Cuts the slot's device as a way has it.
+    fn cut_in(&mut self, slot: Option<Slot>, way: usize)
+        requires { way < 2 ^ 16 }
+        ensures { self.new ≡ cut_in self.old slot way }
+    {
+        let Some(slot) = slot else {
+            return;
+        };
+        if way > 0 {
+            self.bus.add_cut(slot, (way - 1) as u16);
+        }
+    }
+
+    /// Whether all that is expected holds.
+    pub(crate) fn all_hold(&self, before: &Before, expectations: &[Expectation]) -> bool
+        ensures { result ≡ all_hold self.now before.now expectations.now }
+    {
+        let Some((first, rest)) = expectations.split_first() else {
+            return true;
+        };
+        first.facts.hold(self.bus(), &self.known, before) && self.all_hold(before, rest)
+    }
+
+    /// Obeys a line's command, which nobody hears.
+    pub(crate) fn obey(&mut self, command: &Command) -> Result<(), LineError<Refusal>>
+        ensures { Ends (λ refused. Does self.old command.now refused self.new) result }
+    {
+        self.bus
+            .obey::<Explored, SceneNames, Deaf>(&mut self.known, command, &mut Deaf)
+    }
+}
+
+/// Whether a command may give a name, or set what frames accept or which records have left the log.
+pub(crate) fn sets_some(command: &Option<Command>) -> bool
+    ensures { result ≡ sets_some command.now }
+{
+    matches!(
+        command,
+        Some(
+            Command::Attach { .. }
+                | Command::Policy(_)
+                | Command::PolicyBut { .. }
+                | Command::Forget(_)
+        )
+    )
+}
+
+/// Whether a command sends a frame that takes the cuts that wait.
+pub(crate) fn sends(command: &Command) -> bool
+    ensures { result ≡ sends command.now }
+{
+    match command {
+        Command::Frame(_)
+        | Command::HandOver { .. }
+        | Command::Open
+        | Command::Round
+        | Command::Daa => true,
+        _ => false,
+    }
+}
