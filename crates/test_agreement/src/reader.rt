@@ -3,7 +3,7 @@ use crate::script::{KNOWN, Script};
 use i3c_base::{ADDRESSES, Addr7, Cuts, Fixed, Lvr, RoundReply, SLOTS, Setup, Slot};
 use i3c_bus::{Command as Frame, Event, Reply};
 use i3c_legacy::Legacies;
-use i3c_lines::{ACCEPT_ALL, Command, Name, Names, PlacedCut, read_line, slot_meant};
+use i3c_lines::{ACCEPT_ALL, Command, Name, Names, Place, read_line, slot_meant};
 use i3c_model::{Choice, Plain};
 use i3c_step::copy_of;
 use std::alloc::Global;
@@ -367,9 +367,9 @@ impl Running {
             return self.free_slot();
         };
         match place {
-            PlacedCut::Legacy(_) => None,
-            PlacedCut::Gone => self.free_slot(),
-            PlacedCut::Slot(slot) => {
+            Place::Legacy(_) => None,
+            Place::Gone => self.free_slot(),
+            Place::Slot(slot) => {
                 if self.plain.present(slot) {
                     Some(slot)
                 } else {
