@@ -18,11 +18,15 @@ pub struct Assignment {
 }
 
 impl Assignment {
-    ghost use Rattle.std.specs.Prelude.{◌≡◌, []};
+    ghost use Rattle.std.specs.Prelude.{◌≡◌, [], true};
+    ghost use Rattle.i3c_base.specs.declared.requests.Served.{Served as ServedValue};
 
-    /// What an assignment in which nobody hears comes to.
+    /// What an assignment in which nobody hears comes to: no request, no address, and nothing left to do.
+    #[inline(always)]
     pub fn new() -> Assignment
-        ensures { result.given.items ≡ [] }
+        ensures quiet { result.served ≡ ServedValue.Quiet }
+        ensures none { result.given.items ≡ [] }
+        ensures whole { result.complete ≡ true }
     {
         Assignment {
             served: Served::Quiet,

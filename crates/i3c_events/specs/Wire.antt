@@ -1,5 +1,5 @@
 -- What ENEC, DISEC, SETDASA, SETNEWDA, SETMWL and SETMRL put on the wire.
-use Rattle.std.specs.Prelude.{◌≡◌, ℕ, ◌*◌, true, false, List, [], ◌∷◌, Option, Some, None}
+use Rattle.std.specs.Prelude.{◌≡◌, ℕ, ◌*◌, true, false, List, [], ◌∷◌, ◌++◌, map, Option, Some, None}
 use Rattle.i3c_base.specs.declared.answers.Answer.{Answer}
 use Rattle.i3c_base.specs.declared.datum.Direction.{Direction}
 use Rattle.i3c_base.specs.declared.kinds.Change.{Change}
@@ -48,3 +48,10 @@ IsLengthWire way (Some a) most (Answer.NoAnswer b) wire =
 IsLengthWire way (Some a) most answer wire =
     (code : Word) × (upper : Word) × (lower : Word) × IsWord (length_code_byte way (Some a)) code × IsWord 0 upper × IsWord most lower
     × (wire ≡ Symbol.Word code ∷ Repeated ∷ Header a false true ∷ Symbol.Word upper ∷ Symbol.Word lower ∷ Stop ∷ [])
+
+-- the same of any command: its code, the header of its target if it has one, and its data, unless nobody acknowledges that
+-- header
+abbrev pub command_wire : Word → Option ℕ → List Word → Answer → List Symbol
+command_wire code None words answer = Symbol.Word code ∷ map Symbol.Word words ++ Stop ∷ []
+command_wire code (Some a) words (Answer.NoAnswer b) = Symbol.Word code ∷ Repeated ∷ Header a false false ∷ Stop ∷ []
+command_wire code (Some a) words answer = Symbol.Word code ∷ Repeated ∷ Header a false true ∷ map Symbol.Word words ++ Stop ∷ []

@@ -1,16 +1,16 @@
-ghost use Rattle.std.specs.Prelude.{Some, None};
-ghost use Rattle.i3c_base.specs.declared.answers.Answer.{Answer as AnswerValue};
+ghost use Rattle.std.specs.Prelude.{◌≡◌, ◌∷◌, ◌++◌, [], false, map};
 ghost use Rattle.i3c_events.specs.Hearing.{answer_of};
-ghost use Rattle.i3c_events.specs.Wire.{IsKindsWire, IsLengthWire, IsSettingWire, IsUnsetWire};
+ghost use Rattle.i3c_events.specs.Wire.{IsKindsWire, IsLengthWire, IsSettingWire, command_wire};
 ghost use Rattle.i3c_events.specs.Words.{setting_byte};
 ghost use Rattle.i3c_frame.specs.Taps.{Tells};
+ghost use Rattle.i3c_frame.specs.declared.symbols.Symbol.{Symbol as SymbolValue};
 
 use crate::hearing::NoAnswer;
 use crate::setting::Setting;
 use crate::words::{address_word, code_word, kinds_word, length_code, length_word, setting_word};
 use i3c_base::{Addr7, Change, Direction, Kinds, Length};
 use i3c_frame::{Symbol, Tap};
-use i3c_word::write_word;
+use i3c_word::{Word, write_word};
 
 /// Tells ENEC or DISEC as it was heard, up to its STOP (I3C Basic 5.1.9.3.1).
 pub fn tell_kinds<T: Tap>(
@@ -22,52 +22,7 @@ pub fn tell_kinds<T: Tap>(
 )
     ensures { Tells T.note_gives tap.old tap.new (IsKindsWire change to.now kinds (answer_of heard.now)) }
 {
-    let Some(address) = to else {
-        tell_to_all(tap, change, kinds);
-        return;
-    };
-    match heard {
-        Ok(()) => tell_to_one(tap, change, *address, kinds),
-        Err(NoAnswer(_)) => tell_unanswered(tap, change, *address, kinds),
-    }
-}
-
-/// Tells ENEC or DISEC to all, up to its STOP.
-fn tell_to_all<T: Tap>(tap: &mut T, change: Change, kinds: Kinds)
-    ensures { Tells T.note_gives tap.old tap.new (IsKindsWire change None kinds AnswerValue.Done) }
-{
-    tap.note(Symbol::Word(code_word(change, None)));
-    tap.note(Symbol::Word(kinds_word(kinds)));
-    tap.note(Symbol::Stop);
-}
-
-/// Tells ENEC or DISEC to an address that acknowledges, up to its STOP.
-fn tell_to_one<T: Tap>(tap: &mut T, change: Change, address: Addr7, kinds: Kinds)
-    ensures { Tells T.note_gives tap.old tap.new (IsKindsWire change (Some address) kinds AnswerValue.Done) }
-{
-    tap.note(Symbol::Word(code_word(change, Some(address))));
-    tap.note(Symbol::Repeated);
-    tap.note(Symbol::Header {
-        address,
-        read: false,
-        ack: true,
-    });
-    tap.note(Symbol::Word(kinds_word(kinds)));
-    tap.note(Symbol::Stop);
-}
-
-/// Tells ENEC or DISEC to an address that nobody acknowledges, up to its STOP.
-fn tell_unanswered<T: Tap>(tap: &mut T, change: Change, address: Addr7, kinds: Kinds)
-    ensures { Tells T.note_gives tap.old tap.new (IsKindsWire change (Some address) kinds (AnswerValue.NoAnswer address)) }
-{
-    tap.note(Symbol::Word(code_word(change, Some(address))));
-    tap.note(Symbol::Repeated);
-    tap.note(Symbol::Header {
-        address,
-        read: false,
-        ack: false,
-    });
-    tap.note(Symbol::Stop);
+    tell_command(tap, code_word(change, *to), to, &[kinds_word(kinds)], heard);
 }
 
 /// Tells SETDASA or SETNEWDA to a target as it was heard, up to its STOP (I3C Basic 5.1.9.3.10 and 5.1.9.3.11).
@@ -80,39 +35,13 @@ pub fn tell_setting<T: Tap>(
 )
     ensures { Tells T.note_gives tap.old tap.new (IsSettingWire (setting_byte setting) target new (answer_of heard.now)) }
 {
-    match heard {
-        Ok(()) => tell_set(tap, setting, target, new),
-        Err(NoAnswer(_)) => tell_unset(tap, setting, target),
-    }
-}
-
-/// Tells SETDASA or SETNEWDA to a target that acknowledges, up to its STOP.
-fn tell_set<T: Tap>(tap: &mut T, setting: Setting, target: Addr7, new: Addr7)
-    ensures { Tells T.note_gives tap.old tap.new (IsSettingWire (setting_byte setting) target new AnswerValue.Done) }
-{
-    tap.note(Symbol::Word(setting_word(setting)));
-    tap.note(Symbol::Repeated);
-    tap.note(Symbol::Header {
-        address: target,
-        read: false,
-        ack: true,
-    });
-    tap.note(Symbol::Word(address_word(new)));
-    tap.note(Symbol::Stop);
-}
-
-/// Tells SETDASA or SETNEWDA to a target that nobody acknowledges, up to its STOP.
-fn tell_unset<T: Tap>(tap: &mut T, setting: Setting, target: Addr7)
-    ensures { Tells T.note_gives tap.old tap.new (IsUnsetWire (setting_byte setting) target) }
-{
-    tap.note(Symbol::Word(setting_word(setting)));
-    tap.note(Symbol::Repeated);
-    tap.note(Symbol::Header {
-        address: target,
-        read: false,
-        ack: false,
-    });
-    tap.note(Symbol::Stop);
+    tell_command(
+        tap,
+        setting_word(setting),
+        &Some(target),
+        &[address_word(new)],
+        heard,
+    );
 }
 
 /// Tells SETMWL or SETMRL as it was heard, up to its STOP (I3C Basic 5.1.9.3.5 and 5.1.9.3.6).
@@ -125,52 +54,56 @@ pub fn tell_length<T: Tap>(
 )
     ensures { Tells T.note_gives tap.old tap.new (IsLengthWire way to.now most (answer_of heard.now)) }
 {
+    let data = [write_word(0), length_word(most)];
+    tell_command(tap, length_code(way, *to), to, &data, heard);
+}
+
+/// Tells a command as it was heard, up to its STOP: its code, the header of its target if it has one, and its data, unless
+/// nobody acknowledges that header.
+fn tell_command<T: Tap>(
+    tap: &mut T,
+    code: Word,
+    to: &Option<Addr7>,
+    words: &[Word],
+    heard: &Result<(), NoAnswer>,
+)
+    ensures { Tells T.note_gives tap.old tap.new (λ wire. wire ≡ command_wire code to.now words.now (answer_of heard.now)) }
+{
+    tap.note(Symbol::Word(code));
     let Some(address) = to else {
-        tell_length_to_all(tap, way, most);
+        tell_data(tap, words);
         return;
     };
+    tap.note(Symbol::Repeated);
     match heard {
-        Ok(()) => tell_length_to_one(tap, way, *address, most),
-        Err(NoAnswer(_)) => tell_length_unanswered(tap, way, *address, most),
+        Ok(()) => {
+            tap.note(write_header(*address, true));
+            tell_data(tap, words);
+        }
+        Err(NoAnswer(_)) => {
+            tap.note(write_header(*address, false));
+            tap.note(Symbol::Stop);
+        }
     }
 }
 
-/// Tells SETMWL or SETMRL to all, up to its STOP.
-fn tell_length_to_all<T: Tap>(tap: &mut T, way: Direction, most: Length)
-    ensures { Tells T.note_gives tap.old tap.new (IsLengthWire way None most AnswerValue.Done) }
+/// The header of a command's target, with its ACK.
+fn write_header(address: Addr7, ack: bool) -> Symbol
+    ensures { result ≡ SymbolValue.Header address false ack }
 {
-    tap.note(Symbol::Word(length_code(way, None)));
-    tap.note(Symbol::Word(write_word(0)));
-    tap.note(Symbol::Word(length_word(most)));
-    tap.note(Symbol::Stop);
-}
-
-/// Tells SETMWL or SETMRL to an address that acknowledges, up to its STOP.
-fn tell_length_to_one<T: Tap>(tap: &mut T, way: Direction, address: Addr7, most: Length)
-    ensures { Tells T.note_gives tap.old tap.new (IsLengthWire way (Some address) most AnswerValue.Done) }
-{
-    tap.note(Symbol::Word(length_code(way, Some(address))));
-    tap.note(Symbol::Repeated);
-    tap.note(Symbol::Header {
+    Symbol::Header {
         address,
         read: false,
-        ack: true,
-    });
-    tap.note(Symbol::Word(write_word(0)));
-    tap.note(Symbol::Word(length_word(most)));
-    tap.note(Symbol::Stop);
+        ack,
+    }
 }
 
-/// Tells SETMWL or SETMRL to an address that nobody acknowledges, up to its STOP.
-fn tell_length_unanswered<T: Tap>(tap: &mut T, way: Direction, address: Addr7, most: Length)
-    ensures { Tells T.note_gives tap.old tap.new (IsLengthWire way (Some address) most (AnswerValue.NoAnswer address)) }
+/// Tells the data of a command, and STOP.
+fn tell_data<T: Tap>(tap: &mut T, words: &[Word])
+    ensures { Tells T.note_gives tap.old tap.new (λ wire. wire ≡ map SymbolValue.Word words.now ++ SymbolValue.Stop ∷ []) }
 {
-    tap.note(Symbol::Word(length_code(way, Some(address))));
-    tap.note(Symbol::Repeated);
-    tap.note(Symbol::Header {
-        address,
-        read: false,
-        ack: false,
-    });
+    for word in words {
+        tap.note(Symbol::Word(*word));
+    }
     tap.note(Symbol::Stop);
 }

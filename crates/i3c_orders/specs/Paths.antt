@@ -1,0 +1,82 @@
+-- A run as a path of choices, and the next one.
+use Rattle.std.specs.Prelude.{◌≡◌, ◌≢◌, ◌⊎◌, ◌<◌, ℕ, suc, true, false, List, [], ◌∷◌, ◌++◌, length, map, slice_get, Option, None, Some, MatchOption, Result, Ok, Err, Bool}
+use Rattle.i3c_orders.specs.declared.choice.Choice.{Choice}
+use Rattle.i3c_orders.specs.declared.choice.Step.{Step}
+use Rattle.i3c_orders.specs.declared.orders.SendFault.{SendFault}
+use Rattle.i3c_orders.specs.declared.orders.Unfinished.{Unfinished}
+use Rattle.i3c_orders.specs.Runs.{AreAll}
+
+-- the runs of a program: where each begins, the path of choices, and how many of these the program has come by in this run
+pub record Tree (L S A : Type 0) : Type 0 where
+  pub start : S
+  pub path : List (Choice L S A)
+  pub at : ℕ
+
+abbrev pub tree : {L S A : Type 0} → S → List (Choice L S A) → ℕ → Tree L S A
+tree start path at = record { start = start; path = path; at = at }
+
+-- the run of a path
+abbrev pub steps_of : {L S A : Type 0} → List (Choice L S A) → List (Step S A)
+steps_of path = map (λ choice. choice.taken) path
+
+-- the answers on a path
+abbrev pub told_on : {L S A : Type 0} → List (Choice L S A) → List A
+told_on path = map (λ choice. choice.taken.answer) path
+
+-- the newest step of a path
+abbrev pub last_step : {L S A : Type 0} → List (Choice L S A) → Option (Step S A)
+last_step [] = None
+last_step (choice ∷ []) = Some choice.taken
+last_step (choice ∷ next ∷ path) = last_step (next ∷ path)
+
+-- the state behind a path
+abbrev pub state_behind : {L S A : Type 0} → S → List (Choice L S A) → S
+state_behind start [] = start
+state_behind start (choice ∷ path) = state_behind choice.taken.state path
+
+-- a line is answered at the end of a path: of all that it may be answered one is taken, and the others are left
+abbrev pub Sends : {L S A : Type 0} → (S → L → A → S → Type 0) → S → List (Choice L S A) → L → List (Choice L S A) → Type 0
+Sends {L} {S} {A} leads start old line new =
+    (choice : Choice L S A) × (choice.line ≡ line) × AreAll leads (state_behind start old) line (choice.taken ∷ choice.left.items) × (new ≡ old ++ choice ∷ [])
+
+-- no choice of a path has anything left
+abbrev pub IsOver : {L S A : Type 0} → List (Choice L S A) → Type 0
+IsOver [] = Unit {0}
+IsOver (choice ∷ path) = (choice.left.items ≡ []) × IsOver path
+
+-- the next run goes along a path up to its last choice with something left, and takes one of what is left there
+abbrev pub Retreats : {L S A : Type 0} → List (Choice L S A) → List (Choice L S A) → Type 0
+Retreats [] new = ⊥
+Retreats (choice ∷ path) [] = ⊥
+Retreats {L} {S} {A} (choice ∷ path) (other ∷ new) =
+    ((other ≡ choice) × Retreats path new) ⊎ (IsOver path × (new ≡ []) × (other.line ≡ choice.line) × (choice.left.items ≡ other.left.items ++ other.taken ∷ []))
+
+-- a line of a run that came to the end of its path is answered there
+pub record IsSent {S L A : Type 0} (leads : S → L → A → S → Type 0) (old : Tree L S A) (line : L) (new : Tree L S A) : Type 0 where
+  pub start : new.start ≡ old.start
+  pub path : Sends leads old.start old.path line new.path
+  pub at : new.at ≡ length new.path
+
+-- what a line comes to: at the end of the path it is answered; before it has to be the line of the run before, and is answered as there
+abbrev pub Answers : {S L A : Type 0} → (S → L → A → S → Type 0) → Tree L S A → L → Result (Unit {0}) SendFault → Tree L S A → Type 0
+Answers leads old line (Ok done) new =
+    MatchOption (slice_get old.path old.at) (IsSent leads old line new) (λ choice. (choice.line ≡ line) × (new ≡ tree old.start old.path (suc old.at)))
+Answers {S} {L} {A} leads old line (Err SendFault.Differs) new =
+    (choice : Choice L S A) × (slice_get old.path old.at ≡ Some choice) × (choice.line ≢ line) × (new ≡ old)
+Answers leads old line (Err SendFault.Memory) new = (old.at ≡ length old.path) × (new ≡ old)
+
+-- what the end of a run comes to, which has to be at the end of the path: the next run begins, or no run is left
+abbrev pub Ends : {S L A : Type 0} → Tree L S A → Result Bool Unfinished → Tree L S A → Type 0
+Ends old (Ok true) new = (old.at ≡ length old.path) × Retreats old.path new.path × (new.at ≡ 0) × (new.start ≡ old.start)
+Ends old (Ok false) new = (old.at ≡ length old.path) × IsOver old.path × (new ≡ tree old.start [] 0)
+Ends old (Err unfinished) new = (old.at < length old.path) × (new ≡ old)
+
+-- the same line with another answer of those that are left, if any is
+abbrev pub IsOther : {L S A : Type 0} → Choice L S A → Option (Choice L S A) → Type 0
+IsOther choice None = choice.left.items ≡ []
+IsOther choice (Some other) = (other.line ≡ choice.line) × (choice.left.items ≡ other.left.items ++ other.taken ∷ [])
+
+-- the next path, if there is one
+abbrev pub Turns : {L S A : Type 0} → List (Choice L S A) → Bool → List (Choice L S A) → Type 0
+Turns old true new = Retreats old new
+Turns old false new = IsOver old × (new ≡ [])

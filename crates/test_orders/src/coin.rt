@@ -1,0 +1,60 @@
+ghost use Rattle.std.specs.Prelude.{◌≡◌, ◌<◌, IfOk, length};
+ghost use Rattle.i3c_orders.specs.Runs.{AreAll};
+ghost use Rattle.test_orders.specs.Coins.{Falls};
+
+use i3c_orders::{Responder, Step};
+use std::alloc::{AllocError, Global};
+
+/// A coin that lies on one of its sides.
+#[derive(Clone, Copy, Debug, PartialEq, Eq)]
+pub struct Coin {
+    /// Its head is above.
+    pub head: bool,
+}
+
+/// A line.
+#[derive(Clone, Copy, Debug, PartialEq, Eq)]
+pub enum Line {
+    /// The coin is tossed, and falls on either side. The answer is whether its head is above.
+    Toss,
+    /// The coin is looked at. The answer is whether its head is above.
+    Look,
+}
+
+impl Responder for Coin {
+    type Line = Line;
+
+    type Answer = bool;
+
+    ghost leads = { Falls };
+
+    fn steps(&self, alloc: Global, line: &Line) -> Result<Vec<Step<Coin, bool>>, AllocError> {
+        let mut steps = Vec::new(alloc);
+        match line {
+            Line::Toss => {
+                steps.push(fallen(false))?;
+                steps.push(fallen(true))?;
+            }
+            Line::Look => steps.push(fallen(self.head))?,
+        }
+        Ok(steps)
+    }
+
+    fn is_same(one: &Line, other: &Line) -> bool {
+        match (one, other) {
+            (Line::Toss, Line::Toss) | (Line::Look, Line::Look) => true,
+            (Line::Toss, Line::Look) | (Line::Look, Line::Toss) => false,
+        }
+    }
+}
+
+/// The coin has fallen on a side.
+fn fallen(head: bool) -> Step<Coin, bool>
+    ensures answer { result.answer ≡ head }
+    ensures state { result.state.head ≡ head }
+{
+    Step {
+        answer: head,
+        state: Coin { head },
+    }
+}
