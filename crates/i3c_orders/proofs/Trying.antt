@@ -1,12 +1,12 @@
 -- The runs that were tried are all, where nothing is left.
-use Rattle.std.proofs.Common.{◌≡◌, ◌≢◌, ◌⊎◌, inl, inr, ℕ, zero, suc, List, [], ◌∷◌, ◌++◌, Contains, Option, None, Some, map, ap, refl, sym, subst, ◌∙◌, arith, ◌<◌, length, slice_index_or, ◌↔◌}
+use Rattle.std.proofs.Common.{◌≡◌, ◌⊎◌, inl, inr, zero, suc, List, [], ◌∷◌, ◌++◌, Contains, Option, None, Some, ap, refl, sym, subst, ◌∙◌, arith, ◌↔◌}
 use Rattle.std.specs.Bool.{⊤}
 use Rattle.std.proofs.lemmas.List.{append_assoc, append-nil}
 use Rattle.std.proofs.lemmas.List.Elements.{Contains-append_left, Contains-append_right, Contains-append_cases}
 use Rattle.std.proofs.lemmas.Option.{same_Some}
 use Rattle.i3c_orders.specs.declared.choice.Choice.{Choice}
 use Rattle.i3c_orders.specs.declared.choice.Step.{Step}
-use Rattle.i3c_orders.specs.Paths.{IsOver, Retreats, Sends, state_behind, steps_of, told_on}
+use Rattle.i3c_orders.specs.Paths.{IsOver, Retreats, state_behind, steps_of, told_on}
 use Rattle.i3c_orders.specs.Runs.{AreAll, IsRun, IsRunFrom}
 use Rattle.i3c_orders.specs.Sessions.{IsTried, Move}
 

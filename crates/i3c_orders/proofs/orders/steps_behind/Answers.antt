@@ -1,4 +1,4 @@
-use Rattle.std.proofs.Common.{Some, ◌≡◌, ◌∙◌, ◌-◌, length, subst, sym, IfOk}
+use Rattle.std.proofs.Common.{Some, ◌≡◌, ◌-◌, length, subst, sym, IfOk}
 use Rattle.std.specs.List.{slice_get}
 use Rattle.i3c_orders.specs.Runs.{AreAll}
 use Rattle.i3c_orders.proofs.Ending.{end_is}

@@ -1,7 +1,7 @@
-use Rattle.std.proofs.Common.{Some, ◌+◌, ◌≡◌, ◌∙◌, arith, length, subst, sym, suc, take, refl}
+use Rattle.std.proofs.Common.{Some, ◌≡◌, arith, length, subst, sym, suc, take, refl}
 use Rattle.std.proofs.lemmas.Option.{slice_get_read}
 use Rattle.std.specs.List.{slice_get}
-use Rattle.i3c_orders.specs.Paths.{Tree, last_step}
+use Rattle.i3c_orders.specs.Paths.{last_step}
 use Rattle.i3c_orders.proofs.Ending.{newest_is}
 use Rattle.i3c_orders.proofs.orders.Orders.newest.Goals as goal
 
