@@ -60,6 +60,7 @@ pub fn tell_length<T: Tap>(
 
 /// Tells a command as it was heard, up to its STOP: its code, the header of its target if it has one, and its data, unless
 /// nobody acknowledges that header.
+#[inline(always)]
 fn tell_command<T: Tap>(
     tap: &mut T,
     code: Word,
@@ -88,6 +89,7 @@ fn tell_command<T: Tap>(
 }
 
 /// The header of a command's target, with its ACK.
+#[inline(always)]
 fn write_header(address: Addr7, ack: bool) -> Symbol
     ensures { result ≡ SymbolValue.Header address false ack }
 {
@@ -99,6 +101,7 @@ fn write_header(address: Addr7, ack: bool) -> Symbol
 }
 
 /// Tells the data of a command, and STOP.
+#[inline(always)]
 fn tell_data<T: Tap>(tap: &mut T, words: &[Word])
     ensures { Tells T.note_gives tap.old tap.new (λ wire. wire ≡ map SymbolValue.Word words.now ++ SymbolValue.Stop ∷ []) }
 {

@@ -12,11 +12,14 @@ use Rattle.i3c_frame.proofs.TapLaws.{NotesAll-nil}
 use Rattle.i3c_step.specs.declared.events.Command.{Command as Frame}
 use Rattle.i3c_step.specs.declared.events.Event.{Event}
 use Rattle.i3c_step.specs.declared.replies.Reply.{Reply}
+use Rattle.i3c_base.specs.declared.refusals.JoinRefusal.{JoinRefusal}
 use Rattle.i3c_base.specs.declared.refusals.RaiseRefusal.{RaiseRefusal}
+use Rattle.i3c_base.specs.declared.refusals.RoleRefusal.{RoleRefusal}
+use Rattle.i3c_step.specs.declared.replies.DropRefusal.{DropRefusal}
 use Rattle.i3c_step.specs.declared.replies.SlotTaken.{SlotTaken}
 use Rattle.i3c_step.specs.Commands.{event_of}
 use Rattle.i3c_log_laws.specs.Behind.{reply_from}
-use Rattle.i3c_step.specs.Replies.{attached_reply, raised_reply}
+use Rattle.i3c_step.specs.Replies.{attached_reply, dropped_reply, joins_reply, raised_reply, role_reply}
 use Rattle.i3c_step.specs.Slots.{is_handed}
 use Rattle.i3c_step.specs.Step.{Step, cuts_in}
 use Rattle.i3c_step.proofs.SlotLaws.{slots_kept}
@@ -25,9 +28,7 @@ use Rattle.i3c_lines.specs.declared.names.Name.{Name}
 use Rattle.i3c_lines.specs.declared.refusals.Refusal.{Refusal}
 use Rattle.i3c_lines.specs.Keeping.{NamesKept, slot_meant}
 use Rattle.i3c_text.specs.declared.line_error.LineError.{LineError}
-use Rattle.i3c_script.specs.declared.local_event.LocalEvent.{LocalEvent}
 use Rattle.i3c_script.specs.declared.piece.Piece.{Piece}
-use Rattle.i3c_script.specs.Asking.{event_in}
 use Rattle.i3c_script.specs.declared.replies.Subject.{Subject}
 use Rattle.i3c_script.specs.declared.settings.Settings.{Settings}
 use Rattle.i3c_script.specs.Hearing.{Hears}
@@ -42,12 +43,6 @@ use Rattle.i3c_script.proofs.Hearing.{hears_by}
 -- a frame takes all cuts that wait
 pub all_taken : (event : Event) (cuts : CutList) → is_some (cuts_in event) ≡ true → cuts_left event cuts ≡ no_cuts
 all_taken event cuts frame = ap (λ b. cond b no_cuts cuts) frame
-
--- what a device does by itself takes no cuts
-pub none_taken : (what : LocalEvent) (slot : ℕ) (cuts : CutList) → cuts_left (event_in what slot) cuts ≡ cuts
-none_taken LocalEvent.DropOff slot cuts = refl
-none_taken LocalEvent.AskJoin slot cuts = refl
-none_taken LocalEvent.AskRole slot cuts = refl
 
 -- symbols that were noted are sent
 pub sent_by : {P : Type 0} (past : PastKept P) (note : P → Symbol → P → Type 0) → ((old : P) (symbol : Symbol) (new : P) → note old symbol new → past.notes old symbol new) → (old new : P) (Is : List Symbol → Type 0) → Tells note old new Is → IsSent past old Is new
@@ -194,24 +189,60 @@ pub attached_still : (old new : State) (event : Event) (attached : Result (Unit 
 attached_still old new event (Ok done) = refl
 attached_still old new event (Err why) = refl
 
+pub dropped_still : (old new : State) (event : Event) (dropped : Result (Unit {0}) DropRefusal) → IsWire old event (dropped_reply dropped) new []
+dropped_still old new event (Ok done) = refl
+dropped_still old new event (Err why) = refl
+
 pub raised_still : (old new : State) (event : Event) (raised : Result ℕ RaiseRefusal) → IsWire old event (raised_reply raised) new []
 raised_still old new event (Ok number) = refl
 raised_still old new event (Err why) = refl
+
+pub join_still : (old new : State) (event : Event) (asked : Result (Unit {0}) JoinRefusal) → IsWire old event (joins_reply asked) new []
+join_still old new event (Ok done) = refl
+join_still old new event (Err why) = refl
+
+pub role_still : (old new : State) (event : Event) (asked : Result (Unit {0}) RoleRefusal) → IsWire old event (role_reply asked) new []
+role_still old new event (Ok done) = refl
+role_still old new event (Err why) = refl
 
 -- and hands no role over
 pub attached_unhanded : (attached : Result (Unit {0}) SlotTaken) → is_handed (attached_reply attached) ≡ false
 attached_unhanded (Ok done) = refl
 attached_unhanded (Err why) = refl
 
+pub dropped_unhanded : (dropped : Result (Unit {0}) DropRefusal) → is_handed (dropped_reply dropped) ≡ false
+dropped_unhanded (Ok done) = refl
+dropped_unhanded (Err why) = refl
+
 pub raised_unhanded : (raised : Result ℕ RaiseRefusal) → is_handed (raised_reply raised) ≡ false
 raised_unhanded (Ok number) = refl
 raised_unhanded (Err why) = refl
+
+pub join_unhanded : (asked : Result (Unit {0}) JoinRefusal) → is_handed (joins_reply asked) ≡ false
+join_unhanded (Ok done) = refl
+join_unhanded (Err why) = refl
+
+pub role_unhanded : (asked : Result (Unit {0}) RoleRefusal) → is_handed (role_reply asked) ≡ false
+role_unhanded (Ok done) = refl
+role_unhanded (Err why) = refl
 
 -- and counts no record
 pub attached_counted : (forgotten : ℕ) (attached : Result (Unit {0}) SlotTaken) → reply_from forgotten (attached_reply attached) ≡ attached_reply attached
 attached_counted forgotten (Ok done) = refl
 attached_counted forgotten (Err why) = refl
 
+pub dropped_counted : (forgotten : ℕ) (dropped : Result (Unit {0}) DropRefusal) → reply_from forgotten (dropped_reply dropped) ≡ dropped_reply dropped
+dropped_counted forgotten (Ok done) = refl
+dropped_counted forgotten (Err why) = refl
+
 pub raised_counted : (forgotten : ℕ) (raised : Result ℕ RaiseRefusal) → reply_from forgotten (raised_reply raised) ≡ raised_reply raised
 raised_counted forgotten (Ok number) = refl
 raised_counted forgotten (Err why) = refl
+
+pub join_counted : (forgotten : ℕ) (asked : Result (Unit {0}) JoinRefusal) → reply_from forgotten (joins_reply asked) ≡ joins_reply asked
+join_counted forgotten (Ok done) = refl
+join_counted forgotten (Err why) = refl
+
+pub role_counted : (forgotten : ℕ) (asked : Result (Unit {0}) RoleRefusal) → reply_from forgotten (role_reply asked) ≡ role_reply asked
+role_counted forgotten (Ok done) = refl
+role_counted forgotten (Err why) = refl

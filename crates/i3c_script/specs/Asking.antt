@@ -1,21 +1,13 @@
--- The slots that a line's names stand for, what happens there, and where a device enters.
+-- The slots that a line's names stand for, and where a device enters.
 use Rattle.std.specs.Prelude.{ℕ, ◌<◌, List, [], ◌∷◌, Option, Some, None, Result, Ok, Err, if◌then◌else◌, is_some}
 use Rattle.i3c_base.specs.declared.range.TheConstants.{SLOTS}
 use Rattle.i3c_base.specs.State.{State, IsPresent, device_at}
-use Rattle.i3c_step.specs.declared.events.Event.{Event}
 use Rattle.i3c_step.specs.declared.replies.Refusal.{Refusal as BusRefusal}
 use Rattle.i3c_lines.specs.declared.names.Name.{Name}
 use Rattle.i3c_lines.specs.declared.names.Place.{Place}
 use Rattle.i3c_lines.specs.declared.refusals.Refusal.{Refusal}
 use Rattle.i3c_lines.specs.Keeping.{NamesKept, slot_meant}
-use Rattle.i3c_script.specs.declared.local_event.LocalEvent.{LocalEvent}
 use Rattle.i3c_script.specs.Slots.{AllPresentBelow}
-
--- an event of one device by itself, in its slot
-abbrev pub event_in : LocalEvent → ℕ → Event
-event_in LocalEvent.DropOff slot = Event.DropOff slot
-event_in LocalEvent.AskJoin slot = Event.AskJoin slot
-event_in LocalEvent.AskRole slot = Event.AskRole slot
 
 -- this slot, if it holds a device
 abbrev pub present_in : State → Result ℕ Refusal → Result ℕ Refusal

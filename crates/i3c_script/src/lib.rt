@@ -8,8 +8,7 @@
 //!   them.
 //! * `stage` is where a script is, before its bus and with it. `script_bus` obeys a line's command on a bus, whoever listens,
 //!   however names are kept (`Naming` of `i3c_lines`) and whatever is kept of the past (`past`). `journal` is what scripts
-//!   keep of it. `settings` is what lines have set. `local_event` is
-//!   what a line says of one device, to which it happens by itself. `slot_lookup` finds the slots that names mean.
+//!   keep of it. `settings` is what lines have set. `slot_lookup` finds the slots that names mean.
 //! * `assigning` plays the whole session of a `daa`. `replies` has the pieces of a reply and of such a session, `show` those
 //!   of the bus, and `details` those of all that it is; `tenures` those of the active controllers at the times of recorded
 //!   interrupts. `wires` keeps the last symbols; `symbols` and `frames` have their pieces.
@@ -21,7 +20,6 @@ mod details;
 mod frames;
 mod journal;
 mod laws;
-mod local_event;
 mod outcomes;
 mod past;
 mod piece;

@@ -1,5 +1,5 @@
 ghost use Rattle.std.specs.Prelude.{◌≡◌, List, OnOk};
-ghost use Rattle.i3c_step.specs.Replies.{attached_reply, raised_reply};
+ghost use Rattle.i3c_step.specs.Replies.{attached_reply, dropped_reply, joins_reply, raised_reply, role_reply};
 ghost use Rattle.i3c_script.specs.Hearing.{Hears, all_heard};
 ghost use Rattle.i3c_script.specs.Pieces.{answer_pieces, behind_request, entered_pieces, frame_subject, given_pieces, handed_pieces, reply_pieces, round_pieces, session_pieces, subject_of};
 ghost use Rattle.i3c_script.specs.declared.piece.Piece.{Piece as PieceValue};
@@ -9,9 +9,13 @@ ghost use Rattle.i3c_log_laws.specs.Behind.{counted_from, reply_from};
 
 use crate::outcomes::outcome_of;
 use crate::piece::{Listener, Piece};
-use i3c_base::{Addr7, Answer, Datum, Identity, RaiseRefusal, RoundReply, Served, Slot};
+use i3c_base::{
+    Addr7, Answer, Datum, Identity, JoinRefusal, RaiseRefusal, RoleRefusal, RoundReply, Served,
+    Slot,
+};
 use i3c_bus::{
-    Assignment, Command as Frame, Event, Framed, Refusal as BusRefusal, Reply, SlotTaken,
+    Assignment, Command as Frame, DropRefusal, Event, Framed, Refusal as BusRefusal, Reply,
+    SlotTaken,
 };
 use i3c_lines::{Name, Refusal};
 use i3c_text::LineError;
@@ -167,6 +171,54 @@ pub(crate) fn answer_attached<L: Listener>(
             Err(_) => Err(LineError::Memory),
         },
         Err(SlotTaken) => Err(LineError::Refused(Refusal::Bus(BusRefusal::SlotTaken))),
+    }
+}
+
+/// Lets a listener hear the result of a drop-off.
+pub(crate) fn answer_dropped<L: Listener>(
+    dropped: Result<(), DropRefusal>,
+    listener: &mut L,
+) -> Result<(), LineError<Refusal>>
+    ensures { Hears L.heard (IsTold SubjectValue.Nothing (dropped_reply dropped)) listener.old listener.new result }
+{
+    match dropped {
+        Ok(()) => match listener.hear(Piece::Dropped) {
+            Ok(()) => Ok(()),
+            Err(_) => Err(LineError::Memory),
+        },
+        Err(why) => Err(LineError::Refused(Refusal::Bus(why.into()))),
+    }
+}
+
+/// Lets a listener hear the result of a wish to join.
+pub(crate) fn answer_join<L: Listener>(
+    asked: Result<(), JoinRefusal>,
+    listener: &mut L,
+) -> Result<(), LineError<Refusal>>
+    ensures { Hears L.heard (IsTold SubjectValue.Nothing (joins_reply asked)) listener.old listener.new result }
+{
+    match asked {
+        Ok(()) => match listener.hear(Piece::Asked) {
+            Ok(()) => Ok(()),
+            Err(_) => Err(LineError::Memory),
+        },
+        Err(why) => Err(LineError::Refused(Refusal::Bus(why.into()))),
+    }
+}
+
+/// Lets a listener hear the result of a wish for the role.
+pub(crate) fn answer_role<L: Listener>(
+    asked: Result<(), RoleRefusal>,
+    listener: &mut L,
+) -> Result<(), LineError<Refusal>>
+    ensures { Hears L.heard (IsTold SubjectValue.Nothing (role_reply asked)) listener.old listener.new result }
+{
+    match asked {
+        Ok(()) => match listener.hear(Piece::Asked) {
+            Ok(()) => Ok(()),
+            Err(_) => Err(LineError::Memory),
+        },
+        Err(why) => Err(LineError::Refused(Refusal::Bus(why.into()))),
     }
 }
 

@@ -7,11 +7,11 @@ ghost use Rattle.i3c_script.specs.Assigning.{ended_by};
 use crate::assigning;
 use crate::details::hear_all;
 use crate::journal::Journal;
-use crate::local_event::LocalEvent;
 use crate::past::Past;
 use crate::piece::Listener;
 use crate::replies::{
-    answer_attached, answer_frame, answer_raised, answer_reply, count_from, subject_of,
+    answer_attached, answer_dropped, answer_frame, answer_join, answer_raised, answer_reply,
+    answer_role, count_from, subject_of,
 };
 use crate::settings::Settings;
 use crate::show::{hear_bus, hear_bus_behind};
@@ -61,7 +61,7 @@ impl<P: Past> ScriptBus<P> {
     ghost use Rattle.i3c_bus.specs.Near.{IsNear};
     ghost use Rattle.i3c_script.specs.Accepting.{at_first};
     ghost use Rattle.i3c_step.specs.declared.events.Event.{Event as EventValue};
-    ghost use Rattle.i3c_script.specs.Asking.{event_in, slot_of_device, slots_named};
+    ghost use Rattle.i3c_script.specs.Asking.{slot_of_device, slots_named};
     ghost use Rattle.i3c_script.specs.Assigning.{Assigns, Moves, cuts_left};
     ghost use Rattle.i3c_script.specs.Obeying.{Answers, AnswersIn, Enters, IsDone, ObeysOn, Relieves, Sends, Sets, cut_at};
     ghost use Rattle.i3c_script.specs.Hearing.{Hears};
@@ -144,24 +144,9 @@ impl<P: Past> ScriptBus<P> {
             Command::Raise { name, byte } => self.raise::<K, N, L>(names, name, *byte, listener),
             Command::Frame(frame) => self.send::<K, L>(frame, listener),
             Command::Attach { name, setup } => self.attach(names, name, *setup, listener),
-            Command::DropOff { name } => self.step_locally(
-                names,
-                name,
-                LocalEvent::DropOff,
-                listener,
-            ),
-            Command::AskJoin { name } => self.step_locally(
-                names,
-                name,
-                LocalEvent::AskJoin,
-                listener,
-            ),
-            Command::AskRole { name } => self.step_locally(
-                names,
-                name,
-                LocalEvent::AskRole,
-                listener,
-            ),
+            Command::DropOff { name } => self.drop_off(names, name, listener),
+            Command::AskJoin { name } => self.ask_join(names, name, listener),
+            Command::AskRole { name } => self.ask_role(names, name, listener),
             Command::HandOver { to } => self.hand_over(*to, listener),
             Command::Open => self.open(listener),
             Command::Round => self.round(listener),
@@ -265,19 +250,59 @@ impl<P: Past> ScriptBus<P> {
         }
     }
 
-    /// A line with an event of one device by itself: the device that a name means.
+    /// `drop`: a device loses power.
     #[inline(never)]
-    fn step_locally<N: Naming, L: Listener>(
+    fn drop_off<N: Naming, L: Listener>(
         &mut self,
         names: &N,
         name: &Name,
-        what: LocalEvent,
         listener: &mut L,
     ) -> Result<(), LineError<Refusal>>
-        ensures { Hears L.heard (λ pieces refused. AnswersIn P.kept N.kept self.old names.now name.now (event_in what) pieces refused self.new) listener.old listener.new result }
+        ensures { Hears L.heard (λ pieces refused. AnswersIn P.kept N.kept self.old names.now name.now EventValue.DropOff pieces refused self.new) listener.old listener.new result }
     {
         match slot_meant(names, name) {
-            Ok(slot) => self.answer(&what.in_slot(slot), listener),
+            Ok(slot) => {
+                let dropped = self.bus.drop_off(slot);
+                answer_dropped(dropped, listener)
+            }
+            Err(why) => Err(LineError::Refused(why)),
+        }
+    }
+
+    /// `ask-join`: a device wishes to join.
+    #[inline(never)]
+    fn ask_join<N: Naming, L: Listener>(
+        &mut self,
+        names: &N,
+        name: &Name,
+        listener: &mut L,
+    ) -> Result<(), LineError<Refusal>>
+        ensures { Hears L.heard (λ pieces refused. AnswersIn P.kept N.kept self.old names.now name.now EventValue.AskJoin pieces refused self.new) listener.old listener.new result }
+    {
+        match slot_meant(names, name) {
+            Ok(slot) => {
+                let asked = self.bus.ask_join(slot);
+                answer_join(asked, listener)
+            }
+            Err(why) => Err(LineError::Refused(why)),
+        }
+    }
+
+    /// `ask-role`: a device wishes for the controller role.
+    #[inline(never)]
+    fn ask_role<N: Naming, L: Listener>(
+        &mut self,
+        names: &N,
+        name: &Name,
+        listener: &mut L,
+    ) -> Result<(), LineError<Refusal>>
+        ensures { Hears L.heard (λ pieces refused. AnswersIn P.kept N.kept self.old names.now name.now EventValue.AskRole pieces refused self.new) listener.old listener.new result }
+    {
+        match slot_meant(names, name) {
+            Ok(slot) => {
+                let asked = self.bus.ask_role(slot);
+                answer_role(asked, listener)
+            }
             Err(why) => Err(LineError::Refused(why)),
         }
     }
