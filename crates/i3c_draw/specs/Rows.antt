@@ -7,7 +7,7 @@ use Rattle.i3c_wave.specs.Levels.{high, levels_of}
 use Rattle.i3c_draw.specs.declared.driver.Driver.{Driver}
 use Rattle.i3c_draw.specs.declared.driver.Driver.TheVariants.{Controller, Target, Both, Nobody}
 use Rattle.i3c_draw.specs.declared.pen.Pen.{Pen}
-use Rattle.i3c_wave.specs.declared.capture.Line.TheVariants.{Scl, Sda}
+use Rattle.i3c_wave.specs.declared.levels.Line.TheVariants.{Scl, Sda}
 use Rattle.i3c_draw.specs.Driving.{answer_by, bits_by, next_turn}
 use Rattle.i3c_draw.specs.Escaped.{escaped, escaped_byte}
 use Rattle.i3c_draw.specs.Traces.{last_level, symbol_width, trace_text}

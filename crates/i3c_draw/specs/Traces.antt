@@ -4,8 +4,8 @@ use Rattle.i3c_frame.specs.declared.symbols.Symbol.{Symbol}
 use Rattle.i3c_frame.specs.declared.symbols.Symbol.TheVariants.{Start, Repeated, Stop, Identity}
 use Rattle.i3c_wave.specs.declared.levels.Level.{Level}
 use Rattle.i3c_wave.specs.Levels.{levels_of}
-use Rattle.i3c_wave.specs.declared.capture.Line.{Line}
-use Rattle.i3c_wave.specs.declared.capture.Line.TheVariants.{Scl, Sda}
+use Rattle.i3c_wave.specs.declared.levels.Line.{Line}
+use Rattle.i3c_wave.specs.declared.levels.Line.TheVariants.{Scl, Sda}
 
 -- how far a level of a symbol goes to the right
 abbrev pub level_width : Symbol → ℕ

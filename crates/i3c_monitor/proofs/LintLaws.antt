@@ -9,6 +9,7 @@ use Rattle.i3c_monitor.specs.declared.header.Told.{Told}
 use Rattle.i3c_monitor.specs.declared.address_statuses.AddressStatuses.{AddressStatuses}
 use Rattle.i3c_monitor.specs.declared.lint_fault.LintFault.{LintFault}
 use Rattle.i3c_monitor.specs.declared.report.Report.{Report}
+use Rattle.i3c_wave.specs.declared.captured.FrameMark.{FrameMark}
 use Rattle.i3c_monitor.specs.AddressStatuses.{learned_of}
 use Rattle.i3c_monitor.specs.Lint.{LintLine, header_faults, linted, mode_at, settled, told_at}
 use Rattle.i3c_monitor.specs.Lint.LintLine.{Faulty, Shown}
@@ -99,6 +100,6 @@ headed_on legacies mode frames before known faults header rest front back count 
     ∙ ap (λ shown. shown ++ linted legacies found.mode frames (before + length front) known_then faults_then 0 back) (sym shown_is)
 
 -- faults that are told together have the lines of a report
-pub faults_told : (trace : List Symbol) (times : List ℕ) (faults : List LintFault) → lint_text trace times (map Faulty faults) ≡ faults_text trace faults
-faults_told trace times [] = refl
-faults_told trace times (fault ∷ rest) = ap (λ lines. fault_line trace fault ++ lines) (faults_told trace times rest)
+pub faults_told : (trace : List Symbol) (marks : List FrameMark) (faults : List LintFault) → lint_text trace marks (map Faulty faults) ≡ faults_text trace faults
+faults_told trace marks [] = refl
+faults_told trace marks (fault ∷ rest) = ap (λ lines. fault_line trace fault ++ lines) (faults_told trace marks rest)

@@ -26,6 +26,11 @@ all_nobodys = replicate 128 nobodys
 abbrev pub forgotten : AddressStatuses
 forgotten = record { shown = false; statuses = all_nobodys }
 
+-- nothing is known any more, if a frame couldn't be read
+abbrev pub unless_unread : Bool → AddressStatuses → AddressStatuses
+unless_unread true known = forgotten
+unless_unread false known = known
+
 -- the trace shows that no address has an owner
 abbrev pub cleared : AddressStatuses
 cleared = record { shown = true; statuses = all_nobodys }

@@ -11,6 +11,8 @@ use Rattle.i3c_monitor.specs.declared.decoded.Direct.{Direct}
 use Rattle.i3c_monitor.specs.declared.decoded.Fault.{Fault}
 use Rattle.i3c_monitor.specs.declared.decoded.Decoded.{Decoded}
 use Rattle.i3c_monitor.specs.declared.decoded.Span.{Span}
+use Rattle.i3c_wave.specs.declared.captured.FrameMark.{FrameMark}
+use Rattle.i3c_wave.specs.Found.{loss_text}
 
 -- the symbols of a span of a trace
 abbrev pub symbols_of : Span → List Symbol → List Symbol
@@ -110,34 +112,40 @@ fault_text (Fault.List ListFault.Count) = codes "Count"
 fault_text (Fault.List (ListFault.Address number)) = number_text (codes "Address ") number
 fault_text (Fault.List ListFault.Twice) = codes "Twice"
 
--- the time at which a frame begins, if it is known
-abbrev pub time_text : Option ℕ → List ℕ
-time_text None = []
-time_text (Some time) = number_text (codes " at ") time
+-- what is told of a frame behind its number: its time, or why it can't be read
+abbrev pub mark_text : FrameMark → List ℕ
+mark_text FrameMark.Bare = []
+mark_text (FrameMark.At time) = number_text (codes " at ") time
+mark_text (FrameMark.Lost loss) = loss_text loss
 
--- a frame, and its time
-abbrev pub frame_text : List ℕ → ℕ → List ℕ
-frame_text times number = number_text (codes "frame ") number ++ time_text (slice_get times (number - 1))
+-- the same, if it has a mark
+abbrev pub marked_text : Option FrameMark → List ℕ
+marked_text None = []
+marked_text (Some mark) = mark_text mark
 
--- what is decoded, of this trace, whose frames begin at these times
-abbrev pub decoded_text : List Symbol → List ℕ → Decoded → List ℕ
-decoded_text trace times (Decoded.FrameStart number) = frame_text times number
-decoded_text trace times (Decoded.Request request accepted byte) = request_text request ++ (verdict_text accepted ++ byte_after byte)
-decoded_text trace times (Decoded.Enec kinds) = words_text (codes "ENEC ") kinds
-decoded_text trace times (Decoded.Disec kinds) = words_text (codes "DISEC ") kinds
-decoded_text trace times Decoded.Rstdaa = codes "RSTDAA"
-decoded_text trace times Decoded.Entdaa = codes "ENTDAA"
-decoded_text trace times (Decoded.Deftgts count) = number_text (codes "DEFTGTS ") count ++ codes " entries"
-decoded_text trace times (Decoded.Other byte) = words_text (codes "Other ") byte
-decoded_text trace times (Decoded.Round identity byte taken) = codes "round " ++ (hex_text 16 identity ++ (words_text (codes " ") byte ++ taken_text taken))
-decoded_text trace times Decoded.RoundsDone = codes "round done"
-decoded_text trace times (Decoded.Single command address byte) = words_text (command_text command) address ++ answer_text byte
-decoded_text trace times (Decoded.SetLength way bytes) = words_text (length_name way) bytes.0 ++ words_text (codes " ") bytes.1
-decoded_text trace times (Decoded.SetLengthDirect way address bytes) = words_text (length_name way) address ++ length_text bytes
-decoded_text trace times (Decoded.Get what address span) = words_text (datum_name what) address ++ bytes_text span trace
-decoded_text trace times (Decoded.Transfer address read span) = words_text (transfer_text read) address ++ bytes_text span trace
-decoded_text trace times (Decoded.Refused fault) = codes "refused " ++ fault_text fault
+-- a frame, and its mark
+abbrev pub frame_text : List FrameMark → ℕ → List ℕ
+frame_text marks number = number_text (codes "frame ") number ++ marked_text (slice_get marks (number - 1))
+
+-- what is decoded, of this trace, whose frames have these marks
+abbrev pub decoded_text : List Symbol → List FrameMark → Decoded → List ℕ
+decoded_text trace marks (Decoded.FrameStart number) = frame_text marks number
+decoded_text trace marks (Decoded.Request request accepted byte) = request_text request ++ (verdict_text accepted ++ byte_after byte)
+decoded_text trace marks (Decoded.Enec kinds) = words_text (codes "ENEC ") kinds
+decoded_text trace marks (Decoded.Disec kinds) = words_text (codes "DISEC ") kinds
+decoded_text trace marks Decoded.Rstdaa = codes "RSTDAA"
+decoded_text trace marks Decoded.Entdaa = codes "ENTDAA"
+decoded_text trace marks (Decoded.Deftgts count) = number_text (codes "DEFTGTS ") count ++ codes " entries"
+decoded_text trace marks (Decoded.Other byte) = words_text (codes "Other ") byte
+decoded_text trace marks (Decoded.Round identity byte taken) = codes "round " ++ (hex_text 16 identity ++ (words_text (codes " ") byte ++ taken_text taken))
+decoded_text trace marks Decoded.RoundsDone = codes "round done"
+decoded_text trace marks (Decoded.Single command address byte) = words_text (command_text command) address ++ answer_text byte
+decoded_text trace marks (Decoded.SetLength way bytes) = words_text (length_name way) bytes.0 ++ words_text (codes " ") bytes.1
+decoded_text trace marks (Decoded.SetLengthDirect way address bytes) = words_text (length_name way) address ++ length_text bytes
+decoded_text trace marks (Decoded.Get what address span) = words_text (datum_name what) address ++ bytes_text span trace
+decoded_text trace marks (Decoded.Transfer address read span) = words_text (transfer_text read) address ++ bytes_text span trace
+decoded_text trace marks (Decoded.Refused fault) = codes "refused " ++ fault_text fault
 
 -- the line that a decoded part prints
-abbrev pub line_text : List Symbol → List ℕ → Decoded → List ℕ
-line_text trace times decoded = decoded_text trace times decoded ++ 10 ∷ []
+abbrev pub line_text : List Symbol → List FrameMark → Decoded → List ℕ
+line_text trace marks decoded = decoded_text trace marks decoded ++ 10 ∷ []

@@ -18,7 +18,7 @@ use Rattle.i3c_monitor.specs.declared.address_statuses.AddressStatuses.{AddressS
 use Rattle.i3c_monitor.specs.declared.address_statuses.Owner.{Owner}
 use Rattle.i3c_monitor.specs.declared.lint_fault.Breach.{Breach}
 use Rattle.i3c_monitor.specs.declared.lint_fault.LintFault.{LintFault}
-use Rattle.i3c_monitor.specs.AddressStatuses.{dynamic_in, forgotten, learned_of, present, status_of}
+use Rattle.i3c_monitor.specs.AddressStatuses.{dynamic_in, forgotten, learned_of, present, status_of, unless_unread}
 use Rattle.i3c_monitor.specs.Told.{told}
 use Rattle.i3c_monitor.specs.Trace.{behind, count_behind}
 
@@ -263,13 +263,18 @@ pub data LintLine : Type 0 where
   Shown : Decoded → LintLine
   Faulty : LintFault → LintLine
 
+-- a frame ends at once, whose START is before these symbols: such a frame couldn't be read
+abbrev pub ends_at_once : List Symbol → Bool
+ends_at_once (Symbol.Stop ∷ rest) = true
+ends_at_once symbols = false
+
 -- what the rest of a trace tells a linter; its first `skip` symbols are behind a header that was told. A frame's faults come
 -- at its end
 abbrev pub linted : ℕ → Mode → ℕ → ℕ → AddressStatuses → List LintFault → ℕ → List Symbol → List LintLine
 linted legacies mode frames before known faults skip [] = []
 linted legacies mode frames before known faults (suc skip) (symbol ∷ rest) = linted legacies mode frames (before + 1) known faults skip rest
 linted legacies mode frames before known faults zero (Symbol.Start ∷ rest) =
-    Shown (Decoded.FrameStart (frames + 1)) ∷ linted legacies Mode.First (frames + 1) (before + 1) known faults zero rest
+    Shown (Decoded.FrameStart (frames + 1)) ∷ linted legacies Mode.First (frames + 1) (before + 1) (unless_unread (ends_at_once rest) known) faults zero rest
 linted legacies mode frames before known faults zero (Symbol.Stop ∷ rest) =
     map Faulty faults ++ linted legacies mode frames (before + 1) known [] zero rest
 linted legacies mode frames before known faults zero (Symbol.Header address read ack ∷ rest) =

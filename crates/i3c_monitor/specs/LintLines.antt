@@ -6,6 +6,7 @@ use Rattle.i3c_text.specs.Hex.{byte_text}
 use Rattle.i3c_monitor.specs.declared.lint_fault.Breach.{Breach}
 use Rattle.i3c_monitor.specs.declared.lint_fault.LintFault.{LintFault}
 use Rattle.i3c_monitor.specs.declared.report.Report.{Report}
+use Rattle.i3c_wave.specs.declared.captured.FrameMark.{FrameMark}
 use Rattle.i3c_monitor.specs.Lines.{line_text, number_text, words_text}
 use Rattle.i3c_monitor.specs.Lint.{LintLine}
 use Rattle.i3c_monitor.specs.Lint.LintLine.{Shown, Faulty}
@@ -45,15 +46,15 @@ fault_line trace fault = place_text trace fault.frame fault.symbol ++ (breach_te
 abbrev pub faults_text : List Symbol → List LintFault → List ℕ
 faults_text trace faults = flat_map (fault_line trace) faults
 
--- a line, of this trace, whose frames begin at these times
-abbrev pub lint_line_text : List Symbol → List ℕ → LintLine → List ℕ
-lint_line_text trace times (Shown decoded) = line_text trace times decoded
-lint_line_text trace times (Faulty fault) = fault_line trace fault
+-- a line, of this trace, whose frames have these marks
+abbrev pub lint_line_text : List Symbol → List FrameMark → LintLine → List ℕ
+lint_line_text trace marks (Shown decoded) = line_text trace marks decoded
+lint_line_text trace marks (Faulty fault) = fault_line trace fault
 
 -- the lines that a linter prints
-abbrev pub lint_text : List Symbol → List ℕ → List LintLine → List ℕ
-lint_text trace times lines = flat_map (lint_line_text trace times) lines
+abbrev pub lint_text : List Symbol → List FrameMark → List LintLine → List ℕ
+lint_text trace marks lines = flat_map (lint_line_text trace marks) lines
 
 -- the lines that a report prints
-abbrev pub report_text : List Symbol → List ℕ → Report → List ℕ
-report_text trace times report = lint_text trace times (report_lines report)
+abbrev pub report_text : List Symbol → List FrameMark → Report → List ℕ
+report_text trace marks report = lint_text trace marks (report_lines report)

@@ -44,7 +44,7 @@ impl AddressStatuses {
     ghost use Rattle.i3c_deftgts.specs.Layout.{bytes};
     ghost use Rattle.i3c_deftgts.specs.Reading.{entries_in, first_fault};
     ghost use Rattle.std.specs.Prelude.{◌≡◌, if◌then◌else◌, map, OnOk, Some};
-    ghost use Rattle.i3c_monitor.specs.AddressStatuses.{after_absent, after_present, all_listed, all_nobodys, cleared, forgotten, given, given_to_somebody, heard, learned, learned_of, list_read, list_shown, listed, moved, silenced, status_of, with_status, absent, moves_addresses, present};
+    ghost use Rattle.i3c_monitor.specs.AddressStatuses.{after_absent, after_present, all_listed, all_nobodys, cleared, forgotten, given, given_to_somebody, heard, learned, learned_of, list_read, list_shown, listed, moved, silenced, status_of, unless_unread, with_status, absent, moves_addresses, present};
 
     /// Nothing is known, and the trace doesn't show the owners of addresses.
     #[tactic(auto, unfolding(crate::specs::AddressStatuses::all_nobodys))]
@@ -80,6 +80,15 @@ impl AddressStatuses {
     {
         *self = AddressStatuses::new();
         self.shown = true;
+    }
+
+    /// Nothing is known any more, if a frame couldn't be read.
+    pub fn forget_if(&mut self, unread: bool)
+        ensures { self.new ≡ unless_unread unread self.old }
+    {
+        if unread {
+            *self = AddressStatuses::new();
+        }
     }
 
     /// A round gave an address to an identity.

@@ -32,4 +32,5 @@ pub use decoded::{Decoded, Direct, Fault, Span};
 pub use lint_fault::{Breach, LintFault};
 pub use linter::Linter;
 pub use monitor::Monitor;
+pub use printing::mark_of;
 pub use report::Report;

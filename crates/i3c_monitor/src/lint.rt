@@ -1,5 +1,5 @@
 ghost use Rattle.std.specs.Prelude.{◌≡◌, ◌+◌, ◌<◌, length};
-ghost use Rattle.i3c_monitor.specs.Lint.{are_others, begins_with, carries_more, fault_at, fault_if, is_nobodys, is_others, is_transfer, is_word, may_be_legacy, mode_at, moved_fault, nobody_fault, silence_fault, silent_since, twice_fault};
+ghost use Rattle.i3c_monitor.specs.Lint.{are_others, begins_with, carries_more, ends_at_once, fault_at, fault_if, is_nobodys, is_others, is_transfer, is_word, may_be_legacy, mode_at, moved_fault, nobody_fault, silence_fault, silent_since, twice_fault};
 
 use crate::address_statuses::{AddressStatuses, Owner};
 use crate::decoded::{Decoded, Direct};
@@ -23,6 +23,13 @@ pub(crate) fn mode_at(legacies: Addresses, mode: &Mode, header: &Header, symbols
         Mode::First if is_transfer(legacies, header, symbols) => Mode::Plain,
         mode => *mode,
     }
+}
+
+/// Whether a frame ends at once, whose START is before these symbols. Such a frame couldn't be read.
+pub(crate) fn ends_at_once(symbols: &[Symbol]) -> bool
+    ensures { result ≡ ends_at_once symbols.now }
+{
+    matches!(symbols, [Symbol::Stop, ..])
 }
 
 /// Whether a frame's first header is that of a private transfer: a legacy target's, or with more behind it than a request

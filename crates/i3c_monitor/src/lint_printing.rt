@@ -7,18 +7,24 @@ use crate::report::Report;
 use i3c_base::Addr7;
 use i3c_frame::Symbol;
 use i3c_text::Text;
+use i3c_wave::FrameMark;
 use std::alloc::AllocError;
 
 impl Report {
     ghost use Rattle.std.specs.Prelude.{◌≡◌, ◌++◌, OnOk};
     ghost use Rattle.i3c_monitor.specs.LintLines.{report_text};
 
-    /// Appends its lines to a text, of this trace. Its frames begin at these times, as far as these go.
-    pub fn push(&self, trace: &[Symbol], times: &[u64], text: &mut Text) -> Result<(), AllocError>
-        ensures { OnOk result (text.new ≡ text.old ++ report_text trace.now times.now self.now) }
+    /// Appends its lines to a text, of this trace, whose frames have these marks, as far as these go.
+    pub fn push(
+        &self,
+        trace: &[Symbol],
+        marks: &[FrameMark],
+        text: &mut Text,
+    ) -> Result<(), AllocError>
+        ensures { OnOk result (text.new ≡ text.old ++ report_text trace.now marks.now self.now) }
     {
         match self {
-            Report::Decoded(decoded) => decoded.push(trace, times, text),
+            Report::Decoded(decoded) => decoded.push(trace, marks, text),
             Report::Faults(faults) => push_faults(faults, trace, text),
         }
     }

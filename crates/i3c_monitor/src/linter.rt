@@ -5,7 +5,7 @@ use crate::behind::count_behind;
 use crate::checks::{checks, push_found};
 use crate::decoded::Decoded;
 use crate::header::{Header, Mode, settled_header};
-use crate::lint::{Spot, mode_at};
+use crate::lint::{Spot, ends_at_once, mode_at};
 use crate::lint_fault::LintFault;
 use crate::report::Report;
 use i3c_base::Addresses;
@@ -81,6 +81,7 @@ impl<'a> Linter<'a> {
         if let Symbol::Start = symbol {
             self.frames += 1;
             self.mode = Mode::First;
+            self.known.forget_if(ends_at_once(rest));
             return Ok(Some(Report::Decoded(Decoded::FrameStart(self.frames))));
         }
         if let Symbol::Stop = symbol {

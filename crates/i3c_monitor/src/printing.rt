@@ -1,5 +1,5 @@
 ghost use Rattle.std.specs.Prelude.{◌≡◌, ◌++◌, ◌-◌, OnOk, codes, slice_get};
-ghost use Rattle.i3c_monitor.specs.Lines.{answer_text, byte_after, byte_of, bytes_text, command_text, data_text, datum_name, fault_text, frame_text, length_name, length_text, number_text, request_text, taken_text, transfer_text, verdict_text, words_text};
+ghost use Rattle.i3c_monitor.specs.Lines.{answer_text, byte_after, byte_of, bytes_text, command_text, data_text, datum_name, fault_text, frame_text, length_name, length_text, mark_text, number_text, request_text, taken_text, transfer_text, verdict_text, words_text};
 ghost use Rattle.i3c_text.specs.Hex.{hex_text};
 
 use crate::decoded::{Decoded, Direct, Fault, Span};
@@ -7,28 +7,39 @@ use i3c_base::{Addr7, Datum, Direction, Request};
 use i3c_deftgts::ListFault;
 use i3c_frame::Symbol;
 use i3c_text::Text;
+use i3c_wave::FrameMark;
 use std::alloc::AllocError;
 
 impl Decoded {
     ghost use Rattle.std.specs.Prelude.{◌≡◌, ◌++◌, OnOk};
     ghost use Rattle.i3c_monitor.specs.Lines.{line_text, decoded_text};
 
-    /// Appends its line to a text, of this trace. Its frames begin at these times, as far as these go.
+    /// Appends its line to a text, of this trace, whose frames have these marks, as far as these go.
     #[inline(always)]
-    pub fn push(&self, trace: &[Symbol], times: &[u64], text: &mut Text) -> Result<(), AllocError>
-        ensures { OnOk result (text.new ≡ text.old ++ line_text trace.now times.now self.now) }
+    pub fn push(
+        &self,
+        trace: &[Symbol],
+        marks: &[FrameMark],
+        text: &mut Text,
+    ) -> Result<(), AllocError>
+        ensures { OnOk result (text.new ≡ text.old ++ line_text trace.now marks.now self.now) }
     {
-        self.push_words(trace, times, text)?;
+        self.push_words(trace, marks, text)?;
         text.end()
     }
 
     /// Appends it without a line's end.
     #[inline(always)]
-    fn push_words(&self, trace: &[Symbol], times: &[u64], text: &mut Text) -> Result<(), AllocError>
-        ensures { OnOk result (text.new ≡ text.old ++ decoded_text trace.now times.now self.now) }
+    fn push_words(
+        &self,
+        trace: &[Symbol],
+        marks: &[FrameMark],
+        text: &mut Text,
+    ) -> Result<(), AllocError>
+        ensures { OnOk result (text.new ≡ text.old ++ decoded_text trace.now marks.now self.now) }
     {
         match self {
-            Decoded::FrameStart(number) => push_frame(*number, times, text),
+            Decoded::FrameStart(number) => push_frame(*number, marks, text),
             Decoded::Request {
                 request,
                 accepted,
@@ -69,32 +80,43 @@ impl Decoded {
     }
 }
 
-/// Appends a frame, and the time at which it begins, if that is known.
+/// Appends a frame, and its mark, if it has one.
 #[inline(always)]
-fn push_frame(number: usize, times: &[u64], text: &mut Text) -> Result<(), AllocError>
-    ensures { OnOk result (text.new ≡ text.old ++ frame_text times.now number) }
+fn push_frame(number: usize, marks: &[FrameMark], text: &mut Text) -> Result<(), AllocError>
+    ensures { OnOk result (text.new ≡ text.old ++ frame_text marks.now number) }
 {
     push_number(b"frame ", number, text)?;
-    match time_of(times, number) {
-        Some(time) => push_time(time, text),
+    match mark_of(marks, number) {
+        Some(mark) => push_mark(mark, text),
         None => Ok(()),
     }
 }
 
-/// The time at which the frame of this number begins.
+/// The mark of the frame of this number.
 #[inline(always)]
-fn time_of(times: &[u64], number: usize) -> Option<u64>
-    ensures { result ≡ slice_get times.now (number - 1) }
+pub fn mark_of(marks: &[FrameMark], number: usize) -> Option<FrameMark>
+    ensures { result ≡ slice_get marks.now (number - 1) }
 {
-    match times.get(number.saturating_sub(1)) {
-        Some(time) => Some(*time),
+    match marks.get(number.saturating_sub(1)) {
+        Some(mark) => Some(*mark),
         None => None,
     }
 }
 
-/// Appends a time.
+/// Appends a frame's mark.
 #[cold]
 #[inline(never)]
+fn push_mark(mark: FrameMark, text: &mut Text) -> Result<(), AllocError>
+    ensures { OnOk result (text.new ≡ text.old ++ mark_text mark) }
+{
+    match mark {
+        FrameMark::Bare => Ok(()),
+        FrameMark::At(time) => push_time(time, text),
+        FrameMark::Lost(loss) => loss.push(text),
+    }
+}
+
+/// Appends a time.
 fn push_time(time: u64, text: &mut Text) -> Result<(), AllocError>
     ensures { OnOk result (text.new ≡ text.old ++ number_text (codes " at ") time) }
 {

@@ -4,6 +4,7 @@ use Rattle.std.proofs.lemmas.Grind.{flat_map-append}
 use Rattle.std.specs.Io.KnownBytes.{Appends}
 use Rattle.i3c_frame.specs.declared.frames.Frames.{Frames}
 use Rattle.i3c_frame.specs.declared.symbols.Symbol.{Symbol}
+use Rattle.i3c_wave.specs.declared.captured.FrameMark.{FrameMark}
 use Rattle.i3c_monitor.specs.declared.lint_fault.LintFault.{LintFault}
 use Rattle.i3c_monitor.specs.declared.report.Report.{Report}
 use Rattle.i3c_monitor.specs.Lint.{LintLine}
@@ -31,43 +32,43 @@ four (Ok done) t a b c d x1 x2 x3 x4 e1 e2 e3 e4 =
 four (Err e) t a b c d x1 x2 x3 x4 e1 e2 e3 e4 = tt
 
 -- the lines of a report are gathered behind what went out and a text
-pub reported_on : (trace : List Symbol) (times all first text tail : List ℕ) (come lines rest : List LintLine) → come ≡ lines ++ rest
-    → all ≡ first ++ (text ++ (lint_text trace times come ++ tail)) → all ≡ first ++ ((text ++ lint_text trace times lines) ++ (lint_text trace times rest ++ tail))
-reported_on trace times all first text tail come lines rest is told =
-    gathered_on all first text (lint_text trace times lines) (lint_text trace times rest ++ tail)
-    (told ∙ ap (λ lines. first ++ (text ++ (lint_text trace times lines ++ tail))) is
-    ∙ ap (λ lines. first ++ (text ++ (lines ++ tail))) (flat_map-append (lint_line_text trace times) lines rest)
-    ∙ ap (λ rest. first ++ (text ++ rest)) (append_assoc (lint_text trace times lines) (lint_text trace times rest) tail))
+pub reported_on : (trace : List Symbol) (marks : List FrameMark) (all first text tail : List ℕ) (come lines rest : List LintLine) → come ≡ lines ++ rest
+    → all ≡ first ++ (text ++ (lint_text trace marks come ++ tail)) → all ≡ first ++ ((text ++ lint_text trace marks lines) ++ (lint_text trace marks rest ++ tail))
+reported_on trace marks all first text tail come lines rest is told =
+    gathered_on all first text (lint_text trace marks lines) (lint_text trace marks rest ++ tail)
+    (told ∙ ap (λ lines. first ++ (text ++ (lint_text trace marks lines ++ tail))) is
+    ∙ ap (λ lines. first ++ (text ++ (lines ++ tail))) (flat_map-append (lint_line_text trace marks) lines rest)
+    ∙ ap (λ rest. first ++ (text ++ rest)) (append_assoc (lint_text trace marks lines) (lint_text trace marks rest) tail))
 
 -- where nothing is left but what follows the frames
-pub ended_on : (trace : List Symbol) (times all first text tail : List ℕ) (come : List LintLine) → come ≡ [] → all ≡ first ++ (text ++ (lint_text trace times come ++ tail)) → all ≡ first ++ (text ++ tail)
-ended_on trace times all first text tail come none told = told ∙ ap (λ lines. first ++ (text ++ (lint_text trace times lines ++ tail))) none
+pub ended_on : (trace : List Symbol) (marks : List FrameMark) (all first text tail : List ℕ) (come : List LintLine) → come ≡ [] → all ≡ first ++ (text ++ (lint_text trace marks come ++ tail)) → all ≡ first ++ (text ++ tail)
+ended_on trace marks all first text tail come none told = told ∙ ap (λ lines. first ++ (text ++ (lint_text trace marks lines ++ tail))) none
 
-faulty_all : (faults : List LintFault) → all_faults (map Faulty faults) ≡ length faults
-faulty_all [] = refl
-faulty_all (fault ∷ rest) = let h : all_faults (map Faulty rest) ≡ length rest = faulty_all rest in omega (arith, h)
+faulty_all : (marks : List FrameMark) (faults : List LintFault) → all_faults marks (map Faulty faults) ≡ length faults
+faulty_all marks [] = refl
+faulty_all marks (fault ∷ rest) = let h : all_faults marks (map Faulty rest) ≡ length rest = faulty_all marks rest in omega (arith, h)
 
-all_faults-append : (lines rest : List LintLine) → all_faults (lines ++ rest) ≡ all_faults lines + all_faults rest
-all_faults-append [] rest = omega arith
-all_faults-append (line ∷ lines) rest = let h : all_faults (lines ++ rest) ≡ all_faults lines + all_faults rest = all_faults-append lines rest in omega (arith, h)
+all_faults-append : (marks : List FrameMark) (lines rest : List LintLine) → all_faults marks (lines ++ rest) ≡ all_faults marks lines + all_faults marks rest
+all_faults-append marks [] rest = omega arith
+all_faults-append marks (line ∷ lines) rest = let h : all_faults marks (lines ++ rest) ≡ all_faults marks lines + all_faults marks rest = all_faults-append marks lines rest in omega (arith, h)
 
-reported_all : (report : Report) → all_faults (report_lines report) ≡ faults_in report
-reported_all (Report.Decoded decoded) = omega arith
-reported_all (Report.Faults faults) = faulty_all faults.items
+reported_all : (marks : List FrameMark) (report : Report) → all_faults marks (report_lines report) ≡ faults_in marks report
+reported_all marks (Report.Decoded decoded) = omega arith
+reported_all marks (Report.Faults faults) = faulty_all marks faults.items
 
 -- the faults of a report are counted as far as a number goes
-pub counted_on : (counted next broken : ℕ) (come : List LintLine) (report : Report) (rest : List LintLine) → come ≡ report_lines report ++ rest
-    → next ≡ min (counted + faults_in report) 18446744073709551615
-    → min (counted + (all_faults come + broken)) 18446744073709551615 ≡ min (next + (all_faults rest + broken)) 18446744073709551615
-counted_on counted next broken come report rest is counts =
-    let more : all_faults come ≡ all_faults (report_lines report) + all_faults rest = ap all_faults is ∙ all_faults-append (report_lines report) rest in
-    let sum : all_faults come + broken ≡ faults_in report + (all_faults rest + broken) = omega (arith, more, reported_all report) in
-    ap (λ n. min (counted + n) 18446744073709551615) sum ∙ count_on counted (faults_in report) next (all_faults rest + broken) counts
+pub counted_on : (marks : List FrameMark) (counted next broken : ℕ) (come : List LintLine) (report : Report) (rest : List LintLine) → come ≡ report_lines report ++ rest
+    → next ≡ min (counted + faults_in marks report) 18446744073709551615
+    → min (counted + (all_faults marks come + broken)) 18446744073709551615 ≡ min (next + (all_faults marks rest + broken)) 18446744073709551615
+counted_on marks counted next broken come report rest is counts =
+    let more : all_faults marks come ≡ all_faults marks (report_lines report) + all_faults marks rest = ap (all_faults marks) is ∙ all_faults-append marks (report_lines report) rest in
+    let sum : all_faults marks come + broken ≡ faults_in marks report + (all_faults marks rest + broken) = omega (arith, more, reported_all marks report) in
+    ap (λ n. min (counted + n) 18446744073709551615) sum ∙ count_on counted (faults_in marks report) next (all_faults marks rest + broken) counts
 
 -- frames that were told
-pub linted_out : (legacies : ℕ) (frames : Frames) (times : List ℕ) (old new : Option (List ℕ)) (result : Result Tally ScriptFault)
-    → MatchResult result (λ tally. (tally.refused ≡ min (frames_faults legacies frames) 18446744073709551615) × Appends old new (frames_text legacies frames times))
-    (λ fault. IsLineFault fault × AppendsSome old new (frames_text legacies frames times))
-    → Goes (AreLinted legacies frames times) old new result
-linted_out legacies frames times old new (Ok tally) tells = (frames_text legacies frames times, (refl, tells.0), tells.1)
-linted_out legacies frames times old new (Err fault) tells = inr (frames_text legacies frames times, min (frames_faults legacies frames) 18446744073709551615, (refl, refl), tells.1)
+pub linted_out : (legacies : ℕ) (frames : Frames) (marks : List FrameMark) (old new : Option (List ℕ)) (result : Result Tally ScriptFault)
+    → MatchResult result (λ tally. (tally.refused ≡ min (frames_faults legacies frames marks) 18446744073709551615) × Appends old new (frames_text legacies frames marks))
+    (λ fault. IsLineFault fault × AppendsSome old new (frames_text legacies frames marks))
+    → Goes (AreLinted legacies frames marks) old new result
+linted_out legacies frames marks old new (Ok tally) tells = (frames_text legacies frames marks, (refl, tells.0), tells.1)
+linted_out legacies frames marks old new (Err fault) tells = inr (frames_text legacies frames marks, min (frames_faults legacies frames marks) 18446744073709551615, (refl, refl), tells.1)

@@ -8,6 +8,7 @@ use Rattle.i3c_frame.specs.declared.traces.TraceFault.{TraceFault}
 use Rattle.i3c_frame.specs.Parts.{parts}
 use Rattle.i3c_frame.specs.Texts.{IsInRange, text_of}
 use Rattle.i3c_frame.specs.Traces.{IsFirstFault, IsTrace}
+use Rattle.i3c_wave.specs.declared.captured.FrameMark.{FrameMark}
 use Rattle.i3c_monitor.specs.Trace.{trace_told}
 use Rattle.i3c_streams.specs.declared.faults.ScriptFault.{ScriptFault}
 use Rattle.i3c_streams.specs.declared.tally.Tally.{Tally}
@@ -19,13 +20,13 @@ use Rattle.i3c_traces.specs.Traces.{CameTo, Goes, IsTold, ascii, fault_line, ref
 -- a text that is a trace
 pub trace_out : (codes : CodeSet) (old new : Option (List ℕ)) (result : Result Tally ScriptFault) (text : List ℕ) (trace : List Symbol)
     → IsTrace trace → All IsInRange trace → map text_of trace ≡ parts text
-    → MatchResult result (λ tally. (tally.refused ≡ min (refused_in (trace_told codes trace)) 18446744073709551615) × Appends old new (trace_text codes trace []))
+    → MatchResult result (λ tally. (tally.refused ≡ min (refused_in [] (trace_told codes trace)) 18446744073709551615) × Appends old new (trace_text codes trace []))
     (λ fault. IsLineFault fault × AppendsSome old new (trace_text codes trace []))
     → Goes (IsTold codes text) old new result
 trace_out codes old new (Ok tally) text trace is range same tells =
     (trace_text codes trace [], inl (record { trace = trace; is_trace = is; in_range = range; same = same; told = refl; counted = tells.0 }), tells.1)
 trace_out codes old new (Err fault) text trace is range same tells =
-    let n = min (refused_in (trace_told codes trace)) 18446744073709551615 in
+    let n = min (refused_in [] (trace_told codes trace)) 18446744073709551615 in
     inr (trace_text codes trace [], n, inl (record { trace = trace; is_trace = is; in_range = range; same = same; told = refl; counted = refl }), tells.1)
 
 -- a text that is none, or for whose symbols there was no memory
@@ -42,21 +43,21 @@ fault_out codes old new (Err stop) text fault (inr first) tells memory =
     inr (fault_line fault, 1, inr (record { fault = fault; first = first; told = refl; counted = refl }), tells.1)
 
 -- symbols that are told without faults
-pub told_out : (codes : CodeSet) (symbols : List Symbol) (times : List ℕ) (old new : Option (List ℕ)) (result : Result Tally ScriptFault)
-    → MatchResult result (λ tally. (tally.refused ≡ min (refused_in (trace_told codes symbols)) 18446744073709551615) × Appends old new (trace_text codes symbols times))
-    (λ fault. IsLineFault fault × AppendsSome old new (trace_text codes symbols times))
-    → Goes (AreTold codes symbols None times) old new result
-told_out codes symbols times old new (Ok tally) tells = (trace_text codes symbols times, (refl, tells.0), tells.1)
-told_out codes symbols times old new (Err fault) tells =
-    inr (trace_text codes symbols times, min (refused_in (trace_told codes symbols)) 18446744073709551615, (refl, refl), tells.1)
+pub told_out : (codes : CodeSet) (symbols : List Symbol) (marks : List FrameMark) (old new : Option (List ℕ)) (result : Result Tally ScriptFault)
+    → MatchResult result (λ tally. (tally.refused ≡ min (refused_in marks (trace_told codes symbols)) 18446744073709551615) × Appends old new (trace_text codes symbols marks))
+    (λ fault. IsLineFault fault × AppendsSome old new (trace_text codes symbols marks))
+    → Goes (AreTold codes symbols None marks) old new result
+told_out codes symbols marks old new (Ok tally) tells = (trace_text codes symbols marks, (refl, tells.0), tells.1)
+told_out codes symbols marks old new (Err fault) tells =
+    inr (trace_text codes symbols marks, min (refused_in marks (trace_told codes symbols)) 18446744073709551615, (refl, refl), tells.1)
 
 -- the line of a fault alone
-pub broken_out : (codes : CodeSet) (symbols : List Symbol) (broken : Break) (times : List ℕ) (old new : Option (List ℕ)) (result : Result Tally ScriptFault)
+pub broken_out : (codes : CodeSet) (symbols : List Symbol) (broken : Break) (marks : List FrameMark) (old new : Option (List ℕ)) (result : Result Tally ScriptFault)
     → MatchResult result (λ tally. (tally.refused ≡ 1) × Appends old new (fault_line (fault_of broken)))
     (λ stop. IsLineFault stop × AppendsSome old new (fault_line (fault_of broken)))
-    → Goes (AreTold codes symbols (Some broken) times) old new result
-broken_out codes symbols broken times old new (Ok tally) tells = (fault_line (fault_of broken), (refl, tells.0), tells.1)
-broken_out codes symbols broken times old new (Err stop) tells = inr (fault_line (fault_of broken), 1, (refl, refl), tells.1)
+    → Goes (AreTold codes symbols (Some broken) marks) old new result
+broken_out codes symbols broken marks old new (Ok tally) tells = (fault_line (fault_of broken), (refl, tells.0), tells.1)
+broken_out codes symbols broken marks old new (Err stop) tells = inr (fault_line (fault_of broken), 1, (refl, refl), tells.1)
 
 -- what goes out of the lines that there may be goes out of more that there may be
 pub goes_as : (May More : List ℕ → ℕ → Type 0) (old new : Option (List ℕ)) (result : Result Tally ScriptFault) → ((lines : List ℕ) (refused : ℕ) → May lines refused → More lines refused)

@@ -8,6 +8,7 @@ use Rattle.i3c_frame.specs.declared.frames.Frames.{Frames}
 use Rattle.i3c_frame.specs.Frames.{IsRead}
 use Rattle.i3c_frame.specs.Parts.{parts}
 use Rattle.i3c_monitor.specs.declared.report.Report.{Report}
+use Rattle.i3c_wave.specs.declared.captured.FrameMark.{FrameMark}
 use Rattle.i3c_monitor.specs.Lines.{number_text}
 use Rattle.i3c_monitor.specs.Lint.{LintLine, trace_linted}
 use Rattle.i3c_monitor.specs.Lint.LintLine.{Shown, Faulty}
@@ -59,32 +60,32 @@ breaks None = 0
 breaks (Some broken) = 1
 
 -- how many faults one line is
-abbrev pub line_faults : LintLine → ℕ
-line_faults (Shown decoded) = refusals_in decoded
-line_faults (Faulty fault) = 1
+abbrev pub line_faults : List FrameMark → LintLine → ℕ
+line_faults marks (Shown decoded) = refusals_in marks decoded
+line_faults marks (Faulty fault) = 1
 
 -- the number of faults among these lines
-abbrev pub all_faults : List LintLine → ℕ
-all_faults [] = 0
-all_faults (line ∷ rest) = line_faults line + all_faults rest
+abbrev pub all_faults : List FrameMark → List LintLine → ℕ
+all_faults marks [] = 0
+all_faults marks (line ∷ rest) = line_faults marks line + all_faults marks rest
 
 -- how many a report tells
-abbrev pub faults_in : Report → ℕ
-faults_in (Report.Decoded decoded) = refusals_in decoded
-faults_in (Report.Faults faults) = length faults.items
+abbrev pub faults_in : List FrameMark → Report → ℕ
+faults_in marks (Report.Decoded decoded) = refusals_in marks decoded
+faults_in marks (Report.Faults faults) = length faults.items
 
--- the lines of frames that begin at these times, and of the text behind them
-abbrev pub frames_text : ℕ → Frames → List ℕ → List ℕ
-frames_text legacies frames times = lint_text frames.symbols.items times (trace_linted legacies frames.symbols.items) ++ break_text frames.broken
+-- the lines of frames that have these marks, and of the text behind them
+abbrev pub frames_text : ℕ → Frames → List FrameMark → List ℕ
+frames_text legacies frames marks = lint_text frames.symbols.items marks (trace_linted legacies frames.symbols.items) ++ break_text frames.broken
 
 -- how many faults these are
-abbrev pub frames_faults : ℕ → Frames → ℕ
-frames_faults legacies frames = all_faults (trace_linted legacies frames.symbols.items) + breaks frames.broken
+abbrev pub frames_faults : ℕ → Frames → List FrameMark → ℕ
+frames_faults legacies frames marks = all_faults marks (trace_linted legacies frames.symbols.items) + breaks frames.broken
 
--- frames that begin at these times give these lines, and this number of faults
-abbrev pub AreLinted : ℕ → Frames → List ℕ → List ℕ → ℕ → Type 0
-AreLinted legacies frames times lines faults =
-    (lines ≡ frames_text legacies frames times) × (faults ≡ min (frames_faults legacies frames) 18446744073709551615)
+-- frames that have these marks give these lines, and this number of faults
+abbrev pub AreLinted : ℕ → Frames → List FrameMark → List ℕ → ℕ → Type 0
+AreLinted legacies frames marks lines faults =
+    (lines ≡ frames_text legacies frames marks) × (faults ≡ min (frames_faults legacies frames marks) 18446744073709551615)
 
 -- the text gives these lines, and this number of faults
 abbrev pub IsLinted : ℕ → List ℕ → List ℕ → ℕ → Type 0

@@ -10,6 +10,7 @@ use Rattle.i3c_frame.specs.declared.traces.TraceFault.{TraceFault}
 use Rattle.i3c_frame.specs.Frames.{begins_frame, whole_frames}
 use Rattle.i3c_frame.specs.Texts.{text_of}
 use Rattle.i3c_monitor.specs.Trace.{trace_told}
+use Rattle.i3c_wave.specs.declared.captured.FrameMark.{FrameMark}
 use Rattle.i3c_streams.specs.declared.faults.ScriptFault.{ScriptFault}
 use Rattle.i3c_streams.specs.declared.reading.TheConstants.{MOST_BYTES}
 use Rattle.i3c_streams.specs.declared.tally.Tally.{Tally}
@@ -57,15 +58,15 @@ abbrev pub fault_of : Break → TraceFault
 fault_of broken = fault_at broken.symbol (option_copied broken.part) broken.due
 
 -- the symbols of a trace give these lines, and this number of refusals; or its break gives the line of its fault
-abbrev pub AreTold : CodeSet → List Symbol → Option Break → List ℕ → List ℕ → ℕ → Type 0
-AreTold codes symbols None times lines refused = (lines ≡ trace_text codes symbols times) × (refused ≡ min (refused_in (trace_told codes symbols)) 18446744073709551615)
-AreTold codes symbols (Some broken) times lines refused = (lines ≡ fault_line (fault_of broken)) × (refused ≡ 1)
+abbrev pub AreTold : CodeSet → List Symbol → Option Break → List FrameMark → List ℕ → ℕ → Type 0
+AreTold codes symbols None marks lines refused = (lines ≡ trace_text codes symbols marks) × (refused ≡ min (refused_in marks (trace_told codes symbols)) 18446744073709551615)
+AreTold codes symbols (Some broken) marks lines refused = (lines ≡ fault_line (fault_of broken)) × (refused ≡ 1)
 
--- frames that begin at these times give these lines, with faults, given the addresses of legacy targets, or without
-abbrev pub AreToldAs : CodeSet → Option Addresses → Frames → List ℕ → List ℕ → ℕ → Type 0
-AreToldAs codes None frames times lines refused = AreTold codes frames.symbols.items frames.broken times lines refused
-AreToldAs codes (Some legacies) frames times lines refused = AreLinted legacies.0 frames times lines refused
+-- frames that have these marks give these lines, with faults, given the addresses of legacy targets, or without
+abbrev pub AreToldAs : CodeSet → Option Addresses → Frames → List FrameMark → List ℕ → ℕ → Type 0
+AreToldAs codes None frames marks lines refused = AreTold codes frames.symbols.items frames.broken marks lines refused
+AreToldAs codes (Some legacies) frames marks lines refused = AreLinted legacies.0 frames marks lines refused
 
 -- what goes out of them
-abbrev pub FramesGo : CodeSet → Option Addresses → Frames → List ℕ → Option (List ℕ) → Option (List ℕ) → Result Tally ScriptFault → Type 0
-FramesGo codes legacies frames times old new result = Goes (AreToldAs codes legacies frames times) old new result
+abbrev pub FramesGo : CodeSet → Option Addresses → Frames → List FrameMark → Option (List ℕ) → Option (List ℕ) → Result Tally ScriptFault → Type 0
+FramesGo codes legacies frames marks old new result = Goes (AreToldAs codes legacies frames marks) old new result

@@ -1,5 +1,5 @@
 -- The lines that a trace comes to, where `codes` are the codes that are known by name.
-use Rattle.std.specs.Prelude.{◌≡◌, ◌⊎◌, ℕ, ◌+◌, nat_lt, All, List, [], ◌∷◌, ◌++◌, codes, decimal, flat_map, map, min, Option, IfSome, Result, MatchResult, if◌then◌else◌}
+use Rattle.std.specs.Prelude.{◌≡◌, ◌⊎◌, ℕ, ◌+◌, ◌-◌, nat_lt, All, List, [], ◌∷◌, ◌++◌, codes, decimal, flat_map, map, min, slice_get, Option, Some, IfSome, Result, MatchResult, if◌then◌else◌}
 use Rattle.std.specs.Io.KnownBytes.{Appends, Keeps}
 use Rattle.i3c_ccc.specs.declared.codes.CodeSet.{CodeSet}
 use Rattle.i3c_frame.specs.declared.symbols.Symbol.{Symbol}
@@ -8,6 +8,7 @@ use Rattle.i3c_frame.specs.Parts.{parts}
 use Rattle.i3c_frame.specs.Texts.{IsInRange, text_of}
 use Rattle.i3c_frame.specs.Traces.{IsFirstFault, IsTrace}
 use Rattle.i3c_monitor.specs.declared.decoded.Decoded.{Decoded}
+use Rattle.i3c_wave.specs.declared.captured.FrameMark.{FrameMark}
 use Rattle.i3c_monitor.specs.Lines.{line_text}
 use Rattle.i3c_monitor.specs.Trace.{trace_told}
 use Rattle.i3c_streams.specs.declared.faults.ScriptFault.{ScriptFault}
@@ -18,23 +19,29 @@ use Rattle.i3c_streams.specs.Outcomes.{AppendsSome}
 abbrev pub ascii : ℕ → ℕ
 ascii byte = if nat_lt byte 128 then byte else 63
 
--- the lines of the decoded parts of a trace, whose frames begin at these times
-abbrev pub lines_text : List Symbol → List ℕ → List Decoded → List ℕ
-lines_text trace times decoded = flat_map (line_text trace times) decoded
+-- the lines of the decoded parts of a trace, whose frames have these marks
+abbrev pub lines_text : List Symbol → List FrameMark → List Decoded → List ℕ
+lines_text trace marks decoded = flat_map (line_text trace marks) decoded
 
 -- the lines of a trace
-abbrev pub trace_text : CodeSet → List Symbol → List ℕ → List ℕ
-trace_text codes trace times = lines_text trace times (trace_told codes trace)
+abbrev pub trace_text : CodeSet → List Symbol → List FrameMark → List ℕ
+trace_text codes trace marks = lines_text trace marks (trace_told codes trace)
 
--- how many refusals one line is
-abbrev pub refusals_in : Decoded → ℕ
-refusals_in (Decoded.Refused fault) = 1
-refusals_in _ = 0
+-- whether a frame with this mark can't be read
+abbrev pub losses_in : Option FrameMark → ℕ
+losses_in (Some (FrameMark.Lost loss)) = 1
+losses_in mark = 0
+
+-- how many refusals one line is, where frames have these marks: one that can't be read counts too
+abbrev pub refusals_in : List FrameMark → Decoded → ℕ
+refusals_in marks (Decoded.Refused fault) = 1
+refusals_in marks (Decoded.FrameStart number) = losses_in (slice_get marks (number - 1))
+refusals_in marks _ = 0
 
 -- how many refusals several are
-abbrev pub refused_in : List Decoded → ℕ
-refused_in [] = 0
-refused_in (decoded ∷ rest) = refusals_in decoded + refused_in rest
+abbrev pub refused_in : List FrameMark → List Decoded → ℕ
+refused_in marks [] = 0
+refused_in marks (decoded ∷ rest) = refusals_in marks decoded + refused_in marks rest
 
 -- the line of a text that is no trace: want of memory has none
 abbrev pub fault_line : TraceFault → List ℕ
@@ -50,7 +57,7 @@ pub record IsTraceTold (codes : CodeSet) (text lines : List ℕ) (refused : ℕ)
   pub in_range : All IsInRange trace
   pub same : map text_of trace ≡ parts text
   pub told : lines ≡ trace_text codes trace []
-  pub counted : refused ≡ min (refused_in (trace_told codes trace)) 18446744073709551615
+  pub counted : refused ≡ min (refused_in [] (trace_told codes trace)) 18446744073709551615
 
 -- the text is none, with the line of its first fault
 pub record IsFaultTold (text lines : List ℕ) (refused : ℕ) : Type 0 where

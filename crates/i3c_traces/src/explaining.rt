@@ -121,8 +121,8 @@ pub fn explain_frames(
     }
 }
 
-/// Appends the reasons to the notes, or nothing for want of memory.
-fn note(reasons: &Text, notes: &mut String)
+/// Appends lines to the notes, or nothing for want of memory.
+pub fn note(reasons: &Text, notes: &mut String)
     ensures { GrowsOrNot reasons.now (string_bytes notes.old) (string_bytes notes.new) }
 {
     if let Ok(text) = str::from_utf8(reasons.as_bytes()) {

@@ -10,6 +10,7 @@ use i3c_base::Addresses;
 use i3c_ccc::CodeSet;
 use i3c_frame::{Break, Due, Frames, Symbol, TraceFault};
 use i3c_streams::{MOST_BYTES, ScriptFault, Tally};
+use i3c_wave::FrameMark;
 use std::alloc::Global;
 use std::io::Write;
 
@@ -116,23 +117,23 @@ fn whole_len(symbols: &[Symbol]) -> usize
     whole
 }
 
-/// Tells frames as `run_trace` tells a trace or, with the addresses of legacy targets, as `run_lint` does. They begin at these
-/// times, as far as these go, and the lines of those frames end with them.
+/// Tells frames as `run_trace` tells a trace or, with the addresses of legacy targets, as `run_lint` does. They have these
+/// marks, as far as these go, and the lines of those frames end with them.
 pub fn print_frames<W: Write>(
     alloc: Global,
     codes: CodeSet,
     legacies: Option<Addresses>,
     frames: &Frames<'_>,
-    times: &[u64],
+    marks: &[FrameMark],
     writer: &mut W,
 ) -> Result<Tally, ScriptFault>
-    ensures lines { FramesGo codes legacies frames.now times.now (W.contents writer.old) (W.contents writer.new) result }
+    ensures lines { FramesGo codes legacies frames.now marks.now (W.contents writer.old) (W.contents writer.new) result }
     ensures faults { IfErr result IsLineFault }
     ensures unmet { IfOk result (λ tally. tally.unmet ≡ 0) }
 {
     match (legacies, &frames.broken) {
-        (Some(legacies), _) => lint_frames(alloc, legacies, frames, times, writer),
-        (None, None) => print_trace(alloc, codes, &frames.symbols, times, writer),
+        (Some(legacies), _) => lint_frames(alloc, legacies, frames, marks, writer),
+        (None, None) => print_trace(alloc, codes, &frames.symbols, marks, writer),
         (None, Some(broken)) => print_fault(alloc, &fault_of(broken), writer),
     }
 }

@@ -8,12 +8,13 @@ ghost use Rattle.i3c_traces.specs.Linted.{GoesOutLinted, IsLinted, break_text, b
 ghost use Rattle.i3c_streams.specs.Outcomes.{AppendsSome};
 ghost use Rattle.i3c_traces.specs.Traces.{Goes};
 
-use crate::trace::read_text;
+use crate::trace::{read_text, refusals};
 use i3c_base::Addresses;
 use i3c_frame::{Break, Due, Frames, Symbol, read_frames};
-use i3c_monitor::{Decoded, Linter, Report};
+use i3c_monitor::{Linter, Report};
 use i3c_streams::{MOST_BYTES, ScriptFault, Tally, write_gathered, write_out};
 use i3c_text::Text;
+use i3c_wave::FrameMark;
 use std::alloc::{AllocError, Global};
 use std::io::{Read, Write};
 
@@ -57,25 +58,25 @@ pub(crate) fn lint_text<W: Write>(
     }
 }
 
-/// Writes the lines of frames, and that of their break. They begin at these times, as far as these go.
+/// Writes the lines of frames, and that of their break. They have these marks, as far as these go.
 pub(crate) fn lint_frames<W: Write>(
     alloc: Global,
     legacies: Addresses,
     frames: &Frames<'_>,
-    times: &[u64],
+    marks: &[FrameMark],
     out: &mut W,
 ) -> Result<Tally, ScriptFault>
     ensures unmet { IfOk result (λ tally. tally.unmet ≡ 0) }
     ensures told { MatchResult result
-        (λ tally. (tally.refused ≡ min (frames_faults legacies.0 frames.now) u64.MAX) × Appends (W.contents out.old) (W.contents out.new) (frames_text legacies.0 frames.now times.now))
-        (λ fault. IsLineFault fault × AppendsSome (W.contents out.old) (W.contents out.new) (frames_text legacies.0 frames.now times.now)) }
+        (λ tally. (tally.refused ≡ min (frames_faults legacies.0 frames.now marks.now) u64.MAX) × Appends (W.contents out.old) (W.contents out.new) (frames_text legacies.0 frames.now marks.now))
+        (λ fault. IsLineFault fault × AppendsSome (W.contents out.old) (W.contents out.new) (frames_text legacies.0 frames.now marks.now)) }
 {
     let mut linter = Linter::new(alloc, legacies, &frames.symbols);
     let mut text = Text::new(alloc);
     let mut refused: u64 = 0;
     while let Some(report) = next_report(&mut linter)? {
-        push_report(&report, &frames.symbols, times, &mut text)?;
-        refused = refused.saturating_add(faults_of(&report));
+        push_report(&report, &frames.symbols, marks, &mut text)?;
+        refused = refused.saturating_add(faults_of(&report, marks));
         write_gathered(&mut text, out)?;
     }
     refused = refused.saturating_add(breaks_of(&frames.broken));
@@ -97,13 +98,12 @@ fn next_report(linter: &mut Linter<'_>) -> Result<Option<Report>, ScriptFault>
     }
 }
 
-/// How many refusals and faults a report tells.
-fn faults_of(report: &Report) -> u64
-    ensures { result ≡ faults_in report.now }
+/// How many refusals and faults a report tells, where frames have these marks.
+fn faults_of(report: &Report, marks: &[FrameMark]) -> u64
+    ensures { result ≡ faults_in marks.now report.now }
 {
     match report {
-        Report::Decoded(Decoded::Refused(_)) => 1,
-        Report::Decoded(_) => 0,
+        Report::Decoded(decoded) => refusals(decoded, marks),
         Report::Faults(faults) => faults.len() as u64,
     }
 }
@@ -112,13 +112,13 @@ fn faults_of(report: &Report) -> u64
 fn push_report(
     report: &Report,
     trace: &[Symbol],
-    times: &[u64],
+    marks: &[FrameMark],
     text: &mut Text,
 ) -> Result<(), ScriptFault>
-    ensures { MatchResult result (λ _. text.new ≡ text.old ++ report_text trace.now times.now report.now)
+    ensures { MatchResult result (λ _. text.new ≡ text.old ++ report_text trace.now marks.now report.now)
         (λ fault. fault ≡ ScriptFault.Memory) }
 {
-    match report.push(trace, times, text) {
+    match report.push(trace, marks, text) {
         Ok(()) => Ok(()),
         Err(_) => Err(ScriptFault::Memory),
     }

@@ -5,13 +5,14 @@ ghost use Rattle.i3c_monitor.specs.Lines.{line_text};
 ghost use Rattle.i3c_monitor.specs.Trace.{to_come, trace_told};
 ghost use Rattle.i3c_streams.specs.Outcomes.{AppendsSome};
 ghost use Rattle.i3c_streams.specs.Faults.{IsLineFault};
-ghost use Rattle.i3c_traces.specs.Traces.{ascii, fault_line, refusals_in, refused_in, trace_text, Goes, GoesOut, IsTold};
+ghost use Rattle.i3c_traces.specs.Traces.{ascii, fault_line, losses_in, refusals_in, refused_in, trace_text, Goes, GoesOut, IsTold};
 
 use i3c_ccc::CodeSet;
 use i3c_frame::{Symbol, TraceFault, read_trace_bytes};
-use i3c_monitor::{Decoded, Monitor};
+use i3c_monitor::{Decoded, Monitor, mark_of};
 use i3c_streams::{MOST_BYTES, ScriptFault, Tally, read_whole, write_gathered, write_out};
 use i3c_text::Text;
+use i3c_wave::FrameMark;
 use std::alloc::{AllocError, Global};
 use std::io::{Read, Write};
 
@@ -101,25 +102,25 @@ fn ascii_byte(byte: u8) -> u8
     if byte < 128 { byte } else { UNKNOWN }
 }
 
-/// Writes the lines of a trace, one after another. Its frames begin at these times, as far as these go.
+/// Writes the lines of a trace, one after another. Its frames have these marks, as far as these go.
 pub(crate) fn print_trace<W: Write>(
     alloc: Global,
     codes: CodeSet,
     trace: &[Symbol],
-    times: &[u64],
+    marks: &[FrameMark],
     out: &mut W,
 ) -> Result<Tally, ScriptFault>
     ensures unmet { IfOk result (λ tally. tally.unmet ≡ 0) }
     ensures told { MatchResult result
-        (λ tally. (tally.refused ≡ min (refused_in (trace_told codes trace.now)) u64.MAX) × Appends (W.contents out.old) (W.contents out.new) (trace_text codes trace.now times.now))
-        (λ fault. IsLineFault fault × AppendsSome (W.contents out.old) (W.contents out.new) (trace_text codes trace.now times.now)) }
+        (λ tally. (tally.refused ≡ min (refused_in marks.now (trace_told codes trace.now)) u64.MAX) × Appends (W.contents out.old) (W.contents out.new) (trace_text codes trace.now marks.now))
+        (λ fault. IsLineFault fault × AppendsSome (W.contents out.old) (W.contents out.new) (trace_text codes trace.now marks.now)) }
 {
     let mut monitor = Monitor::knowing(alloc, codes, trace);
     let mut text = Text::new(alloc);
     let mut refused: u64 = 0;
     while let Some(decoded) = next_decoded(&mut monitor)? {
-        push_decoded(&decoded, trace, times, &mut text)?;
-        refused = refused.saturating_add(refusals(&decoded));
+        push_decoded(&decoded, trace, marks, &mut text)?;
+        refused = refused.saturating_add(refusals(&decoded, marks));
         write_gathered(&mut text, out)?;
     }
     write_out(text.as_bytes(), out)?;
@@ -139,12 +140,23 @@ fn next_decoded(monitor: &mut Monitor<'_>) -> Result<Option<Decoded>, ScriptFaul
     }
 }
 
-/// How many refusals it is.
-fn refusals(decoded: &Decoded) -> u64
-    ensures { result ≡ refusals_in decoded.now }
+/// How many refusals it is, where frames have these marks: a frame that can't be read counts too.
+pub(crate) fn refusals(decoded: &Decoded, marks: &[FrameMark]) -> u64
+    ensures { result ≡ refusals_in marks.now decoded.now }
 {
     match decoded {
         Decoded::Refused(_) => 1,
+        Decoded::FrameStart(number) => losses(mark_of(marks, *number)),
+        _ => 0,
+    }
+}
+
+/// Whether a frame with this mark can't be read, as a number.
+fn losses(mark: Option<FrameMark>) -> u64
+    ensures { result ≡ losses_in mark }
+{
+    match mark {
+        Some(FrameMark::Lost(_)) => 1,
         _ => 0,
     }
 }
@@ -154,13 +166,13 @@ fn refusals(decoded: &Decoded) -> u64
 fn push_decoded(
     decoded: &Decoded,
     trace: &[Symbol],
-    times: &[u64],
+    marks: &[FrameMark],
     text: &mut Text,
 ) -> Result<(), ScriptFault>
-    ensures { MatchResult result (λ _. text.new ≡ text.old ++ line_text trace.now times.now decoded.now)
+    ensures { MatchResult result (λ _. text.new ≡ text.old ++ line_text trace.now marks.now decoded.now)
         (λ fault. fault ≡ ScriptFault.Memory) }
 {
-    match decoded.push(trace, times, text) {
+    match decoded.push(trace, marks, text) {
         Ok(()) => Ok(()),
         Err(_) => Err(ScriptFault::Memory),
     }

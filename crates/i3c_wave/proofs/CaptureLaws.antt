@@ -1,24 +1,25 @@
 -- What was read of a capture's text, chunk by chunk.
 use Rattle.std.specs.Prelude.{⊤}
-use Rattle.std.proofs.Common.{◌≡◌, ◌⊎◌, ◌∙◌, ℕ, List, [], ◌∷◌, ◌++◌, option_to_list, Option, Some, None, Ok, Err, Result, IfSome, MatchResult, ap, append_assoc, append-nil, inl, inr, refl, subst, sym}
+use Rattle.std.proofs.Common.{◌≡◌, ◌⊎◌, ◌∙◌, ℕ, List, [], ◌∷◌, ◌++◌, Option, Some, None, Ok, Err, Result, IfSome, MatchResult, ap, append_assoc, append-nil, inl, inr, refl, subst, sym}
 use Rattle.std.specs.Io.KnownBytes.{Consumes, IsAtEnd}
 use Rattle.i3c_base.specs.declared.addresses.Addresses.{Addresses}
 use Rattle.i3c_wave.specs.declared.capture_fault.CaptureFault.{CaptureFault}
-use Rattle.i3c_wave.specs.declared.stamped.Stamped.{Stamped}
-use Rattle.i3c_wave.specs.CaptureTexts.{Closed, Ended, HasSymbols, Input, IsOfReading, byte_read, bytes_read, closed, goes_on, kept, new_input, text_ended, text_read, word_ended}
+use Rattle.i3c_wave.specs.declared.captured.Captured.{Captured}
+use Rattle.i3c_wave.specs.CaptureTexts.{Closed, Ended, IsFound, Input, IsOfReading, byte_read, bytes_read, closed, goes_on, kept, new_input, text_ended, text_read, word_ended}
+use Rattle.i3c_wave.specs.Found.{Found, found_in, with_any}
 
 -- the end of a text, behind its last word
-pub closing : (scl sda : List ℕ) (input mid : Input) (result : Result ⊤ CaptureFault) (new : List Stamped) → word_ended scl sda input ≡ Ok mid
-    → MatchResult result (λ _. Closed (closed mid.reached) mid.symbols new) (λ fault. (fault ≡ CaptureFault.Memory) ⊎ (closed mid.reached ≡ Err fault))
+pub closing : (scl sda : List ℕ) (input mid : Input) (result : Result ⊤ CaptureFault) (new : Found) → word_ended scl sda input ≡ Ok mid
+    → MatchResult result (λ _. Closed (closed mid.reached) mid.found new) (λ fault. (fault ≡ CaptureFault.Memory) ⊎ (closed mid.reached ≡ Err fault))
     → MatchResult result (λ _. Ended scl sda input new) (λ fault. (fault ≡ CaptureFault.Memory) ⊎ (text_ended scl sda input ≡ Err fault))
-closing scl sda input mid (Ok done) new word (taken, outcome, symbols) = (
-  record { reached = taken.reached; word = []; symbols = mid.symbols ++ option_to_list taken.symbol },
-  ap (λ outcome. goes_on outcome (λ next. kept next.symbols (closed next.reached))) word ∙ ap (kept mid.symbols) outcome,
-  sym symbols,
+closing scl sda input mid (Ok done) new word (taken, outcome, same) = (
+  record { reached = taken.reached; word = []; found = with_any taken.reached.dump.scale mid.found taken.event },
+  ap (λ outcome. goes_on outcome (λ next. kept next.found (closed next.reached))) word ∙ ap (kept mid.found) outcome,
+  sym same,
 )
 closing scl sda input mid (Err fault) new word (inl memory) = inl memory
 closing scl sda input mid (Err fault) new word (inr outcome) =
-    inr (ap (λ outcome. goes_on outcome (λ next. kept next.symbols (closed next.reached))) word ∙ ap (kept mid.symbols) outcome)
+    inr (ap (λ outcome. goes_on outcome (λ next. kept next.found (closed next.reached))) word ∙ ap (kept mid.found) outcome)
 
 -- a step, and what follows it
 on_both : (scl sda : List ℕ) (step : Result Input CaptureFault) (xs ys : List ℕ)
@@ -62,10 +63,10 @@ fault_read None b legacies scl sda items fault one is = tt
 fault_read (Some xs) None legacies scl sda items fault one is = absurd one
 fault_read (Some xs) (Some ys) legacies scl sda items fault one is = subst (λ text. text_read legacies scl sda text ≡ Err fault) (sym one) (fault_on legacies scl sda items ys fault is)
 
--- the symbols of a text, all of whose bytes were read
-pub ended_with : (legacies : Addresses) (scl sda text : List ℕ) (input : Input) (symbols : List Stamped) → bytes_read scl sda (new_input legacies) text ≡ Ok input → Ended scl sda input symbols
-    → HasSymbols legacies scl sda text symbols
-ended_with legacies scl sda text input symbols is (last, end, same) = (last, ap (λ step. goes_on step (text_ended scl sda)) is ∙ end, same)
+-- what is found in a text, all of whose bytes were read
+pub ended_with : (legacies : Addresses) (scl sda text : List ℕ) (input : Input) (captured : Captured) → bytes_read scl sda (new_input legacies) text ≡ Ok input → Ended scl sda input (found_in captured)
+    → IsFound legacies scl sda text captured
+ended_with legacies scl sda text input captured is (last, end, same) = (last, ap (λ step. goes_on step (text_ended scl sda)) is ∙ end, same)
 
 -- the fault of a text at its end
 pub ended_by : (legacies : Addresses) (scl sda text : List ℕ) (input : Input) (fault : CaptureFault) → bytes_read scl sda (new_input legacies) text ≡ Ok input → text_ended scl sda input ≡ Err fault

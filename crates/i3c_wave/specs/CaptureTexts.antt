@@ -1,72 +1,120 @@
--- The text of a capture: its words, the symbols that are read of them, and its first fault.
+-- The text of a capture: its words, the frames that are found in them, and its first fault.
 use Rattle.std.specs.Prelude.{◌≡◌, ◌⊎◌, ℕ, ◌+◌, ◌==◌, min, nat_lt, Bool, true, not, ◌&&◌, List, [], ◌∷◌, ◌++◌, length, position, unwrap_or, option_to_list, ⊤, Option, Some, None, Result, Ok, Err, MatchResult, if◌then◌else◌}
 use Rattle.i3c_base.specs.declared.addresses.Addresses.{Addresses}
 use Rattle.i3c_wave.specs.declared.capture.Capture.{Capture}
+use Rattle.i3c_wave.specs.declared.capture.CaptureEvent.{CaptureEvent}
 use Rattle.i3c_wave.specs.declared.capture_fault.CaptureFault.{CaptureFault}
 use Rattle.i3c_wave.specs.declared.capture_text.CaptureWords.{CaptureWords}
+use Rattle.i3c_wave.specs.declared.dump.Declaration.{Declaration}
 use Rattle.i3c_wave.specs.declared.dump.Item.{Item}
+use Rattle.i3c_wave.specs.declared.dump.LineSearch.{LineSearch}
 use Rattle.i3c_wave.specs.declared.dump.DumpStep.{DumpStep}
-use Rattle.i3c_wave.specs.declared.stamped.Stamped.{Stamped}
-use Rattle.i3c_wave.specs.Captures.{Heard, at_time, changed, heard, new_capture, with_line}
-use Rattle.i3c_wave.specs.Dumps.{is_ended, new_dump, word_said}
+use Rattle.i3c_wave.specs.declared.captured.Captured.{Captured}
+use Rattle.i3c_wave.specs.declared.dump_word.Code.{Code}
+use Rattle.i3c_wave.specs.Captures.{Heard, at_time, changed, heard, new_capture, with_values}
+use Rattle.i3c_wave.specs.Declarations.{Declarations}
+use Rattle.i3c_wave.specs.Dumps.{declared_in, is_ended, new_dump, word_said}
+use Rattle.i3c_wave.specs.Found.{Found, found_in, nothing_found, with_any}
+use Rattle.i3c_wave.specs.Signals.{entered, left, listed, named_on, no_signals, scope_named, source_in}
+use Rattle.i3c_wave.specs.Timescales.{setup_of}
 
--- what is read of a text: its whole words, the letters of a word that is open, and the symbols
+-- what is read of a text: its whole words, the letters of a word that is open, and what is found in it
 pub record Input : Type 0 where
   pub reached : CaptureWords
   pub word : List ℕ
-  pub symbols : List Stamped
+  pub found : Found
 
 -- what a text is read as so far
-abbrev pub input : CaptureWords → List ℕ → List Stamped → Input
-input reached word symbols = record { reached = reached; word = word; symbols = symbols }
+abbrev pub input : CaptureWords → List ℕ → Found → Input
+input reached word found = record { reached = reached; word = word; found = found }
 
--- what is read of whole words, and the symbol that is whole by the last of them
+-- what is read of whole words, and the event that is whole by the last of them
 pub record Taken : Type 0 where
   pub reached : CaptureWords
-  pub symbol : Option Stamped
+  pub event : Option CaptureEvent
 
 -- the words of a capture before the first one
 abbrev pub new_reached : Addresses → CaptureWords
-new_reached legacies = record { dump = new_dump; capture = new_capture legacies; line = 1 }
+new_reached legacies = record { dump = new_dump; signals = no_signals; capture = new_capture legacies; line = 1 }
 
 -- a space, or a control byte like a tab or a line feed
 abbrev pub is_space : ℕ → Bool
 is_space byte = nat_lt byte 33
 
 -- what is heard of the lines
-abbrev pub item_taken : CaptureWords → Result Heard CaptureFault → Result Taken CaptureFault
-item_taken reached (Ok heard) = Ok (record { reached = record reached { capture = heard.capture }; symbol = heard.symbol })
-item_taken reached (Err fault) = Err fault
+abbrev pub taken_from : CaptureWords → Heard → Taken
+taken_from reached heard = record { reached = record reached { capture = heard.capture }; event = heard.event }
 
 -- the result of a time: the capture goes on to it, unless it is too early
 abbrev pub time_taken : CaptureWords → Option Capture → Result Taken CaptureFault
 time_taken reached None = Err (CaptureFault.BadTime reached.line)
-time_taken reached (Some capture) = Ok (record { reached = record reached { capture = capture }; symbol = None })
+time_taken reached (Some capture) = Ok (record { reached = record reached { capture = capture }; event = None })
+
+-- a line has no signal, or several
+abbrev pub scl_fault : LineSearch → List ℕ → Option CaptureFault
+scl_fault LineSearch.Missing names = Some (CaptureFault.NoScl names)
+scl_fault LineSearch.Several names = Some (CaptureFault.SeveralScl names)
+scl_fault (LineSearch.Found source) names = None
+
+abbrev pub sda_fault : LineSearch → List ℕ → Option CaptureFault
+sda_fault LineSearch.Missing names = Some (CaptureFault.NoSda names)
+sda_fault LineSearch.Several names = Some (CaptureFault.SeveralSda names)
+sda_fault (LineSearch.Found source) names = None
+
+-- the first line that hasn't one signal is a fault
+abbrev pub lines_fault : LineSearch → LineSearch → List ℕ → Option CaptureFault
+lines_fault (LineSearch.Found source) sda names = sda_fault sda names
+lines_fault scl sda names = scl_fault scl names
+
+abbrev pub fault_of_lines : CaptureWords → Option CaptureFault
+fault_of_lines reached = lines_fault reached.dump.scl reached.dump.sda reached.signals.names
+
+-- these are the signals from now on
+abbrev pub with_signals : CaptureWords → Declarations → Taken
+with_signals reached signals = record { reached = record reached { signals = signals }; event = None }
+
+-- the declarations end, if both lines have one signal
+abbrev pub defined : CaptureWords → Option CaptureFault → Result Taken CaptureFault
+defined reached None = Ok (record { reached = record reached { dump = record reached.dump { is_defined = true } }; event = None })
+defined reached (Some fault) = Err fault
+
+-- a signal was declared, and may be a line
+abbrev pub with_signal : List ℕ → List ℕ → CaptureWords → Option Code → Option ℕ → CaptureWords
+with_signal scl sda reached code width = record reached { dump = declared_in reached.dump (source_in reached.signals scl code width) (source_in reached.signals sda code width) }
+
+-- what a word declares
+abbrev pub declared : List ℕ → List ℕ → CaptureWords → List ℕ → Declaration → Result Taken CaptureFault
+declared scl sda reached word Declaration.Scope = Ok (with_signals reached (entered reached.signals))
+declared scl sda reached word Declaration.ScopeName = Ok (with_signals reached (scope_named reached.signals word))
+declared scl sda reached word Declaration.ScopeEnd = Ok (with_signals reached (left reached.signals))
+declared scl sda reached word Declaration.SignalName = Ok (with_signals reached (named_on reached.signals word))
+declared scl sda reached word (Declaration.Signal code width) = Ok (with_signals (with_signal scl sda reached code width) (listed reached.signals))
+declared scl sda reached word Declaration.End = defined reached (fault_of_lines reached)
 
 -- what a word says is heard
-abbrev pub item_heard : CaptureWords → Item → Result Taken CaptureFault
-item_heard reached Item.Nothing = Ok (record { reached = reached; symbol = None })
-item_heard reached (Item.Time time) = time_taken reached (at_time reached.capture time)
-item_heard reached Item.NoLevel = Err (CaptureFault.NoLevel reached.capture.time)
-item_heard reached (Item.Level line high) = item_taken reached (changed reached.dump.setup reached.capture (with_line reached.capture.level line high))
+abbrev pub item_heard : List ℕ → List ℕ → CaptureWords → List ℕ → Item → Result Taken CaptureFault
+item_heard scl sda reached word (Item.Declared declaration) = declared scl sda reached word declaration
+item_heard scl sda reached word Item.Nothing = Ok (record { reached = reached; event = None })
+item_heard scl sda reached word (Item.Time time) = time_taken reached (at_time reached.capture time)
+item_heard scl sda reached word (Item.Values clock other) = Ok (taken_from reached (changed (setup_of reached.dump.scale) reached.capture (with_values reached.capture.lines clock other)))
 
 -- what a word says, if it says something
-abbrev pub said_taken : CaptureWords → Result DumpStep CaptureFault → Result Taken CaptureFault
-said_taken reached (Ok said) = item_heard (record reached { dump = said.dump }) said.item
-said_taken reached (Err fault) = Err fault
+abbrev pub said_taken : List ℕ → List ℕ → CaptureWords → List ℕ → Result DumpStep CaptureFault → Result Taken CaptureFault
+said_taken scl sda reached word (Ok said) = item_heard scl sda (record reached { dump = said.dump }) word said.item
+said_taken scl sda reached word (Err fault) = Err fault
 
 -- the result of the next word
 abbrev pub word_taken : List ℕ → List ℕ → CaptureWords → List ℕ → Result Taken CaptureFault
-word_taken scl sda reached word = said_taken reached (word_said scl sda reached.dump reached.line word)
+word_taken scl sda reached word = said_taken scl sda reached word (word_said reached.dump reached.line word)
 
--- a word is whole, and a symbol may be by it
-abbrev pub kept : List Stamped → Result Taken CaptureFault → Result Input CaptureFault
-kept symbols (Ok taken) = Ok (record { reached = taken.reached; word = []; symbols = symbols ++ option_to_list taken.symbol })
-kept symbols (Err fault) = Err fault
+-- a word is whole, and an event may be by it
+abbrev pub kept : Found → Result Taken CaptureFault → Result Input CaptureFault
+kept found (Ok taken) = Ok (record { reached = taken.reached; word = []; found = with_any taken.reached.dump.scale found taken.event })
+kept found (Err fault) = Err fault
 
 -- the end of a word, if it has letters
 abbrev pub word_ended : List ℕ → List ℕ → Input → Result Input CaptureFault
-word_ended scl sda input = if length input.word == 0 then Ok input else kept input.symbols (word_taken scl sda input.reached input.word)
+word_ended scl sda input = if length input.word == 0 then Ok input else kept input.found (word_taken scl sda input.reached input.word)
 
 -- the words behind a space: a line feed ends a line
 abbrev pub behind : CaptureWords → ℕ → CaptureWords
@@ -107,43 +155,52 @@ bytes_read scl sda input (byte ∷ rest) = goes_on (byte_read scl sda input byte
 
 -- what is heard at the end, if the text is whole
 abbrev pub closed_as : CaptureWords → Result ⊤ CaptureFault → Result Taken CaptureFault
-closed_as reached (Ok _) = item_taken reached (heard reached.capture)
+closed_as reached (Ok _) = Ok (taken_from reached (heard reached.capture))
 closed_as reached (Err fault) = Err fault
 
+-- the fault of a line without its signal goes before that of the end
+abbrev pub closed_with : CaptureWords → Option CaptureFault → Result Taken CaptureFault
+closed_with reached None = closed_as reached (is_ended reached.dump reached.line)
+closed_with reached (Some fault) = Err fault
+
 abbrev pub closed : CaptureWords → Result Taken CaptureFault
-closed reached = closed_as reached (is_ended reached.dump reached.line)
+closed reached = closed_with reached (fault_of_lines reached)
 
 -- a text ends: its last word, and the level that lasts
 abbrev pub text_ended : List ℕ → List ℕ → Input → Result Input CaptureFault
-text_ended scl sda input = goes_on (word_ended scl sda input) (λ next. kept next.symbols (closed next.reached))
+text_ended scl sda input = goes_on (word_ended scl sda input) (λ next. kept next.found (closed next.reached))
 
--- these are the symbols of a text that ended
-abbrev pub Ended : List ℕ → List ℕ → Input → List Stamped → Type 0
-Ended scl sda input symbols = (last : Input) × (text_ended scl sda input ≡ Ok last) × (last.symbols ≡ symbols)
+-- this is found in a text that ended
+abbrev pub Ended : List ℕ → List ℕ → Input → Found → Type 0
+Ended scl sda input found = (last : Input) × (text_ended scl sda input ≡ Ok last) × (last.found ≡ found)
 
--- the symbols before the end, and after it
-abbrev pub Closed : Result Taken CaptureFault → List Stamped → List Stamped → Type 0
-Closed outcome old new = (taken : Taken) × (outcome ≡ Ok taken) × (new ≡ old ++ option_to_list taken.symbol)
+-- what is found before the end, and after it
+abbrev pub Closed : Result Taken CaptureFault → Found → Found → Type 0
+Closed outcome old new = (taken : Taken) × (outcome ≡ Ok taken) × (new ≡ with_any taken.reached.dump.scale old taken.event)
 
 -- the state before the first byte of a text
 abbrev pub new_input : Addresses → Input
-new_input legacies = record { reached = new_reached legacies; word = []; symbols = [] }
+new_input legacies = record { reached = new_reached legacies; word = []; found = nothing_found }
 
 -- the result of a whole text, by the names of SCL and SDA
 abbrev pub text_read : Addresses → List ℕ → List ℕ → List ℕ → Result Input CaptureFault
 text_read legacies scl sda text = goes_on (bytes_read scl sda (new_input legacies) text) (text_ended scl sda)
 
--- the symbols of a whole text
-abbrev pub HasSymbols : Addresses → List ℕ → List ℕ → List ℕ → List Stamped → Type 0
-HasSymbols legacies scl sda text symbols = (input : Input) × (text_read legacies scl sda text ≡ Ok input) × (input.symbols ≡ symbols)
+-- this is found in a whole text
+abbrev pub IsFound : Addresses → List ℕ → List ℕ → List ℕ → Captured → Type 0
+IsFound legacies scl sda text captured = (input : Input) × (text_read legacies scl sda text ≡ Ok input) × (input.found ≡ found_in captured)
 
 -- a call reads so: with `Ok` it leads there, and otherwise it ends with the fault that is told, or memory was short
-abbrev pub Reads : Result Input CaptureFault → CaptureWords → List ℕ → List Stamped → Result ⊤ CaptureFault → Type 0
-Reads outcome reached word symbols result = MatchResult result (λ _. outcome ≡ Ok (input reached word symbols)) (λ fault. (fault ≡ CaptureFault.Memory) ⊎ (outcome ≡ Err fault))
+abbrev pub Reads : Result Input CaptureFault → CaptureWords → List ℕ → Found → Result ⊤ CaptureFault → Type 0
+Reads outcome reached word found result = MatchResult result (λ _. outcome ≡ Ok (input reached word found)) (λ fault. (fault ≡ CaptureFault.Memory) ⊎ (outcome ≡ Err fault))
 
 -- a call takes a word so
-abbrev pub Takes : Result Taken CaptureFault → CaptureWords → Result (Option Stamped) CaptureFault → Type 0
-Takes outcome reached result = MatchResult result (λ symbol. outcome ≡ Ok (record { reached = reached; symbol = symbol })) (λ fault. outcome ≡ Err fault)
+abbrev pub Takes : Result Taken CaptureFault → CaptureWords → Result (Option CaptureEvent) CaptureFault → Type 0
+Takes outcome reached result = MatchResult result (λ event. outcome ≡ Ok (record { reached = reached; event = event })) (λ fault. (fault ≡ CaptureFault.Memory) ⊎ (outcome ≡ Err fault))
+
+-- a call takes a declaration so, by which no event is whole
+abbrev pub Declares : Result Taken CaptureFault → CaptureWords → Result ⊤ CaptureFault → Type 0
+Declares outcome reached result = MatchResult result (λ _. outcome ≡ Ok (record { reached = reached; event = None })) (λ fault. (fault ≡ CaptureFault.Memory) ⊎ (outcome ≡ Err fault))
 
 -- a fault of memory, or of the reader
 abbrev pub IsOfReading : CaptureFault → Type 0

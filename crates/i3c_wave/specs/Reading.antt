@@ -1,5 +1,5 @@
 -- What a reader makes of the marks on the lines.
-use Rattle.std.specs.Prelude.{ℕ, zero, suc, ◌+◌, ◌*◌, ◌%◌, ◌==◌, Bool, List, [], ◌∷◌, ◌++◌, Option, Some, None, if◌then◌else◌}
+use Rattle.std.specs.Prelude.{ℕ, zero, suc, ◌+◌, ◌*◌, ◌%◌, ◌==◌, Bool, true, false, List, [], ◌∷◌, ◌++◌, Option, Some, None, if◌then◌else◌}
 use Rattle.i3c_base.specs.declared.addresses.Addresses.{Addresses}
 use Rattle.i3c_frame.specs.declared.symbols.Symbol.{Symbol}
 use Rattle.i3c_wave.specs.declared.awaited.Awaited.{Awaited}
@@ -16,6 +16,11 @@ pub record Turn : Type 0 where
 -- a reader that has read nothing of the awaited symbol
 abbrev pub awaiting : Addresses → Option Awaited → Reader
 awaiting legacies place = record { legacies = legacies; place = place; number = 0; left = bits_in place }
+
+-- a frame is open where a symbol of it is awaited
+abbrev pub is_in_frame : Option Awaited → Bool
+is_in_frame None = false
+is_in_frame (Some awaited) = true
 
 -- a symbol that isn't allowed there: the reader waits for the next frame
 abbrev pub misread : Reader → Turn

@@ -1,7 +1,8 @@
+use crate::signals::SignalNames;
 use thiserror::Error;
 
-/// Why a capture isn't read to its end. Times are in units of the capture's own timescale, and lines are counted from 1.
-#[derive(Clone, Copy, Debug, Drop, Error)]
+/// Why a capture isn't read to its end. Lines are counted from 1.
+#[derive(Debug, Drop, Error)]
 pub enum CaptureFault {
     /// There was no memory.
     #[error("out of memory")]
@@ -9,18 +10,18 @@ pub enum CaptureFault {
     /// The reader failed.
     #[error("the capture can't be read")]
     Read,
-    /// No signal has the name that SCL is to have.
-    #[error("no signal for SCL")]
-    NoScl,
+    /// No signal has the name that SCL is to have. These are all signals.
+    #[error("no signal for SCL among these:{0}")]
+    NoScl(SignalNames),
     /// No signal has the name that SDA is to have.
-    #[error("no signal for SDA")]
-    NoSda,
-    /// A line is neither low nor high at this time.
-    #[error("a line has no level at time {0}")]
-    NoLevel(u64),
-    /// The bits up to the level that begins at this time are no symbol that is allowed there.
-    #[error("no symbol ends at time {0}")]
-    Misread(u64),
+    #[error("no signal for SDA among these:{0}")]
+    NoSda(SignalNames),
+    /// Several signals have the name that SCL is to have.
+    #[error("several signals for SCL among these:{0}")]
+    SeveralScl(SignalNames),
+    /// Several signals have the name that SDA is to have.
+    #[error("several signals for SDA among these:{0}")]
+    SeveralSda(SignalNames),
     /// A timescale that is none, at this line.
     #[error("line {0} has no timescale")]
     BadTimescale(u64),

@@ -1,28 +1,29 @@
 ghost use Rattle.std.specs.Prelude.{◌≡◌, ◌⊎◌, ◌<◌, Err, Ok, IfSome, length, MatchResult};
-ghost use Rattle.i3c_wave.specs.CaptureTexts.{Closed, Ended, HasSymbols, IsOfReading, Reads, TellsRead, bytes_read, closed, input, text_ended, text_read};
+ghost use Rattle.i3c_wave.specs.Found.{found_in};
+ghost use Rattle.i3c_wave.specs.CaptureTexts.{Closed, Ended, IsFound, IsOfReading, Reads, TellsRead, bytes_read, closed, input, text_ended, text_read};
 
 use crate::capture_fault::CaptureFault;
 use crate::capture_text::{CaptureWords, letters_in};
+use crate::captured::Captured;
 use crate::source::Source;
-use crate::stamped::{Stamped, keep_symbol};
 use i3c_base::Addresses;
 use i3c_streams::CHUNK;
 use i3c_text::Text;
 use std::alloc::Global;
 use std::io::Read;
 
-/// The symbols of a capture: a value change dump (IEEE 1364) in which the signals of these names are SCL and SDA. Legacy
-/// targets have these addresses. Fails with the text's first fault. Beside the symbols it keeps one word of the text. `Read` is
-/// told exactly where a read failed.
+/// The frames of a capture: a value change dump (IEEE 1364) in which the signals of these names are SCL and SDA. Legacy
+/// targets have these addresses. A frame that can't be read is marked as lost, and reading goes on at the next START. Fails
+/// with the text's first fault. Beside what it finds it keeps one word of the text. `Read` is told exactly where a read failed.
 pub fn read_capture<R: Read>(
     alloc: Global,
     legacies: Addresses,
     scl: &[u8],
     sda: &[u8],
     source: &mut Source<R>,
-) -> Result<Vec<Stamped>, CaptureFault>
-    ensures symbols { MatchResult result
-        (λ symbols. IfSome (R.remaining source.old.reader) (λ text. HasSymbols legacies scl.now sda.now text symbols.items))
+) -> Result<Captured, CaptureFault>
+    ensures found { MatchResult result
+        (λ captured. IfSome (R.remaining source.old.reader) (λ text. IsFound legacies scl.now sda.now text captured))
         (λ fault. IsOfReading fault ⊎ IfSome (R.remaining source.old.reader) (λ text. text_read legacies scl.now sda.now text ≡ Err fault)) }
     ensures read { TellsRead source.old.has_failed source.new.has_failed result }
 {
@@ -32,7 +33,7 @@ pub fn read_capture<R: Read>(
     read_chunks(alloc, legacies, scl, sda, source, &mut chunk)
 }
 
-/// The symbols of a capture, which is read by chunks.
+/// The frames of a capture, which is read by chunks.
 fn read_chunks<R: Read>(
     alloc: Global,
     legacies: Addresses,
@@ -40,28 +41,28 @@ fn read_chunks<R: Read>(
     sda: &[u8],
     source: &mut Source<R>,
     chunk: &mut [u8],
-) -> Result<Vec<Stamped>, CaptureFault>
+) -> Result<Captured, CaptureFault>
     requires { 0 < length chunk.old }
-    ensures symbols { MatchResult result
-        (λ symbols. IfSome (R.remaining source.old.reader) (λ text. HasSymbols legacies scl.now sda.now text symbols.items))
+    ensures found { MatchResult result
+        (λ captured. IfSome (R.remaining source.old.reader) (λ text. IsFound legacies scl.now sda.now text captured))
         (λ fault. IsOfReading fault ⊎ IfSome (R.remaining source.old.reader) (λ text. text_read legacies scl.now sda.now text ≡ Err fault)) }
     ensures read { TellsRead source.old.has_failed source.new.has_failed result }
 {
     let mut word = Text::new(alloc);
-    let mut symbols = Vec::new(alloc);
-    let mut reached = CaptureWords::new(legacies);
+    let mut captured = Captured::new(alloc);
+    let mut reached = CaptureWords::new(alloc, legacies);
     for _ in 0..u64::MAX {
         let Ok(count) = source.read(chunk) else {
             return Err(CaptureFault::Read);
         };
         if count == 0 {
-            return match end_text(&mut reached, scl, sda, &mut word, &mut symbols) {
-                Ok(()) => Ok(symbols),
+            return match end_text(&mut reached, scl, sda, &mut word, &mut captured) {
+                Ok(()) => Ok(captured),
                 Err(fault) => Err(fault),
             };
         }
         let bytes = &chunk[..count];
-        match take_bytes(&mut reached, scl, sda, bytes, &mut word, &mut symbols) {
+        match take_bytes(&mut reached, scl, sda, bytes, &mut word, &mut captured) {
             Ok(()) => {}
             Err(fault) => return Err(fault),
         }
@@ -77,14 +78,14 @@ fn take_bytes(
     sda: &[u8],
     bytes: &[u8],
     word: &mut Text,
-    symbols: &mut Vec<Stamped>,
+    captured: &mut Captured,
 ) -> Result<(), CaptureFault>
-    ensures { Reads (bytes_read scl.now sda.now (input reached.old word.old symbols.old.items) bytes.now) reached.new word.new symbols.new.items result }
+    ensures { Reads (bytes_read scl.now sda.now (input reached.old word.old (found_in captured.old)) bytes.now) reached.new word.new (found_in captured.new) result }
 {
     let mut rest = bytes;
     let mut count = letters_in(rest);
     while count < rest.len() {
-        match reached.take_part(scl, sda, &rest[..count], rest[count], word, symbols) {
+        match reached.take_part(scl, sda, &rest[..count], rest[count], word, captured) {
             Ok(()) => {}
             Err(fault) => return Err(fault),
         }
@@ -100,26 +101,26 @@ fn end_text(
     scl: &[u8],
     sda: &[u8],
     word: &mut Text,
-    symbols: &mut Vec<Stamped>,
+    captured: &mut Captured,
 ) -> Result<(), CaptureFault>
     ensures { MatchResult result
-        (λ _. Ended scl.now sda.now (input reached.old word.old symbols.old.items) symbols.new.items)
-        (λ fault. (fault ≡ CaptureFault.Memory) ⊎ (text_ended scl.now sda.now (input reached.old word.old symbols.old.items) ≡ Err fault)) }
+        (λ _. Ended scl.now sda.now (input reached.old word.old (found_in captured.old)) (found_in captured.new))
+        (λ fault. (fault ≡ CaptureFault.Memory) ⊎ (text_ended scl.now sda.now (input reached.old word.old (found_in captured.old)) ≡ Err fault)) }
 {
-    match reached.end_word(scl, sda, word, symbols) {
-        Ok(()) => close(reached, symbols),
+    match reached.end_word(scl, sda, word, captured) {
+        Ok(()) => close(reached, captured),
         Err(fault) => Err(fault),
     }
 }
 
 /// Takes the level that lasts to the end of a text.
-fn close(reached: &mut CaptureWords, symbols: &mut Vec<Stamped>) -> Result<(), CaptureFault>
+fn close(reached: &mut CaptureWords, captured: &mut Captured) -> Result<(), CaptureFault>
     ensures { MatchResult result
-        (λ _. Closed (closed reached.old) symbols.old.items symbols.new.items)
+        (λ _. Closed (closed reached.old) (found_in captured.old) (found_in captured.new))
         (λ fault. (fault ≡ CaptureFault.Memory) ⊎ (closed reached.old ≡ Err fault)) }
 {
     match reached.close() {
-        Ok(symbol) => keep_symbol(symbol, symbols),
+        Ok(event) => captured.keep(event, reached.timescale()),
         Err(fault) => Err(fault),
     }
 }

@@ -1,18 +1,16 @@
 ghost use Rattle.std.specs.Prelude.{◌≡◌};
-ghost use Rattle.i3c_wave.specs.Dumps.{level_said, line_named, nothing};
+ghost use Rattle.i3c_wave.specs.Dumps.{joined, joined_to, nothing, value_of, vector_value};
 
-use crate::capture::Line;
+use crate::capture::Value;
 use crate::capture_fault::CaptureFault;
 use crate::dump_word::{
-    Code, Command, Lead, Magnitude, code_of, command_of, digits_in, has_code, is_word, lead_of,
-    magnitude_of, number_of, scaled, unit_setup,
+    Code, Command, Lead, bit_in, code_of, command_of, digits_in, is_word, lead_of, number_of,
 };
-
-/// The setup time without a timescale, whose unit is then 1 ns.
-const UNSCALED: u64 = 3;
+use crate::signals::LineSource;
+use crate::timescale::{Magnitude, Timescale, Unit, magnitude_of, unit_of};
 
 /// The place of a dump between two words.
-#[derive(Clone, Copy, PartialEq, Eq)]
+#[derive(Clone, Copy)]
 pub(crate) enum DumpPosition {
     /// Between commands.
     Between,
@@ -26,22 +24,38 @@ pub(crate) enum DumpPosition {
     Kind,
     /// Before its width.
     Width,
-    /// Before its code. It has one bit, or others.
-    Code(bool),
-    /// Before its name. It has this code, if it may be a line.
-    Name(Option<Code>),
-    /// Before the code of a vector's signal.
-    Vector,
+    /// Before its code. It has this width.
+    Code(Option<u64>),
+    /// Before its name. It has this code and this width.
+    Name(Option<Code>, Option<u64>),
+    /// Behind its name.
+    Named(Option<Code>, Option<u64>),
+    /// Before the kind of a scope, and before its name.
+    ScopeKind,
+    ScopeName,
+    /// Before the code of a vector's signal. SCL and SDA have these values if they are bits of it.
+    Vector(Value, Value),
 }
 
-/// What a dump has said so far: its place, the codes of the two lines, the setup time in its units, and whether its
-/// declarations have ended.
+/// Where the level of a line is, as far as signals were declared.
+#[derive(Clone, Copy)]
+pub(crate) enum LineSearch {
+    /// No signal has the line's name.
+    Missing,
+    /// One signal has it.
+    Found(LineSource),
+    /// Several have it.
+    Several,
+}
+
+/// What a dump has said so far: its place, the signals of the two lines, its timescale, and whether its declarations have
+/// ended.
 #[derive(Clone, Copy, Drop)]
 pub(crate) struct Dump {
     place: DumpPosition,
-    scl: Option<Code>,
-    sda: Option<Code>,
-    setup: u64,
+    scl: LineSearch,
+    sda: LineSearch,
+    scale: Timescale,
     is_defined: bool,
 }
 
@@ -52,10 +66,27 @@ pub(crate) enum Item {
     Nothing,
     /// The time.
     Time(u64),
-    /// A line is high from now on, or low.
-    Level(Line, bool),
-    /// A line has no level.
-    NoLevel,
+    /// The values of SCL and SDA from now on, of those that are given.
+    Values(Option<Value>, Option<Value>),
+    /// A declaration.
+    Declared(Declaration),
+}
+
+/// What a word declares.
+#[derive(Clone, Copy)]
+pub(crate) enum Declaration {
+    /// A scope begins.
+    Scope,
+    /// The word is its name.
+    ScopeName,
+    /// It ends.
+    ScopeEnd,
+    /// The word is a signal's name, or goes on with it.
+    SignalName,
+    /// A signal of this code and this width, whose name is whole.
+    Signal(Option<Code>, Option<u64>),
+    /// There are no more signals.
+    End,
 }
 
 /// A dump behind a word, and what the word says.
@@ -66,9 +97,10 @@ pub(crate) struct DumpStep {
 }
 
 impl Dump {
-    ghost use Rattle.std.specs.Prelude.{◌≡◌, bytes_eq, codes, if◌then◌else◌};
-    ghost use Rattle.i3c_wave.specs.DumpWords.{code_of, unit_setup};
-    ghost use Rattle.i3c_wave.specs.Dumps.{Says, at_place, begun_word, coded, command_said, defined, ended, is_ended, inside, line_of, missing, named, new_dump, scale_word, scaled_by, scaled_unit, value_said, word_said};
+    ghost use Rattle.std.specs.Prelude.{◌≡◌, bytes_eq, codes, true, if◌then◌else◌};
+    ghost use Rattle.i3c_wave.specs.DumpWords.{code_of};
+    ghost use Rattle.i3c_wave.specs.Timescales.{unit_of};
+    ghost use Rattle.i3c_wave.specs.Dumps.{Says, at_place, begun_word, coded, command_said, declared_in, declaring_from, ended, inside, is_ended, new_dump, scale_word, scaled_by, scaled_unit, value_said, vector_place, word_said};
 
     /// A dump before the first word.
     pub fn new() -> Dump
@@ -76,56 +108,47 @@ impl Dump {
     {
         Dump {
             place: DumpPosition::Between,
-            scl: None,
-            sda: None,
-            setup: UNSCALED,
+            scl: LineSearch::Missing,
+            sda: LineSearch::Missing,
+            scale: Timescale {
+                magnitude: Magnitude::One,
+                unit: Unit::Nanoseconds,
+            },
             is_defined: false,
         }
     }
 
-    /// The setup time in the dump's units.
-    pub fn setup(&self) -> u64
-        ensures { result ≡ self.now.setup }
+    /// Its timescale: without one its unit is 1 ns.
+    pub fn timescale(&self) -> Timescale
+        ensures { result ≡ self.now.scale }
     {
-        self.setup
+        self.scale
     }
 
-    /// Takes the next word, at this line of the text, and gives what it says. The signals of these names are SCL and SDA.
-    pub fn take(
-        &mut self,
-        scl: &[u8],
-        sda: &[u8],
-        at: u64,
-        word: &[u8],
-    ) -> Result<Item, CaptureFault>
-        ensures { Says (word_said scl.now sda.now self.old at word.now) self.new result }
+    /// Takes the next word, at this line of the text, and gives what it says.
+    pub fn take(&mut self, at: u64, word: &[u8]) -> Result<Item, CaptureFault>
+        ensures { Says (word_said self.old at word.now) self.new result }
     {
         match self.place {
             DumpPosition::Between => self.begin(at, word),
-            DumpPosition::Vector => {
+            DumpPosition::Vector(scl, sda) => {
                 self.place = DumpPosition::Between;
-                Ok(self.value(None, word))
+                Ok(self.value(scl, sda, word))
             }
-            _ => self.take_inside(scl, sda, at, word),
+            _ => self.take_inside(at, word),
         }
     }
 
     /// Takes a word of a command, or its end.
     #[inline(never)]
-    fn take_inside(
-        &mut self,
-        scl: &[u8],
-        sda: &[u8],
-        at: u64,
-        word: &[u8],
-    ) -> Result<Item, CaptureFault>
-        ensures { Says (if bytes_eq word.now (codes "$end") then ended self.old at else inside scl.now sda.now self.old at word.now) self.new result }
+    fn take_inside(&mut self, at: u64, word: &[u8]) -> Result<Item, CaptureFault>
+        ensures { Says (if bytes_eq word.now (codes "$end") then ended self.old at else inside self.old at word.now) self.new result }
     {
         if is_word(word, b"$end") {
             let said = self.end(at);
             self.keep(said)
         } else {
-            let said = self.inside(scl, sda, at, word);
+            let said = self.inside(at, word);
             self.keep(said)
         }
     }
@@ -143,35 +166,35 @@ impl Dump {
         }
     }
 
-    /// Ends the text: no command is open, both lines were declared, and the declarations have ended.
+    /// Where SCL is, and SDA.
+    pub fn lines(&self) -> (LineSearch, LineSearch)
+        ensures { result ≡ (self.now.scl, self.now.sda) }
+    {
+        (self.scl, self.sda)
+    }
+
+    /// A signal was declared that may be the source of a line.
+    pub fn declare(&mut self, scl: Option<LineSource>, sda: Option<LineSource>)
+        ensures { self.new ≡ declared_in self.old scl sda }
+    {
+        self.scl = joined(self.scl, scl);
+        self.sda = joined(self.sda, sda);
+    }
+
+    /// The declarations have ended.
+    pub fn define(&mut self)
+        ensures { self.new ≡ record self.old { is_defined = true } }
+    {
+        self.is_defined = true;
+    }
+
+    /// Ends the text: no command is open, and the declarations have ended.
     pub fn end_text(&self, at: u64) -> Result<(), CaptureFault>
         ensures { result ≡ is_ended self.now at }
     {
         match self.place {
-            DumpPosition::Between => self.defined(at),
+            DumpPosition::Between if self.is_defined => Ok(()),
             _ => Err(CaptureFault::BadWord(at)),
-        }
-    }
-
-    /// Fails if a line wasn't declared, or the declarations haven't ended.
-    fn defined(&self, at: u64) -> Result<(), CaptureFault>
-        ensures { result ≡ defined self.now.is_defined (missing self.now.scl self.now.sda) at }
-    {
-        match self.missing() {
-            Ok(()) if self.is_defined => Ok(()),
-            Ok(()) => Err(CaptureFault::BadWord(at)),
-            Err(fault) => Err(fault),
-        }
-    }
-
-    /// Fails if a line wasn't declared.
-    fn missing(&self) -> Result<(), CaptureFault>
-        ensures { result ≡ missing self.now.scl self.now.sda }
-    {
-        match (self.scl, self.sda) {
-            (None, _) => Err(CaptureFault::NoScl),
-            (Some(_), None) => Err(CaptureFault::NoSda),
-            (Some(_), Some(_)) => Ok(()),
         }
     }
 
@@ -188,15 +211,29 @@ impl Dump {
                 Some(time) => Ok(Item::Time(time)),
                 None => Err(CaptureFault::BadTime(at)),
             },
-            Lead::Low => self.coded(Some(false), at, rest),
-            Lead::High => self.coded(Some(true), at, rest),
-            Lead::NoLevel => self.coded(None, at, rest),
+            Lead::Low => self.coded(Value::Low, at, rest),
+            Lead::High => self.coded(Value::High, at, rest),
+            Lead::NoLevel => self.coded(Value::Unknown, at, rest),
             Lead::Vector => {
-                self.place = DumpPosition::Vector;
+                self.place = self.vector_place(rest);
+                Ok(Item::Nothing)
+            }
+            Lead::Number => {
+                self.place = DumpPosition::Vector(Value::Unknown, Value::Unknown);
                 Ok(Item::Nothing)
             }
             Lead::Other => Err(CaptureFault::BadWord(at)),
         }
+    }
+
+    /// The place behind a vector of these digits.
+    fn vector_place(&self, digits: &[u8]) -> DumpPosition
+        ensures { result ≡ vector_place self.now digits.now }
+    {
+        DumpPosition::Vector(
+            vector_value(self.scl, digits),
+            vector_value(self.sda, digits),
+        )
     }
 
     /// Goes to the place behind a command's first word.
@@ -217,47 +254,41 @@ impl Dump {
             Command::Timescale => Ok(nothing(self.at_place(DumpPosition::Scale(None)))),
             Command::Var => Ok(nothing(self.at_place(DumpPosition::Kind))),
             Command::Other => Ok(nothing(self.at_place(DumpPosition::Passed))),
-            Command::EndDefinitions => match self.missing() {
-                Ok(()) => Ok(nothing(Dump {
-                    place: DumpPosition::Passed,
-                    is_defined: true,
-                    ..self
-                })),
-                Err(fault) => Err(fault),
-            },
+            Command::Scope => Ok(saying(
+                self.at_place(DumpPosition::ScopeKind),
+                Item::Declared(Declaration::Scope),
+            )),
+            Command::UpScope => Ok(saying(
+                self.at_place(DumpPosition::Passed),
+                Item::Declared(Declaration::ScopeEnd),
+            )),
+            Command::EndDefinitions => Ok(saying(
+                self.at_place(DumpPosition::Passed),
+                Item::Declared(Declaration::End),
+            )),
         }
     }
 
     /// What the value of a signal says, if it has a code.
-    fn coded(&self, level: Option<bool>, at: u64, code: &[u8]) -> Result<Item, CaptureFault>
-        ensures { Says (coded self.now level at code.now) self.now result }
+    fn coded(&self, value: Value, at: u64, code: &[u8]) -> Result<Item, CaptureFault>
+        ensures { Says (coded self.now value at code.now) self.now result }
     {
         if code.is_empty() {
             return Err(CaptureFault::BadWord(at));
         }
-        Ok(self.value(level, code))
+        Ok(self.value(value, value, code))
     }
 
-    /// What the value of a signal says.
-    fn value(&self, level: Option<bool>, code: &[u8]) -> Item
-        ensures { value_said self.now level (code_of code.now) ≡ record { dump = self.now; item = result } }
+    /// What the value of a signal says: SCL and SDA have these values if they are in it.
+    fn value(&self, scl: Value, sda: Value, code: &[u8]) -> Item
+        ensures { value_said self.now scl sda (code_of code.now) ≡ record { dump = self.now; item = result } }
     {
         match code_of(code) {
-            Some(code) => level_said(self.line_of(code), level),
+            Some(code) => Item::Values(
+                value_of(self.scl, code, scl),
+                value_of(self.sda, code, sda),
+            ),
             None => Item::Nothing,
-        }
-    }
-
-    /// The line that has a code.
-    fn line_of(&self, code: Code) -> Option<Line>
-        ensures { result ≡ line_of self.now code }
-    {
-        if has_code(self.scl, code) {
-            Some(Line::Scl)
-        } else if has_code(self.sda, code) {
-            Some(Line::Sda)
-        } else {
-            None
         }
     }
 
@@ -269,48 +300,57 @@ impl Dump {
             DumpPosition::Passed | DumpPosition::Scaled => Ok(nothing(self.at_place(
                 DumpPosition::Between,
             ))),
+            DumpPosition::ScopeKind | DumpPosition::ScopeName => Ok(nothing(self.at_place(
+                DumpPosition::Between,
+            ))),
+            DumpPosition::Named(code, width) => Ok(saying(
+                self.at_place(DumpPosition::Between),
+                Item::Declared(Declaration::Signal(code, width)),
+            )),
             DumpPosition::Scale(_) => Err(CaptureFault::BadTimescale(at)),
             _ => Err(CaptureFault::BadWord(at)),
         }
     }
 
     /// Takes a word inside a command.
-    fn inside(self, scl: &[u8], sda: &[u8], at: u64, word: &[u8]) -> Result<DumpStep, CaptureFault>
-        ensures { result ≡ inside scl.now sda.now self at word.now }
+    fn inside(self, at: u64, word: &[u8]) -> Result<DumpStep, CaptureFault>
+        ensures { result ≡ inside self at word.now }
     {
         match self.place {
-            DumpPosition::Between | DumpPosition::Vector | DumpPosition::Passed => Ok(nothing(
-                self,
-            )),
             DumpPosition::Scale(magnitude) => self.scale(magnitude, at, word),
             DumpPosition::Scaled => Err(CaptureFault::BadTimescale(at)),
-            DumpPosition::Kind => Ok(nothing(self.at_place(DumpPosition::Width))),
-            DumpPosition::Width => Ok(nothing(self.at_place(DumpPosition::Code(is_word(
-                word, b"1",
-            ))))),
-            DumpPosition::Code(true) => Ok(nothing(self.at_place(DumpPosition::Name(code_of(
-                word,
-            ))))),
-            DumpPosition::Code(false) => Ok(nothing(self.at_place(DumpPosition::Name(None)))),
-            DumpPosition::Name(code) => Ok(nothing(self.named(line_named(scl, sda, word), code))),
+            DumpPosition::Between | DumpPosition::Passed | DumpPosition::Vector(..) => {
+                Ok(nothing(self))
+            }
+            DumpPosition::Kind | DumpPosition::Width | DumpPosition::Code(_) => {
+                Ok(self.declaring(word))
+            }
+            DumpPosition::Name(..) | DumpPosition::Named(..) => Ok(self.declaring(word)),
+            DumpPosition::ScopeKind | DumpPosition::ScopeName => Ok(self.declaring(word)),
         }
     }
 
-    /// The dump behind the name of a signal with this code, which is that of a line or not. The first of a name counts.
-    fn named(self, line: Option<Line>, code: Option<Code>) -> Dump
-        ensures { result ≡ named self line code }
+    /// Takes a word of a declaration.
+    fn declaring(self, word: &[u8]) -> DumpStep
+        ensures { result ≡ declaring_from self.place self word.now }
     {
-        let passed = self.at_place(DumpPosition::Passed);
-        match (line, self.scl, self.sda) {
-            (Some(Line::Scl), None, _) => Dump {
-                scl: code,
-                ..passed
-            },
-            (Some(Line::Sda), _, None) => Dump {
-                sda: code,
-                ..passed
-            },
-            _ => passed,
+        match self.place {
+            DumpPosition::Kind => nothing(self.at_place(DumpPosition::Width)),
+            DumpPosition::Width => nothing(self.at_place(DumpPosition::Code(number_of(word)))),
+            DumpPosition::Code(width) => nothing(self.at_place(DumpPosition::Name(
+                code_of(word),
+                width,
+            ))),
+            DumpPosition::Name(code, width) | DumpPosition::Named(code, width) => saying(
+                self.at_place(DumpPosition::Named(code, width)),
+                Item::Declared(Declaration::SignalName),
+            ),
+            DumpPosition::ScopeKind => nothing(self.at_place(DumpPosition::ScopeName)),
+            DumpPosition::ScopeName => saying(
+                self.at_place(DumpPosition::Passed),
+                Item::Declared(Declaration::ScopeName),
+            ),
+            _ => nothing(self),
         }
     }
 
@@ -356,12 +396,12 @@ impl Dump {
         at: u64,
         unit: &[u8],
     ) -> Result<DumpStep, CaptureFault>
-        ensures { result ≡ scaled_unit self magnitude at (unit_setup unit.now) }
+        ensures { result ≡ scaled_unit self magnitude at (unit_of unit.now) }
     {
-        match unit_setup(unit) {
-            Some(setup) => Ok(nothing(Dump {
+        match unit_of(unit) {
+            Some(unit) => Ok(nothing(Dump {
                 place: DumpPosition::Scaled,
-                setup: scaled(setup, magnitude),
+                scale: Timescale { magnitude, unit },
                 ..self
             })),
             None => Err(CaptureFault::BadTimescale(at)),
@@ -390,26 +430,45 @@ fn nothing(dump: Dump) -> DumpStep
     saying(dump, Item::Nothing)
 }
 
-/// What the level of a signal says, if the signal is a line.
-fn level_said(line: Option<Line>, level: Option<bool>) -> Item
-    ensures { result ≡ level_said line level }
+/// The value of a line, if it has the code for which the value is given.
+fn value_of(line: LineSearch, code: Code, value: Value) -> Option<Value>
+    ensures { result ≡ value_of line code value }
 {
-    match (line, level) {
-        (None, _) => Item::Nothing,
-        (Some(_), None) => Item::NoLevel,
-        (Some(line), Some(high)) => Item::Level(line, high),
+    match line {
+        LineSearch::Found(source) if source.code.is(code) => Some(value),
+        _ => None,
     }
 }
 
-/// The line of a name, if there is one.
-fn line_named(scl: &[u8], sda: &[u8], name: &[u8]) -> Option<Line>
-    ensures { result ≡ line_named scl.now sda.now name.now }
+/// The value of a line in a vector, if it is a bit of it.
+fn vector_value(line: LineSearch, digits: &[u8]) -> Value
+    ensures { result ≡ vector_value line digits.now }
 {
-    if is_word(name, scl) {
-        Some(Line::Scl)
-    } else if is_word(name, sda) {
-        Some(Line::Sda)
+    match line {
+        LineSearch::Found(source) => bit_in(digits, source.bit),
+        _ => Value::Unknown,
+    }
+}
+
+/// A line, behind the declaration of a signal that may be its source.
+fn joined(line: LineSearch, source: Option<LineSource>) -> LineSearch
+    ensures { result ≡ joined line source }
+{
+    match (line, source) {
+        (line, None) => line,
+        (LineSearch::Missing, Some(source)) => LineSearch::Found(source),
+        (LineSearch::Found(first), Some(source)) => joined_to(first, source),
+        (LineSearch::Several, Some(_)) => LineSearch::Several,
+    }
+}
+
+/// A line that was found, behind the declaration of another source: one signal may have several names.
+fn joined_to(first: LineSource, source: LineSource) -> LineSearch
+    ensures { result ≡ joined_to first source }
+{
+    if first.code.is(source.code) && first.bit == source.bit {
+        LineSearch::Found(first)
     } else {
-        None
+        LineSearch::Several
     }
 }

@@ -1,14 +1,7 @@
 ghost use Rattle.std.specs.Prelude.{◌≡◌, ◌≤◌, [], bytes_eq, length, nat_lt, position};
-ghost use Rattle.i3c_wave.specs.DumpWords.{code_of, command_of, digit_more, digits_in, from_coded, is_same_code_as, lead_of, magnitude_of, number_from, number_of, scaled, unit_setup, values_of};
+ghost use Rattle.i3c_wave.specs.DumpWords.{bit_in, code_of, command_of, declaring_of, digit_more, digit_value, digits_in, extended, from_coded, lead_of, number_from, number_of, values_of};
 
-/// The setup time of push-pull data, 3 ns (I3C Basic 6.2), in units of 1 fs, 1 ps and 1 ns, and one unit of a longer one.
-const FEMTOSECONDS: u64 = 3_000_000;
-
-const PICOSECONDS: u64 = 3_000;
-
-const NANOSECONDS: u64 = 3;
-
-const LONGER: u64 = 1;
+use crate::capture::Value;
 
 /// Ten times this and nine is a time.
 const MOST_LED: u64 = 1_000_000_000_000_000_000;
@@ -42,6 +35,10 @@ pub(crate) enum Command {
     Timescale,
     /// `$var`: a signal.
     Var,
+    /// `$scope`: a scope, with the signals behind it.
+    Scope,
+    /// `$upscope`: it ends.
+    UpScope,
     /// `$enddefinitions`: there are no more signals.
     EndDefinitions,
     /// `$dumpvars`, `$dumpall`, `$dumpon` or `$dumpoff`: values follow.
@@ -60,6 +57,19 @@ pub(crate) fn command_of(word: &[u8]) -> Command
         Command::Timescale
     } else if is_word(word, b"$var") {
         Command::Var
+    } else {
+        declaring_of(word)
+    }
+}
+
+/// The command of a word that is none of those before, but may declare.
+fn declaring_of(word: &[u8]) -> Command
+    ensures { result ≡ declaring_of word.now }
+{
+    if is_word(word, b"$scope") {
+        Command::Scope
+    } else if is_word(word, b"$upscope") {
+        Command::UpScope
     } else if is_word(word, b"$enddefinitions") {
         Command::EndDefinitions
     } else {
@@ -127,16 +137,6 @@ impl Code {
     }
 }
 
-/// Whether a signal that was declared has this code.
-pub(crate) fn has_code(declared: Option<Code>, code: Code) -> bool
-    ensures { result ≡ is_same_code_as declared code }
-{
-    match declared {
-        Some(declared) => declared.is(code),
-        None => false,
-    }
-}
-
 /// The number of decimal digits, if they are digits, and it fits. Nineteen digits fit.
 pub(crate) fn number_of(digits: &[u8]) -> Option<u64>
     ensures { result ≡ number_of digits.now }
@@ -193,29 +193,6 @@ fn digit_more(number: u64, digit: u8) -> Option<u64>
     Some(number * 10 + u64::from(digit - b'0'))
 }
 
-/// The number of a timescale's units.
-#[derive(Clone, Copy, PartialEq, Eq)]
-pub(crate) enum Magnitude {
-    One,
-    Ten,
-    Hundred,
-}
-
-/// The magnitude of some digits.
-pub(crate) fn magnitude_of(digits: &[u8]) -> Option<Magnitude>
-    ensures { result ≡ magnitude_of digits.now }
-{
-    if is_word(digits, b"1") {
-        Some(Magnitude::One)
-    } else if is_word(digits, b"10") {
-        Some(Magnitude::Ten)
-    } else if is_word(digits, b"100") {
-        Some(Magnitude::Hundred)
-    } else {
-        None
-    }
-}
-
 /// The number of bytes of a word before its first letter.
 pub(crate) fn digits_in(word: &[u8]) -> usize
     ensures { result ≡ digits_in word.now }
@@ -230,34 +207,6 @@ fn first_letter(word: &[u8]) -> Option<usize>
     word.iter().position(|byte| *byte > b'9')
 }
 
-/// The setup time of push-pull data in a unit of time, rounded up.
-pub(crate) fn unit_setup(unit: &[u8]) -> Option<u64>
-    ensures { result ≡ unit_setup unit.now }
-{
-    if is_word(unit, b"fs") {
-        Some(FEMTOSECONDS)
-    } else if is_word(unit, b"ps") {
-        Some(PICOSECONDS)
-    } else if is_word(unit, b"ns") {
-        Some(NANOSECONDS)
-    } else if is_word(unit, b"us") || is_word(unit, b"ms") || is_word(unit, b"s") {
-        Some(LONGER)
-    } else {
-        None
-    }
-}
-
-/// The setup time of a timescale, in its units: one at least.
-pub(crate) fn scaled(setup: u64, magnitude: Magnitude) -> u64
-    ensures { result ≡ scaled setup magnitude }
-{
-    match magnitude {
-        Magnitude::One => setup,
-        Magnitude::Ten => (setup / 10).max(1),
-        Magnitude::Hundred => (setup / 100).max(1),
-    }
-}
-
 /// What a word between commands begins with.
 #[derive(Clone, Copy)]
 pub(crate) enum Lead {
@@ -270,8 +219,10 @@ pub(crate) enum Lead {
     High,
     /// `x` or `z`: a signal has no level.
     NoLevel,
-    /// `b`, `r` or `s`: a vector, a number or a text, behind which the code of its signal follows.
+    /// `b`: a vector, behind which the code of its signal follows.
     Vector,
+    /// `r` or `s`: a number or a text, behind which the same follows.
+    Number,
     /// Any other word.
     Other,
 }
@@ -286,7 +237,47 @@ pub(crate) fn lead_of(first: u8) -> Lead
         b'0' => Lead::Low,
         b'1' => Lead::High,
         b'x' | b'X' | b'z' | b'Z' => Lead::NoLevel,
-        b'b' | b'B' | b'r' | b'R' | b's' | b'S' => Lead::Vector,
+        b'b' | b'B' => Lead::Vector,
+        b'r' | b'R' | b's' | b'S' => Lead::Number,
         _ => Lead::Other,
+    }
+}
+
+/// The value of a vector's bit, counted from the last. A bit that isn't written is that of the first digit, if this has no
+/// level, and otherwise low.
+pub(crate) fn bit_in(digits: &[u8], bit: u64) -> Value
+    ensures { result ≡ bit_in digits.now bit }
+{
+    let [first, ..] = digits else {
+        return Value::Unknown;
+    };
+    let last = digits.len() as u64 - 1;
+    if bit > last {
+        return extended(value_of(*first));
+    }
+    match digits.get((last - bit) as usize) {
+        Some(digit) => value_of(*digit),
+        None => Value::Unknown,
+    }
+}
+
+/// The value of a digit.
+fn value_of(digit: u8) -> Value
+    ensures { result ≡ digit_value digit }
+{
+    match digit {
+        b'0' => Value::Low,
+        b'1' => Value::High,
+        _ => Value::Unknown,
+    }
+}
+
+/// The value of the digits that may be left out before one.
+fn extended(value: Value) -> Value
+    ensures { result ≡ extended value }
+{
+    match value {
+        Value::Unknown => Value::Unknown,
+        Value::Low | Value::High => Value::Low,
     }
 }

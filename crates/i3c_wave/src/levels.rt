@@ -4,6 +4,15 @@ ghost use Rattle.i3c_wave.specs.Levels.{bits, bits_of, clocked, levels_of};
 
 use i3c_frame::Symbol;
 
+/// One of the two lines of a bus.
+#[derive(Clone, Copy)]
+pub enum Line {
+    /// The clock, SCL.
+    Scl,
+    /// The data, SDA.
+    Sda,
+}
+
 /// What the two lines are at between two changes: `true` is high (I3C Basic 5.1.2).
 #[derive(Clone, Copy)]
 pub struct Level {

@@ -4,9 +4,11 @@
 //! of one symbol after another. `script_wave` has the lines of a script and what they print. `run` writes the dump of a
 //! trace as a stream. `source` is a reader that knows whether it failed. `edges` is a watcher of
 //! the two lines. `laws` says that SDA has a symbol's bits where SCL rises, and what is heard of a trace's levels;
-//! `clock_laws` says the same of whole frames, bit by bit. `dump_word` and `dump` say what the words of a dump say of two
-//! signals, `capture` reads symbols of the signals' levels, each with its time (`stamped`), and `capture_text` and
-//! `capture_run` those of a whole text.
+//! `clock_laws` says the same of whole frames, bit by bit.
+//!
+//! `dump_word` and `dump` say what the words of a dump say of SCL and SDA, which `signals` finds by their names. `capture`
+//! reads symbols of the levels, each with its time (`stamped`). `captured` keeps them frame by frame, with those that can't be
+//! read. `capture_text` and `capture_run` read a whole text. `timescale` is what its times are counted in.
 #![tactic(auto)]
 
 mod awaited;
@@ -14,6 +16,7 @@ mod capture;
 mod capture_fault;
 mod capture_run;
 mod capture_text;
+mod captured;
 mod clock_laws;
 mod dump;
 mod dump_word;
@@ -23,25 +26,28 @@ mod levels;
 mod reader;
 mod run;
 mod script_wave;
+mod signals;
 mod source;
 mod stamped;
+mod timescale;
 mod timing;
 mod wave;
 
 pub use awaited::Awaited;
-pub use capture::Line;
 pub use capture_fault::CaptureFault;
 pub use capture_run::read_capture;
+pub use captured::{Captured, FrameMark, Loss, Unread, without_times};
 pub use clock_laws::{
     bits_have_their_numbers, frames_have_the_bits_in_order, rising_edges_are_in_order,
 };
 pub use edges::{Edges, Mark};
 pub use laws::{edges_give_the_marks, rising_edges_have_the_bits, symbols_are_read_back};
-pub use levels::{Level, Levels};
+pub use levels::{Level, Levels, Line};
 pub use reader::{Reader, Reading};
 pub use run::run_wave;
 pub use script_wave::{push_script_line, push_script_preamble, push_served};
+pub use signals::SignalNames;
 pub use source::Source;
-pub use stamped::{Stamped, frame_times, symbols_of};
+pub use timescale::{Instant, Magnitude, Timescale, Unit};
 pub use timing::Timing;
 pub use wave::Wave;

@@ -34,7 +34,7 @@ pub struct Reader {
 
 impl Reader {
     ghost use Rattle.std.specs.Prelude.{◌≡◌, None};
-    ghost use Rattle.i3c_wave.specs.Reading.{awaiting, bit_turn, entered, framed, misread, turn};
+    ghost use Rattle.i3c_wave.specs.Reading.{awaiting, bit_turn, entered, framed, is_in_frame, misread, turn};
 
     /// Outside a frame. Legacy targets have these addresses.
     pub fn new(legacies: Addresses) -> Reader
@@ -58,6 +58,23 @@ impl Reader {
             Mark::Stop => self.frame(Symbol::Stop),
             Mark::Bit(bit) => self.take_bit(bit),
         }
+    }
+
+    /// Whether a frame is open.
+    pub(crate) fn is_open(&self) -> bool
+        ensures { result ≡ is_in_frame self.now.place }
+    {
+        match self.place {
+            Some(_) => true,
+            None => false,
+        }
+    }
+
+    /// Waits for the next START.
+    pub(crate) fn wait(&mut self)
+        ensures { self.new ≡ awaiting self.old.legacies None }
+    {
+        self.await_place(None);
     }
 
     /// Takes a START or a STOP, which comes between symbols.
@@ -108,7 +125,7 @@ impl Reader {
         ensures reading { result ≡ (misread self.old).reading }
         ensures reader { self.new ≡ (misread self.old).reader }
     {
-        self.await_place(None);
+        self.wait();
         Reading::Misread
     }
 

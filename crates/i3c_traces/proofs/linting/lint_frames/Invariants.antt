@@ -9,8 +9,8 @@ use Rattle.i3c_traces.proofs.linting.lint_frames.Given as goal
 abbrev pub invariant-loop-text : goal.invariant-loop-text
 invariant-loop-text g l =
     (first : List ℕ) × Appends (g.W.Write.contents l.initial.out) (g.W.Write.contents l.out) first
-    × (frames_text l.fn.legacies.0 l.frames l.times ≡ first ++ (l.text ++ (lint_text l.frames.symbols.items l.times (to_come l.linter) ++ break_text l.frames.broken)))
-    × (min (frames_faults l.fn.legacies.0 l.frames) 18446744073709551615 ≡ min (l.refused + (all_faults (to_come l.linter) + breaks l.frames.broken)) 18446744073709551615)
+    × (frames_text l.fn.legacies.0 l.frames l.marks ≡ first ++ (l.text ++ (lint_text l.frames.symbols.items l.marks (to_come l.linter) ++ break_text l.frames.broken)))
+    × (min (frames_faults l.fn.legacies.0 l.frames l.marks) 18446744073709551615 ≡ min (l.refused + (all_faults l.marks (to_come l.linter) + breaks l.frames.broken)) 18446744073709551615)
     × (l.refused ≤ 18446744073709551615)
 
 abbrev pub decreases-loop-text : goal.decreases-loop-text

@@ -14,7 +14,7 @@ returns-in-Ok-clause-lines g c =
     let sound = c.in-Ok.ensures.sound in
     trace_out c.args.codes old new c.print_trace.result c.args.text.now c.in-Ok.symbols.items sound.0 c.in-Ok.ensures.range sound.1
     (subst (λ trace. MatchResult c.print_trace.result
-    (λ tally. (tally.refused ≡ min (refused_in (trace_told c.args.codes trace)) 18446744073709551615) × Appends old new (trace_text c.args.codes trace []))
+    (λ tally. (tally.refused ≡ min (refused_in [] (trace_told c.args.codes trace)) 18446744073709551615) × Appends old new (trace_text c.args.codes trace []))
     (λ fault. IsLineFault fault × AppendsSome old new (trace_text c.args.codes trace []))) c.deref.ensures.value c.print_trace.ensures.told)
 
 pub returns-in-Err-clause-lines : goal.returns-in-Err-clause-lines

@@ -8,8 +8,8 @@ use Rattle.i3c_traces.proofs.trace.print_trace.Given as goal
 abbrev pub invariant-loop-text : goal.invariant-loop-text
 invariant-loop-text g l =
     (first : List ℕ) × Appends (g.W.Write.contents l.initial.out) (g.W.Write.contents l.out) first
-    × (trace_text l.fn.codes l.trace l.times ≡ first ++ (l.text ++ lines_text l.trace l.times (to_come l.monitor)))
-    × (min (refused_in (trace_told l.fn.codes l.trace)) 18446744073709551615 ≡ min (l.refused + refused_in (to_come l.monitor)) 18446744073709551615)
+    × (trace_text l.fn.codes l.trace l.marks ≡ first ++ (l.text ++ lines_text l.trace l.marks (to_come l.monitor)))
+    × (min (refused_in l.marks (trace_told l.fn.codes l.trace)) 18446744073709551615 ≡ min (l.refused + refused_in l.marks (to_come l.monitor)) 18446744073709551615)
     × (l.refused ≤ 18446744073709551615)
 
 abbrev pub decreases-loop-text : goal.decreases-loop-text

@@ -1,7 +1,7 @@
 use Rattle.std.proofs.Common.{◌∙◌, ◌++◌, ap, refl}
 use Rattle.std.specs.Prelude.{codes}
 use Rattle.i3c_frame.specs.Texts.{text_of}
-use Rattle.i3c_wave.specs.declared.capture.Line.{Line}
+use Rattle.i3c_wave.specs.declared.levels.Line.{Line}
 use Rattle.i3c_draw.specs.Driving.{answer_by, bits_by}
 use Rattle.i3c_draw.specs.Rows.{boxes_text}
 use Rattle.i3c_draw.specs.Traces.{symbol_width, trace_text}

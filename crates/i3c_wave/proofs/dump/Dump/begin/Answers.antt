@@ -1,6 +1,6 @@
-use Rattle.std.proofs.Common.{◌∙◌, ap, subst, sym}
+use Rattle.std.proofs.Common.{◌∙◌, Ok, ap, subst, sym}
 use Rattle.i3c_wave.specs.declared.dump_word.Lead.{Lead}
-use Rattle.i3c_wave.specs.Dumps.{Says, command_said, time_said}
+use Rattle.i3c_wave.specs.Dumps.{Says, at_place, command_said, nothing, time_said}
 use Rattle.i3c_wave.proofs.WordLaws.{led_by, no_word}
 use Rattle.i3c_wave.proofs.dump.Dump.begin.Goals as goal
 
@@ -38,7 +38,12 @@ returns-in-NoLevel c =
     subst (λ said. Says said c.args.self.now c.coded-in-NoLevel.result) (sym said) c.coded-in-NoLevel.ensures
 
 pub returns-in-Vector : goal.returns-in-Vector
-returns-in-Vector c = led_by c.args.self.now c.args.at c.args.word.now Lead.Vector c.in-len1-up.len_at_least (sym c.in-Vector.is ∙ c.lead_of.ensures)
+returns-in-Vector c =
+    led_by c.args.self.now c.args.at c.args.word.now Lead.Vector c.in-len1-up.len_at_least (sym c.in-Vector.is ∙ c.lead_of.ensures)
+    ∙ ap (λ place. Ok (nothing (at_place c.args.self.now place))) (sym c.vector_place-self.ensures)
+
+pub returns-in-Number : goal.returns-in-Number
+returns-in-Number c = led_by c.args.self.now c.args.at c.args.word.now Lead.Number c.in-len1-up.len_at_least (sym c.in-Number.is ∙ c.lead_of.ensures)
 
 pub returns-in-Other : goal.returns-in-Other
 returns-in-Other c = led_by c.args.self.now c.args.at c.args.word.now Lead.Other c.in-len1-up.len_at_least (sym c.in-Other.is ∙ c.lead_of.ensures)
