@@ -3,10 +3,6 @@ use Rattle.std.proofs.Common.{◌≡◌, ◌++◌, ◌∷◌, [], List, inl, inr
 use Rattle.i3c_orders.specs.declared.choice.Choice.{Choice}
 use Rattle.i3c_orders.specs.Paths.{IsOver, Retreats}
 
--- a path whose last choices have nothing left is over behind those
-pub over_behind : {L S A : Type 0} (choice : Choice L S A) (path : List (Choice L S A)) → choice.left.items ≡ [] → IsOver path → IsOver (choice ∷ path)
-over_behind choice path none over = (none, over)
-
 -- behind choices that stay, another answer is taken
 pub retreats : {L S A : Type 0} (before : List (Choice L S A)) (choice : Choice L S A) (over : List (Choice L S A)) (other : Choice L S A) → IsOver over → other.line ≡ choice.line → choice.left.items ≡ other.left.items ++ other.taken ∷ []
     → Retreats (before ++ choice ∷ over) (before ++ other ∷ [])
