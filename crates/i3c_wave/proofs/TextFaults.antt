@@ -1,6 +1,6 @@
 -- A text gives no fault of reading.
 use Rattle.std.specs.Prelude.{⊤}
-use Rattle.std.proofs.Common.{◌≡◌, ◌⊎◌, ◌∙◌, ℕ, ◌-◌, ◌==◌, Bool, true, false, List, [], ◌∷◌, codes, drop, length, nat_lt, take, Option, Some, None, Ok, Err, Result, inl, inr, refl, subst, sym}
+use Rattle.std.proofs.Common.{◌≡◌, ◌⊎◌, ◌∙◌, ℕ, ◌==◌, Bool, true, false, List, [], ◌∷◌, codes, drop, length, nat_lt, take, Option, Some, None, Ok, Err, Result, inl, inr, refl, subst, sym}
 use Rattle.std.specs.Prelude.{bytes_eq, if◌then◌else◌}
 use Rattle.i3c_wave.specs.declared.capture.Capture.{Capture}
 use Rattle.i3c_wave.specs.declared.capture.Value.{Value}

@@ -1,5 +1,5 @@
 -- The text of a capture: its words, the frames that are found in them, and its first fault.
-use Rattle.std.specs.Prelude.{◌≡◌, ◌⊎◌, ℕ, ◌+◌, ◌==◌, min, nat_lt, Bool, true, not, ◌&&◌, List, [], ◌∷◌, ◌++◌, length, position, unwrap_or, option_to_list, ⊤, Option, Some, None, Result, Ok, Err, MatchResult, if◌then◌else◌}
+use Rattle.std.specs.Prelude.{◌≡◌, ◌⊎◌, ℕ, ◌+◌, ◌==◌, min, nat_lt, Bool, true, not, ◌&&◌, List, [], ◌∷◌, ◌++◌, length, position, unwrap_or, ⊤, Option, Some, None, Result, Ok, Err, MatchResult, if◌then◌else◌}
 use Rattle.i3c_base.specs.declared.addresses.Addresses.{Addresses}
 use Rattle.i3c_wave.specs.declared.capture.Capture.{Capture}
 use Rattle.i3c_wave.specs.declared.capture.CaptureEvent.{CaptureEvent}

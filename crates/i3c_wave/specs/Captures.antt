@@ -1,6 +1,6 @@
 -- The result of reading a capture: the values of the lines that last, the symbols that are read of them, and the frames that
 -- can't be read.
-use Rattle.std.specs.Prelude.{◌≡◌, ℕ, ◌-◌, nat_lt, Bool, true, false, List, [], ◌∷◌, ◌++◌, length, take, ⊤, Option, Some, None, Result, MatchResult, if◌then◌else◌}
+use Rattle.std.specs.Prelude.{◌≡◌, ℕ, ◌-◌, nat_lt, Bool, true, false, Option, Some, None, if◌then◌else◌}
 use Rattle.i3c_base.specs.declared.addresses.Addresses.{Addresses}
 use Rattle.i3c_frame.specs.declared.symbols.Symbol.{Symbol}
 use Rattle.i3c_wave.specs.declared.capture.Capture.{Capture}
@@ -11,7 +11,6 @@ use Rattle.i3c_wave.specs.declared.edges.Edges.{Edges}
 use Rattle.i3c_wave.specs.declared.edges.Mark.{Mark}
 use Rattle.i3c_wave.specs.declared.levels.Level.{Level}
 use Rattle.i3c_wave.specs.declared.reader.Reading.{Reading}
-use Rattle.i3c_wave.specs.declared.stamped.Stamped.{Stamped}
 use Rattle.i3c_wave.specs.Edges.{edges_after, mark_at}
 use Rattle.i3c_wave.specs.Reading.{awaiting, is_in_frame, turn}
 

@@ -1,5 +1,5 @@
 -- The words of a value change dump (IEEE 1364).
-use Rattle.std.specs.Prelude.{ℕ, ◌+◌, ◌*◌, ◌-◌, ◌==◌, nat_lt, Bool, false, ◌||◌, ◌&&◌, List, [], ◌∷◌, length, position, codes, bytes_eq, Option, Some, None, slice_get, unwrap_or, if◌then◌else◌}
+use Rattle.std.specs.Prelude.{ℕ, ◌+◌, ◌*◌, ◌-◌, ◌==◌, nat_lt, Bool, ◌||◌, ◌&&◌, List, [], ◌∷◌, length, position, codes, bytes_eq, Option, Some, None, slice_get, unwrap_or, if◌then◌else◌}
 use Rattle.std.specs.Option.{option_and_then}
 use Rattle.i3c_wave.specs.declared.capture.Value.{Value}
 use Rattle.i3c_wave.specs.declared.dump_word.Code.{Code}

@@ -1,5 +1,5 @@
 -- The frames that are found in a capture: those that are read, and in place of each other one a START and a STOP alone.
-use Rattle.std.specs.Prelude.{◌≡◌, ◌⊎◌, ℕ, List, [], ◌∷◌, ◌++◌, length, take, ⊤, Option, Some, None, Result, MatchResult, codes}
+use Rattle.std.specs.Prelude.{◌≡◌, ℕ, List, [], ◌∷◌, ◌++◌, length, take, ⊤, Option, Some, None, Result, MatchResult, codes}
 use Rattle.i3c_frame.specs.declared.symbols.Symbol.{Symbol}
 use Rattle.i3c_wave.specs.declared.capture.CaptureEvent.{CaptureEvent}
 use Rattle.i3c_wave.specs.declared.capture_fault.CaptureFault.{CaptureFault}

@@ -1,5 +1,5 @@
 -- Which signal of a dump has a name, and which bit of it is a line.
-use Rattle.std.specs.Prelude.{◌≡◌, ◌⊎◌, ℕ, ◌+◌, ◌-◌, ◌==◌, nat_lt, Bool, true, false, ◌&&◌, ◌||◌, List, [], ◌∷◌, ◌++◌, length, take, drop, position, codes, bytes_eq, slice_get, ⊤, Option, Some, None, Result, MatchResult, if◌then◌else◌}
+use Rattle.std.specs.Prelude.{◌≡◌, ℕ, ◌+◌, ◌-◌, ◌==◌, nat_lt, Bool, ◌&&◌, ◌||◌, List, [], ◌∷◌, ◌++◌, length, take, drop, position, codes, bytes_eq, slice_get, ⊤, Option, Some, None, Result, MatchResult, if◌then◌else◌}
 use Rattle.std.specs.Option.{option_and_then}
 use Rattle.i3c_wave.specs.declared.capture_fault.CaptureFault.{CaptureFault}
 use Rattle.i3c_wave.specs.declared.dump_word.Code.{Code}
