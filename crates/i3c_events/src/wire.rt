@@ -1,4 +1,4 @@
-ghost use Rattle.std.specs.Prelude.{◌≡◌, ◌∷◌, ◌++◌, [], false, map};
+ghost use Rattle.std.specs.Prelude.{◌≡◌, ◌∷◌, ◌++◌, [], false, map, option_to_list};
 ghost use Rattle.i3c_events.specs.Hearing.{answer_of};
 ghost use Rattle.i3c_events.specs.Wire.{IsKindsWire, IsLengthWire, IsSettingWire, command_wire};
 ghost use Rattle.i3c_events.specs.Words.{setting_byte};
@@ -22,7 +22,14 @@ pub fn tell_kinds<T: Tap>(
 )
     ensures { Tells T.note_gives tap.old tap.new (IsKindsWire change to.now kinds (answer_of heard.now)) }
 {
-    tell_command(tap, code_word(change, *to), to, &[kinds_word(kinds)], heard);
+    tell_command(
+        tap,
+        code_word(change, *to),
+        to,
+        None,
+        kinds_word(kinds),
+        heard,
+    );
 }
 
 /// Tells SETDASA or SETNEWDA to a target as it was heard, up to its STOP (I3C Basic 5.1.9.3.10 and 5.1.9.3.11).
@@ -39,7 +46,8 @@ pub fn tell_setting<T: Tap>(
         tap,
         setting_word(setting),
         &Some(target),
-        &[address_word(new)],
+        None,
+        address_word(new),
         heard,
     );
 }
@@ -54,32 +62,40 @@ pub fn tell_length<T: Tap>(
 )
     ensures { Tells T.note_gives tap.old tap.new (IsLengthWire way to.now most (answer_of heard.now)) }
 {
-    let data = [write_word(0), length_word(most)];
-    tell_command(tap, length_code(way, *to), to, &data, heard);
+    let upper = Some(write_word(0));
+    tell_command(
+        tap,
+        length_code(way, *to),
+        to,
+        upper,
+        length_word(most),
+        heard,
+    );
 }
 
 /// Tells a command as it was heard, up to its STOP: its code, the header of its target if it has one, and its data, unless
-/// nobody acknowledges that header.
+/// nobody acknowledges that header. The data are one word, or two.
 #[inline(always)]
 fn tell_command<T: Tap>(
     tap: &mut T,
     code: Word,
     to: &Option<Addr7>,
-    words: &[Word],
+    upper: Option<Word>,
+    lower: Word,
     heard: &Result<(), NoAnswer>,
 )
-    ensures { Tells T.note_gives tap.old tap.new (λ wire. wire ≡ command_wire code to.now words.now (answer_of heard.now)) }
+    ensures { Tells T.note_gives tap.old tap.new (λ wire. wire ≡ command_wire code to.now (option_to_list upper ++ lower ∷ []) (answer_of heard.now)) }
 {
     tap.note(Symbol::Word(code));
     let Some(address) = to else {
-        tell_data(tap, words);
+        tell_data(tap, upper, lower);
         return;
     };
     tap.note(Symbol::Repeated);
     match heard {
         Ok(()) => {
             tap.note(write_header(*address, true));
-            tell_data(tap, words);
+            tell_data(tap, upper, lower);
         }
         Err(NoAnswer(_)) => {
             tap.note(write_header(*address, false));
@@ -102,11 +118,12 @@ fn write_header(address: Addr7, ack: bool) -> Symbol
 
 /// Tells the data of a command, and STOP.
 #[inline(always)]
-fn tell_data<T: Tap>(tap: &mut T, words: &[Word])
-    ensures { Tells T.note_gives tap.old tap.new (λ wire. wire ≡ map SymbolValue.Word words.now ++ SymbolValue.Stop ∷ []) }
+fn tell_data<T: Tap>(tap: &mut T, upper: Option<Word>, lower: Word)
+    ensures { Tells T.note_gives tap.old tap.new (λ wire. wire ≡ map SymbolValue.Word (option_to_list upper ++ lower ∷ []) ++ SymbolValue.Stop ∷ []) }
 {
-    for word in words {
-        tap.note(Symbol::Word(*word));
+    if let Some(word) = upper {
+        tap.note(Symbol::Word(word));
     }
+    tap.note(Symbol::Word(lower));
     tap.note(Symbol::Stop);
 }
