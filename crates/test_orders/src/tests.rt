@@ -27,7 +27,7 @@ fn tails(alloc: Global, orders: &mut Orders<Line, Coin, bool>) -> usize {
     for _ in 0..3 {
         if !head {
             head = answer(alloc, orders, Line::Toss) == Some(true);
-            count += usize::from(!head);
+            count = count.saturating_add(usize::from(!head));
         }
     }
     if answer(alloc, orders, Line::Look) == Some(head) {
