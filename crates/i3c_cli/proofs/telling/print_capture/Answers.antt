@@ -11,7 +11,7 @@ returns-clause-told g c =
     inr (record {
       captured = captured;
       read = subst (λ scl. IfSome known (λ text. IsFound capturing.legacies scl capturing.sda.now text captured)) c.as_bytes-scl.ensures.value
-      (subst (λ sda. IfSome known (λ text. IsFound capturing.legacies c.as_bytes-scl.result.now sda text captured)) c.as_bytes-sda.ensures.value c.in_ok-captured.ensures.found);
+          (subst (λ sda. IfSome known (λ text. IsFound capturing.legacies c.as_bytes-scl.result.now sda text captured)) c.as_bytes-sda.ensures.value c.in_ok-captured.ensures.found);
       told = c.print_captured.ensures.told;
       noted = (string_bytes c.note_gap.new.notes, c.note_gap.ensures, c.print_captured.ensures.noted);
     })
