@@ -1,9 +1,15 @@
 -- What is left of a fact's tokens behind the first.
-use Rattle.std.proofs.Common.{◌≡◌, ℕ, List, [], ◌∷◌, length, codes, ap, arith, subst, sym}
+use denote.Ref.{Bor}
+use Rattle.std.proofs.Common.{◌<◌, ◌≡◌, ◌≤◌, ℕ, List, [], ◌∷◌, length, codes, ap, arith, subst, sym}
+use Rattle.std.proofs.lemmas.List.{length-map}
+use Rattle.i3c_legacy.specs.declared.faults.DeclareFault.{DeclareFault}
+use Rattle.i3c_legacy.specs.declared.faults.LegacyFault.{LegacyFault}
+use Rattle.i3c_step.specs.declared.replies.Refusal.{Refusal as BusRefusal}
 use Rattle.i3c_lines.specs.declared.refusals.Refusal.{Refusal}
 use Rattle.i3c_lines.specs.Forms.{WritesBit}
 use Rattle.i3c_facts.specs.declared.fact.Fact.{Fact}
-use Rattle.i3c_facts.specs.Forms.{IsFact, IsReason}
+use Rattle.i3c_facts.specs.declared.fact.ServedAs.{ServedAs}
+use Rattle.i3c_facts.specs.Forms.{IsFact, IsReason, served_tokens, texts}
 
 abbrev pub letter_of : List ℕ → ℕ
 letter_of [] = 0
@@ -42,6 +48,10 @@ waiting_args token Fact.Listed other e = absurd (omega (arith, ap length e))
 waiting_args token Fact.Open other e = absurd (omega (arith, ap length e))
 waiting_args token Fact.Done other e = absurd (omega (arith, ap length e))
 waiting_args token (Fact.Refused why) other (rest, e, is) = absurd (omega (arith, ap first_letter e))
+waiting_args token Fact.AnyRefused other e = absurd (omega (arith, ap length e))
+waiting_args token (Fact.Served way) other e = absurd (omega (arith, ap first_letter e))
+waiting_args token (Fact.Bytes bytes) other (w, e, writes) = absurd (omega (arith, ap first_letter e))
+waiting_args token (Fact.Asking name) other (w, e, is, unlike) = absurd (omega (arith, ap first_letter e))
 
 abbrev pub tail_of : List ℕ → List ℕ
 tail_of [] = []
@@ -67,6 +77,10 @@ records_args token Fact.Listed other e = absurd (omega (arith, ap length e))
 records_args token Fact.Open other e = absurd (omega (arith, ap length e))
 records_args token Fact.Done other e = absurd (omega (arith, ap length e))
 records_args token (Fact.Refused why) other (rest, e, is) = absurd (omega (arith, ap third_letter e))
+records_args token Fact.AnyRefused other e = absurd (omega (arith, ap length e))
+records_args token (Fact.Served way) other e = absurd (omega (arith, ap first_letter e))
+records_args token (Fact.Bytes bytes) other (w, e, writes) = absurd (omega (arith, ap first_letter e))
+records_args token (Fact.Asking name) other (w, e, is, unlike) = absurd (omega (arith, ap first_letter e))
 
 -- `refused` and another token
 pub refused_args : (token : List ℕ) (fact : Fact) → (token ≡ codes "gone" → ⊥) → IsFact (codes "refused" ∷ token ∷ []) fact → (why : Refusal) × IsReason (token ∷ []) why
@@ -84,6 +98,10 @@ refused_args token Fact.Listed other e = absurd (omega (arith, ap length e))
 refused_args token Fact.Open other e = absurd (omega (arith, ap length e))
 refused_args token Fact.Done other e = absurd (omega (arith, ap length e))
 refused_args token (Fact.Refused why) other (rest, e, is) = (why, subst (λ ws. IsReason ws why) (sym (ap rest_of e)) is)
+refused_args token Fact.AnyRefused other e = absurd (omega (arith, ap length e))
+refused_args token (Fact.Served way) other e = absurd (omega (arith, ap first_letter e))
+refused_args token (Fact.Bytes bytes) other (w, e, writes) = absurd (omega (arith, ap first_letter e))
+refused_args token (Fact.Asking name) other (w, e, is, unlike) = absurd (omega (arith, ap first_letter e))
 
 -- `refused` and two tokens
 pub refused_at_args : (token address : List ℕ) (fact : Fact) → (token ≡ codes "at" → ⊥) → (token ≡ codes "waiting" → ⊥) → IsFact (codes "refused" ∷ token ∷ address ∷ []) fact → (why : Refusal) × IsReason (token ∷ address ∷ []) why
@@ -101,3 +119,75 @@ refused_at_args token address Fact.Listed at waiting e = absurd (omega (arith, a
 refused_at_args token address Fact.Open at waiting e = absurd (omega (arith, ap length e))
 refused_at_args token address Fact.Done at waiting e = absurd (omega (arith, ap length e))
 refused_at_args token address (Fact.Refused why) at waiting (rest, e, is) = (why, subst (λ ws. IsReason ws why) (sym (ap rest_of e)) is)
+refused_at_args token address Fact.AnyRefused at waiting e = absurd (omega (arith, ap length e))
+refused_at_args token address (Fact.Served way) at waiting e = absurd (omega (arith, ap first_letter e))
+refused_at_args token address (Fact.Bytes bytes) at waiting (w, e, writes) = absurd (omega (arith, ap first_letter e))
+refused_at_args token address (Fact.Asking name) at waiting (w, e, is, unlike) = absurd (omega (arith, ap first_letter e))
+
+-- what a request came to has one token or two
+served_few : (way : ServedAs) → length (served_tokens way) ≤ 2
+served_few ServedAs.Quiet = omega arith
+served_few ServedAs.Recorded = omega arith
+served_few ServedAs.TurnedDown = omega arith
+served_few ServedAs.Torn = omega arith
+served_few ServedAs.Joining = omega arith
+served_few ServedAs.WantsRole = omega arith
+
+-- a reason has one token or two
+reason_few : (rest : List (List ℕ)) (why : Refusal) → IsReason rest why → length rest ≤ 2
+reason_few rest Refusal.BadLine e = omega (arith, ap length e)
+reason_few rest Refusal.NoBus e = omega (arith, ap length e)
+reason_few rest Refusal.BusMade e = omega (arith, ap length e)
+reason_few rest Refusal.NameTaken e = omega (arith, ap length e)
+reason_few rest Refusal.NoName e = omega (arith, ap length e)
+reason_few rest Refusal.NoEnd e = omega (arith, ap length e)
+reason_few rest (Refusal.Legacy LegacyFault.LegacyAddress) e = omega (arith, ap length e)
+reason_few rest (Refusal.Legacy LegacyFault.LegacyTwice) e = omega (arith, ap length e)
+reason_few rest (Refusal.Legacy LegacyFault.TooManyLegacy) e = omega (arith, ap length e)
+reason_few rest (Refusal.Declare DeclareFault.IdentityTwice) e = omega (arith, ap length e)
+reason_few rest (Refusal.Declare DeclareFault.TooManyDeclared) e = omega (arith, ap length e)
+reason_few rest (Refusal.Bus BusRefusal.SessionOpen) e = omega (arith, ap length e)
+reason_few rest (Refusal.Bus BusRefusal.NoSession) e = omega (arith, ap length e)
+reason_few rest (Refusal.Bus BusRefusal.ActiveStays) e = omega (arith, ap length e)
+reason_few rest (Refusal.Bus BusRefusal.SlotTaken) e = omega (arith, ap length e)
+reason_few rest (Refusal.Bus BusRefusal.NoDevice) e = omega (arith, ap length e)
+reason_few rest (Refusal.Bus BusRefusal.IsActive) e = omega (arith, ap length e)
+reason_few rest (Refusal.Bus BusRefusal.NoAddress) e = omega (arith, ap length e)
+reason_few rest (Refusal.Bus BusRefusal.HasAddress) e = omega (arith, ap length e)
+reason_few rest (Refusal.Bus BusRefusal.NotCapable) e = omega (arith, ap length e)
+reason_few rest (Refusal.Bus BusRefusal.ByteMismatch) e = omega (arith, ap length e)
+reason_few rest (Refusal.Bus BusRefusal.Masked) e = omega (arith, ap length e)
+reason_few rest (Refusal.Bus BusRefusal.Full) e = omega (arith, ap length e)
+reason_few rest (Refusal.Bus BusRefusal.ListStale) e = omega (arith, ap length e)
+reason_few rest (Refusal.Bus BusRefusal.TooLong) e = omega (arith, ap length e)
+reason_few rest (Refusal.Bus (BusRefusal.NoAnswer address)) (w, e, is) = omega (arith, ap length e)
+reason_few rest (Refusal.Bus (BusRefusal.BadAddress address)) (w, e, is) = omega (arith, ap length e)
+reason_few rest (Refusal.Declare DeclareFault.LegacyAddress) is = absurd is
+reason_few rest (Refusal.Declare DeclareFault.LegacyTwice) is = absurd is
+
+-- a fact has one token to four
+fact_few : (tokens : List (List ℕ)) (fact : Fact) → IsFact tokens fact → (0 < length tokens) × (length tokens ≤ 4)
+fact_few tokens (Fact.Active name) (w, e, is) = (omega (arith, ap length e), omega (arith, ap length e))
+fact_few tokens (Fact.At name address) (w, at, e, is, writes) = (omega (arith, ap length e), omega (arith, ap length e))
+fact_few tokens (Fact.AtAny name) (w, e, is) = (omega (arith, ap length e), omega (arith, ap length e))
+fact_few tokens (Fact.AtNone name) (w, e, is) = (omega (arith, ap length e), omega (arith, ap length e))
+fact_few tokens (Fact.Gone name) (w, e, is, unlike) = (omega (arith, ap length e), omega (arith, ap length e))
+fact_few tokens (Fact.Waiting name count) (w, digits, e, is, unlike, writes) = (omega (arith, ap length e), omega (arith, ap length e))
+fact_few tokens (Fact.AllWaiting count) (digits, e, is) = (omega (arith, ap length e), omega (arith, ap length e))
+fact_few tokens (Fact.Records count) (digits, e, is) = (omega (arith, ap length e), omega (arith, ap length e))
+fact_few tokens (Fact.Recorded name byte count) (w, code, digits, e, is, has, writes) = (omega (arith, ap length e), omega (arith, ap length e))
+fact_few tokens Fact.Assigned e = (omega (arith, ap length e), omega (arith, ap length e))
+fact_few tokens Fact.Listed e = (omega (arith, ap length e), omega (arith, ap length e))
+fact_few tokens Fact.Open e = (omega (arith, ap length e), omega (arith, ap length e))
+fact_few tokens Fact.Done e = (omega (arith, ap length e), omega (arith, ap length e))
+fact_few tokens Fact.AnyRefused e = (omega (arith, ap length e), omega (arith, ap length e))
+fact_few tokens (Fact.Bytes bytes) (w, e, writes) = (omega (arith, ap length e), omega (arith, ap length e))
+fact_few tokens (Fact.Asking name) (w, e, is, unlike) = (omega (arith, ap length e), omega (arith, ap length e))
+fact_few tokens (Fact.Refused why) (rest, e, is) = (omega (arith, ap length e), omega (arith, ap length e, reason_few rest why is))
+fact_few tokens (Fact.Served way) e = (omega (arith, ap length e), omega (arith, ap length e, served_few way))
+
+pub no_fact : (tokens : List (Bor (List ℕ))) (fact : Fact) → length tokens < 1 → IsFact (texts tokens) fact → ⊥
+no_fact tokens fact none is = omega (arith, none, length-map (λ (token : Bor (List ℕ)). token.now) tokens, (fact_few (texts tokens) fact is).0)
+
+pub long_fact : (tokens : List (Bor (List ℕ))) (fact : Fact) → 5 ≤ length tokens → IsFact (texts tokens) fact → ⊥
+long_fact tokens fact many is = omega (arith, many, length-map (λ (token : Bor (List ℕ)). token.now) tokens, (fact_few (texts tokens) fact is).1)

@@ -6,3 +6,5 @@ pub mod MarkLaws
 pub mod Meaning
 pub mod PrintedMarks
 pub mod CountLaws
+pub mod AskLaws
+pub mod BytesLaws

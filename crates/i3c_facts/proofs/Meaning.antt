@@ -11,10 +11,11 @@ use Rattle.i3c_lines.specs.declared.names.Name.{Name}
 use Rattle.i3c_lines.specs.declared.refusals.Refusal.{Refusal}
 use Rattle.i3c_lines.specs.Forms.{IsNamed, tokens_of}
 use Rattle.i3c_lines.specs.Refusing.{refusal_token}
-use Rattle.i3c_lines.specs.Tokens.{IsDecimal, IsHex}
+use Rattle.i3c_lines.specs.Tokens.{AreBytes, IsDecimal, IsHex, pair_values}
 use Rattle.i3c_lines.proofs.Meanings.{are_same, hex, named, same_name}
 use Rattle.i3c_facts.specs.declared.facts.Claim.{Claim}
 use Rattle.i3c_facts.specs.declared.fact.Fact.{Fact}
+use Rattle.i3c_facts.specs.declared.fact.ServedAs.{ServedAs}
 use Rattle.i3c_facts.specs.declared.marks.Mark.{Mark}
 use Rattle.i3c_facts.specs.Forms.{AreClaims, IsByteOrNone, IsClaimOf, IsFact, IsReason, parts}
 use Rattle.i3c_facts.specs.Laws.{LinesAreOfOneMark}
@@ -46,6 +47,10 @@ no_digits is = elim (is.1 0 0 (omega arith)) [ inl digit ↦ omega (arith, digit
 no_dashes : (token : List ℕ) → IsHex 2 token → are_same token dashes ≡ false
 no_dashes token is = differ token dashes (λ e. no_digits (subst (λ w. IsHex 2 w) e is))
 
+-- letters that aren't hex digits are no bytes
+no_pairs : AreBytes (codes "gone") → ⊥
+no_pairs are = elim are.0 [ inl digit ↦ omega (arith, digit) | inr letter ↦ omega (arith, letter) ]
+
 -- the refusal of a list that is printed as this token
 abbrev reason_in : List ℕ → List Refusal → Refusal
 reason_in token [] = Refusal.BadLine
@@ -55,13 +60,25 @@ abbrev byte_of : List ℕ → Option ℕ
 byte_of token = cond (are_same token dashes) None (Some (hex token))
 
 abbrev of_one : List ℕ → Fact
-of_one a = cond (are_same a (codes "assigned")) Fact.Assigned (cond (are_same a (codes "listed")) Fact.Listed (cond (are_same a (codes "open")) Fact.Open Fact.Done))
+of_one a = cond (are_same a (codes "assigned")) Fact.Assigned (cond (are_same a (codes "listed")) Fact.Listed (cond (are_same a (codes "open")) Fact.Open (cond (are_same a (codes "done")) Fact.Done Fact.AnyRefused)))
+
+-- what a request came to, by one token, and by two
+abbrev served_in : List ℕ → ServedAs
+served_in b = cond (are_same b (codes "quiet")) ServedAs.Quiet (cond (are_same b (codes "recorded")) ServedAs.Recorded (cond (are_same b (codes "torn")) ServedAs.Torn ServedAs.Joining))
+
+abbrev served_at : List ℕ → ServedAs
+served_at b = cond (are_same b (codes "turned")) ServedAs.TurnedDown ServedAs.WantsRole
+
+abbrev of_line : List ℕ → List ℕ → Fact
+of_line a b =
+    cond (are_same a (codes "served")) (Fact.Served (served_in b))
+    (cond (are_same a (codes "bytes")) (Fact.Bytes (pair_values b)) (cond (are_same a (codes "asking")) (Fact.Asking (named b)) (Fact.Refused (reason_in b plain_reasons))))
 
 abbrev of_two : List ℕ → List ℕ → Fact
 of_two a b =
     cond (are_same a (codes "active")) (Fact.Active (named b))
     (cond (are_same b (codes "gone")) (Fact.Gone (named a))
-    (cond (are_same a (codes "waiting")) (Fact.AllWaiting (digits_value 10 b)) (cond (are_same a (codes "records")) (Fact.Records (digits_value 10 b)) (Fact.Refused (reason_in b plain_reasons)))))
+    (cond (are_same a (codes "waiting")) (Fact.AllWaiting (digits_value 10 b)) (cond (are_same a (codes "records")) (Fact.Records (digits_value 10 b)) (of_line a b))))
 
 abbrev place_of : Name → List ℕ → Fact
 place_of name c = cond (are_same c (codes "any")) (Fact.AtAny name) (cond (are_same c (codes "none")) (Fact.AtNone name) (Fact.At name (hex c)))
@@ -72,7 +89,7 @@ reason_at b c = cond (are_same b (codes "NoAnswer")) (Refusal.Bus (BusRefusal.No
 abbrev of_three : List ℕ → List ℕ → List ℕ → Fact
 of_three a b c =
     cond (are_same b (codes "at")) (place_of (named a) c)
-    (cond (are_same b (codes "waiting")) (Fact.Waiting (named a) (digits_value 10 c)) (Fact.Refused (reason_at b c)))
+    (cond (are_same b (codes "waiting")) (Fact.Waiting (named a) (digits_value 10 c)) (cond (are_same a (codes "served")) (Fact.Served (served_at b)) (Fact.Refused (reason_at b c))))
 
 -- the fact that tokens can be at most
 abbrev fact_of : List (List ℕ) → Fact
@@ -142,6 +159,17 @@ fact_is tokens Fact.Listed e = ap fact_of e
 fact_is tokens Fact.Open e = ap fact_of e
 fact_is tokens Fact.Done e = ap fact_of e
 fact_is tokens (Fact.Refused why) (rest, e, is) = ap fact_of e ∙ refused_is rest why is
+fact_is tokens Fact.AnyRefused e = ap fact_of e
+fact_is tokens (Fact.Served ServedAs.Quiet) e = ap fact_of e
+fact_is tokens (Fact.Served ServedAs.Recorded) e = ap fact_of e
+fact_is tokens (Fact.Served ServedAs.TurnedDown) e = ap fact_of e
+fact_is tokens (Fact.Served ServedAs.Torn) e = ap fact_of e
+fact_is tokens (Fact.Served ServedAs.Joining) e = ap fact_of e
+fact_is tokens (Fact.Served ServedAs.WantsRole) e = ap fact_of e
+fact_is tokens (Fact.Bytes bytes) (w, e, writes) =
+    ap fact_of e ∙ ap (λ b. cond b (Fact.Gone (named (codes "bytes"))) (Fact.Bytes (pair_values w))) (differ w (codes "gone") (λ same. no_pairs (subst AreBytes same writes.1))) ∙ ap Fact.Bytes (sym writes.3)
+fact_is tokens (Fact.Asking name) (w, e, is, unlike) =
+    ap fact_of e ∙ ap (λ b. cond b (Fact.Gone (named (codes "asking"))) (Fact.Asking (named w))) (differ w (codes "gone") unlike) ∙ ap Fact.Asking (named_is w name is)
 
 -- the second letter of the first token
 abbrev second_letter : List (List ℕ) → ℕ
@@ -163,6 +191,10 @@ at_two spot other Fact.Listed e = omega (arith, ap length e)
 at_two spot other Fact.Open e = omega (arith, ap length e)
 at_two spot other Fact.Done e = omega (arith, ap length e)
 at_two spot other (Fact.Refused why) (rest, e, is) = omega (arith, ap first_letter e)
+at_two spot other Fact.AnyRefused e = omega (arith, ap length e)
+at_two spot other (Fact.Served way) e = omega (arith, ap first_letter e)
+at_two spot other (Fact.Bytes bytes) (w, e, writes) = omega (arith, ap first_letter e)
+at_two spot other (Fact.Asking name) (w, e, is, unlike) = omega (arith, ap second_letter e)
 
 gone_alone : (fact : Fact) → IsFact (codes "gone" ∷ []) fact → ⊥
 gone_alone (Fact.Active name) (w, e, is) = omega (arith, ap length e)
@@ -179,6 +211,10 @@ gone_alone Fact.Listed e = omega (arith, ap first_letter e)
 gone_alone Fact.Open e = omega (arith, ap first_letter e)
 gone_alone Fact.Done e = omega (arith, ap first_letter e)
 gone_alone (Fact.Refused why) (rest, e, is) = omega (arith, ap first_letter e)
+gone_alone Fact.AnyRefused e = omega (arith, ap first_letter e)
+gone_alone (Fact.Served way) e = omega (arith, ap first_letter e)
+gone_alone (Fact.Bytes bytes) (w, e, writes) = omega (arith, ap first_letter e)
+gone_alone (Fact.Asking name) (w, e, is, unlike) = omega (arith, ap first_letter e)
 
 not_both : (rest : List (List ℕ)) (fact other : Fact) → IsFact (codes "not" ∷ rest) fact → IsFact rest other → ⊥
 not_both rest (Fact.Active name) other (w, e, is) form = omega (arith, ap first_letter e)
@@ -195,6 +231,10 @@ not_both rest Fact.Listed other e form = omega (arith, ap first_letter e)
 not_both rest Fact.Open other e form = omega (arith, ap first_letter e)
 not_both rest Fact.Done other e form = omega (arith, ap first_letter e)
 not_both rest (Fact.Refused why) other (more, e, is) form = omega (arith, ap first_letter e)
+not_both rest Fact.AnyRefused other e form = omega (arith, ap first_letter e)
+not_both rest (Fact.Served way) other e form = omega (arith, ap first_letter e)
+not_both rest (Fact.Bytes bytes) other (w, e, writes) form = omega (arith, ap first_letter e)
+not_both rest (Fact.Asking name) other (w, e, is, unlike) form = omega (arith, ap first_letter e)
 
 claim_is : (tokens : List (List ℕ)) (fact other : Fact) (one two : Bool) → IsClaimOf tokens fact one → IsClaimOf tokens other two → (fact ≡ other) × (one ≡ two)
 claim_is tokens fact other false false form same = (sym (fact_is tokens fact form) ∙ fact_is tokens other same, refl)

@@ -13,14 +13,15 @@ use Rattle.i3c_lines.specs.Forms.{tokens_of}
 use Rattle.i3c_lines.specs.Naming.{letters}
 use Rattle.i3c_lines.specs.Printing.{IsWithin, behind}
 use Rattle.i3c_lines.specs.Refusing.{refusal_token}
-use Rattle.i3c_lines.specs.Tokens.{IsDecimal, IsHex}
-use Rattle.i3c_lines.proofs.PrintedLines.{Apart, byte_writes, decimal_writes, plain, tokens_spaced}
-use Rattle.i3c_lines.proofs.SplitLaws.{HasNoSpace, hex_no_space, name_no_space}
-use Rattle.i3c_text.specs.Hex.{byte_text}
+use Rattle.i3c_lines.specs.Tokens.{AreBytes, IsDecimal, IsHex}
+use Rattle.i3c_lines.proofs.PrintedLines.{Apart, byte_writes, decimal_writes, pairs_are, pairs_length, plain, tokens_spaced}
+use Rattle.i3c_lines.proofs.SplitLaws.{HasNoSpace, hex_no_space, name_no_space, pairs_no_space}
+use Rattle.i3c_text.specs.Hex.{byte_text, bytes_text}
 use Rattle.i3c_facts.specs.declared.facts.Claim.{Claim}
 use Rattle.i3c_facts.specs.declared.fact.Fact.{Fact}
+use Rattle.i3c_facts.specs.declared.fact.ServedAs.{ServedAs}
 use Rattle.i3c_facts.specs.declared.marks.Mark.{Mark}
-use Rattle.i3c_facts.specs.Forms.{AreClaims, IsByteOrNone, IsClaimOf, IsFact, is_or, parts}
+use Rattle.i3c_facts.specs.Forms.{AreClaims, IsByteOrNone, IsClaimOf, IsFact, is_or, parts, served_tokens}
 use Rattle.i3c_facts.specs.Laws.{PrintedMarksAreRead}
 use Rattle.i3c_facts.specs.Printing.{AreSayable, FactHasLine, HaveLines, IsSayable, ReasonHasLine, byte_or_none, claim_text, claims_text, fact_text, more_text, negation_text}
 use Rattle.i3c_facts.proofs.ClaimLaws.{not_or}
@@ -35,6 +36,9 @@ no_decimal_or is = let digit = is.1 0 0 (omega arith) in omega (arith, digit)
 
 no_hex_or : IsHex 2 (codes "or") → ⊥
 no_hex_or is = elim (is.1 0 0 (omega arith)) [ inl digit ↦ omega (arith, digit) | inr letter ↦ omega (arith, letter) ]
+
+no_pairs_or : AreBytes (codes "or") → ⊥
+no_pairs_or are = elim are.0 [ inl digit ↦ omega (arith, digit) | inr letter ↦ omega (arith, letter) ]
 
 number_apart : (count : ℕ) → count < 65536 → HasNoSpace (decimal count)
 number_apart count h = (decimal_writes count h).1
@@ -64,6 +68,10 @@ first_token Fact.Listed = codes "listed"
 first_token Fact.Open = codes "open"
 first_token Fact.Done = codes "done"
 first_token (Fact.Refused why) = codes "refused"
+first_token Fact.AnyRefused = codes "refused"
+first_token (Fact.Served way) = codes "served"
+first_token (Fact.Bytes bytes) = codes "bytes"
+first_token (Fact.Asking name) = codes "asking"
 
 abbrev address_tokens : Refusal → List (List ℕ)
 address_tokens (Refusal.Bus (BusRefusal.NoAnswer address)) = byte_text address ∷ []
@@ -86,6 +94,10 @@ other_tokens Fact.Listed = []
 other_tokens Fact.Open = []
 other_tokens Fact.Done = []
 other_tokens (Fact.Refused why) = refusal_token why ∷ address_tokens why
+other_tokens Fact.AnyRefused = []
+other_tokens (Fact.Served way) = served_tokens way
+other_tokens (Fact.Bytes bytes) = bytes_text bytes ∷ []
+other_tokens (Fact.Asking name) = letters name ∷ []
 
 -- tokens that are a text, a fact's form, without spaces and without `or`
 abbrev Fits : List ℕ → Type 0 → List ℕ → List (List ℕ) → Type 0
@@ -196,6 +208,28 @@ fact_fits Fact.Listed h = (refl, refl, (plain (codes "listed") tt, tt), (refl, t
 fact_fits Fact.Open h = (refl, refl, (plain (codes "open") tt, tt), (refl, tt))
 fact_fits Fact.Done h = (refl, refl, (plain (codes "done") tt, tt), (refl, tt))
 fact_fits (Fact.Refused why) h = reason_fits why h
+fact_fits Fact.AnyRefused h = (refl, refl, (plain (codes "refused") tt, tt), (refl, tt))
+fact_fits (Fact.Served ServedAs.Quiet) h = (refl, refl, (plain (codes "served") tt, (plain (codes "quiet") tt, tt)), (refl, (refl, tt)))
+fact_fits (Fact.Served ServedAs.Recorded) h = (refl, refl, (plain (codes "served") tt, (plain (codes "recorded") tt, tt)), (refl, (refl, tt)))
+fact_fits (Fact.Served ServedAs.TurnedDown) h =
+    (refl, refl, (plain (codes "served") tt, (plain (codes "turned") tt, (plain (codes "down") tt, tt))), (refl, (refl, (refl, tt))))
+fact_fits (Fact.Served ServedAs.Torn) h = (refl, refl, (plain (codes "served") tt, (plain (codes "torn") tt, tt)), (refl, (refl, tt)))
+fact_fits (Fact.Served ServedAs.Joining) h = (refl, refl, (plain (codes "served") tt, (plain (codes "joining") tt, tt)), (refl, (refl, tt)))
+fact_fits (Fact.Served ServedAs.WantsRole) h =
+    (refl, refl, (plain (codes "served") tt, (plain (codes "wants") tt, (plain (codes "role") tt, tt))), (refl, (refl, (refl, tt))))
+fact_fits (Fact.Bytes bytes) (some, few, all) =
+    let pairs = pairs_are bytes all in (
+      ap (λ l. codes "bytes " ++ l) (sym (append-nil (bytes_text bytes))),
+      (bytes_text bytes, refl, (omega (arith, pairs_length bytes, some), pairs.0, few, sym pairs.1)),
+      (plain (codes "bytes") tt, (pairs_no_space (bytes_text bytes) pairs.0, tt)),
+      (refl, (not_or (bytes_text bytes) (λ e. no_pairs_or (subst AreBytes e pairs.0)), tt)),
+    )
+fact_fits (Fact.Asking name) (is, unlike) = (
+  ap (λ l. codes "asking " ++ l) (sym (append-nil (letters name))),
+  (letters name, refl, (is.0, refl), unlike),
+  (plain (codes "asking") tt, (name_apart name is, tt)),
+  (refl, (name_no_or name is, tt)),
+)
 
 -- a printed claim's first token, and those behind it
 abbrev first_said : Fact → Bool → List ℕ

@@ -1,5 +1,5 @@
 -- The bytes of marks, and the facts that marks say.
-use Rattle.std.specs.Prelude.{◌≡◌, ◌≢◌, ⊤, ℕ, ◌≤◌, Bool, true, false, List, [], ◌∷◌, Option, Some, None, codes, length, map, nat_eq}
+use Rattle.std.specs.Prelude.{◌≡◌, ◌≢◌, ⊤, ℕ, ◌<◌, ◌≤◌, Bool, true, false, List, [], ◌∷◌, Option, Some, None, codes, length, map, nat_eq}
 use denote.Ref.{Bor}
 use Rattle.std.specs.Cmp.Lexicographic.{pointwise}
 use Rattle.std.specs.List.{slice_split}
@@ -7,10 +7,12 @@ use Rattle.i3c_step.specs.declared.replies.Refusal.{Refusal as BusRefusal}
 use Rattle.i3c_legacy.specs.declared.faults.DeclareFault.{DeclareFault}
 use Rattle.i3c_facts.specs.declared.facts.Claim.{Claim}
 use Rattle.i3c_facts.specs.declared.fact.Fact.{Fact}
+use Rattle.i3c_facts.specs.declared.fact.ServedAs.{ServedAs}
 use Rattle.i3c_facts.specs.declared.marks.Mark.{Mark}
 use Rattle.i3c_lines.specs.declared.refusals.Refusal.{Refusal}
 use Rattle.i3c_lines.specs.Forms.{IsNamed, Writes, WritesAddress, WritesBit, tokens_of}
 use Rattle.i3c_lines.specs.Refusing.{refusal_token}
+use Rattle.i3c_lines.specs.Tokens.{AreBytes, pair_values}
 
 -- the bytes of each token
 abbrev pub texts : List (Bor (List ℕ)) → List (List ℕ)
@@ -42,6 +44,28 @@ abbrev pub IsByteOrNone : List ℕ → Option ℕ → Type 0
 IsByteOrNone token None = token ≡ codes "--"
 IsByteOrNone token (Some byte) = Writes 2 token byte
 
+-- the tokens of what a request came to, as a script prints them
+abbrev pub served_tokens : ServedAs → List (List ℕ)
+served_tokens ServedAs.Quiet = codes "quiet" ∷ []
+served_tokens ServedAs.Recorded = codes "recorded" ∷ []
+served_tokens ServedAs.TurnedDown = codes "turned" ∷ codes "down" ∷ []
+served_tokens ServedAs.Torn = codes "torn" ∷ []
+served_tokens ServedAs.Joining = codes "joining" ∷ []
+served_tokens ServedAs.WantsRole = codes "wants" ∷ codes "role" ∷ []
+
+-- the same tokens with a space between each two
+abbrev pub served_text : ServedAs → List ℕ
+served_text ServedAs.Quiet = codes "quiet"
+served_text ServedAs.Recorded = codes "recorded"
+served_text ServedAs.TurnedDown = codes "turned down"
+served_text ServedAs.Torn = codes "torn"
+served_text ServedAs.Joining = codes "joining"
+served_text ServedAs.WantsRole = codes "wants role"
+
+-- a token that is these bytes: one to sixteen, as many as a line can read
+abbrev pub WritesBytes : List ℕ → List ℕ → Type 0
+WritesBytes token bytes = (0 < length token) × AreBytes token × (length bytes ≤ 16) × (bytes ≡ pair_values token)
+
 -- these tokens are this fact. `active gone` is about a device that is called gone, and `not waiting 3` about all devices
 abbrev pub IsFact : List (List ℕ) → Fact → Type 0
 IsFact tokens (Fact.Active name) = (token : List ℕ) × (tokens ≡ codes "active" ∷ token ∷ []) × IsNamed token name
@@ -59,6 +83,10 @@ IsFact tokens Fact.Listed = tokens ≡ codes "listed" ∷ []
 IsFact tokens Fact.Open = tokens ≡ codes "open" ∷ []
 IsFact tokens Fact.Done = tokens ≡ codes "done" ∷ []
 IsFact tokens (Fact.Refused why) = (rest : List (List ℕ)) × (tokens ≡ codes "refused" ∷ rest) × IsReason rest why
+IsFact tokens Fact.AnyRefused = tokens ≡ codes "refused" ∷ []
+IsFact tokens (Fact.Served way) = tokens ≡ codes "served" ∷ served_tokens way
+IsFact tokens (Fact.Bytes bytes) = (token : List ℕ) × (tokens ≡ codes "bytes" ∷ token ∷ []) × WritesBytes token bytes
+IsFact tokens (Fact.Asking name) = (token : List ℕ) × (tokens ≡ codes "asking" ∷ token ∷ []) × IsNamed token name × (token ≢ codes "gone")
 
 -- these tokens claim that a fact holds, or, negated, that it doesn't
 abbrev pub IsClaimOf : List (List ℕ) → Fact → Bool → Type 0

@@ -1,14 +1,21 @@
--- When a fact holds: by the bus, the place of its name, and the result of the previous line.
-use Rattle.std.specs.Prelude.{ℕ, zero, suc, ◌+◌, ◌==◌, Bool, true, false, not, ◌&&◌, ◌||◌, List, [], ◌∷◌, Option, Some, None, if◌then◌else◌, is_some, length, nat_eq, option_and_then}
+-- When a fact holds: by the bus, the place of its name, and what the previous line came to.
+use Rattle.std.specs.Prelude.{ℕ, zero, suc, ◌+◌, ◌==◌, Bool, true, false, not, ◌&&◌, ◌||◌, List, [], ◌∷◌, Option, Some, None, if◌then◌else◌, is_some, length, nat_eq, nat_lt, option_and_then, take}
 use Rattle.std.specs.Cmp.Lexicographic.{pointwise}
 use Rattle.i3c_base.specs.declared.range.TheConstants.{SLOTS}
 use Rattle.i3c_base.specs.declared.requests.Record.{Record}
+use Rattle.i3c_base.specs.declared.requests.Request.{Request}
+use Rattle.i3c_base.specs.declared.requests.Served.{Served}
+use Rattle.i3c_base.specs.Serve.{drives, rank}
 use Rattle.i3c_base.specs.State.{Device, State, device_at, has_address, in_slot}
 use Rattle.i3c_bus.specs.Readings.{waiting_of}
+use Rattle.i3c_device.specs.Wishing.{choice_of}
 use Rattle.i3c_step.specs.declared.replies.Refusal.{Refusal as BusRefusal}
 use Rattle.i3c_facts.specs.declared.facts.Claim.{Claim}
 use Rattle.i3c_facts.specs.declared.fact.Fact.{Fact}
+use Rattle.i3c_facts.specs.declared.fact.ServedAs.{ServedAs}
 use Rattle.i3c_facts.specs.declared.before.Before.{Before}
+use Rattle.i3c_facts.specs.declared.before.LineResult.{LineResult}
+use Rattle.i3c_facts.specs.Forms.{served_text}
 use Rattle.i3c_lines.specs.declared.names.Name.{Name}
 use Rattle.i3c_lines.specs.declared.names.Place.{Place}
 use Rattle.i3c_lines.specs.declared.refusals.Refusal.{Refusal}
@@ -23,6 +30,7 @@ name_of (Fact.AtNone name) = Some name
 name_of (Fact.Gone name) = Some name
 name_of (Fact.Waiting name count) = Some name
 name_of (Fact.Recorded name byte count) = Some name
+name_of (Fact.Asking name) = Some name
 name_of _ = None
 
 -- the slot that a name stands for: legacy targets have none, nor have names that were never given or whose slot another device took
@@ -82,24 +90,73 @@ address_about _ = None
 abbrev pub is_same_refusal : Refusal → Refusal → Bool
 is_same_refusal why other = pointwise nat_eq (refusal_token why) (refusal_token other) && same_number (address_about why) (address_about other)
 
--- the result of a line, for the facts behind it
-abbrev pub came_to : Option Refusal → Before
-came_to None = Before.Done
-came_to (Some why) = Before.Refused why
-
 -- the line before was done
-abbrev pub is_done : Before → Bool
-is_done Before.Nothing = false
-is_done Before.Done = true
-is_done (Before.Refused why) = false
+abbrev pub is_done : LineResult → Bool
+is_done LineResult.Nothing = false
+is_done LineResult.Done = true
+is_done (LineResult.Refused why) = false
 
 -- the line before was refused for this reason
-abbrev pub is_refused : Refusal → Before → Bool
-is_refused why Before.Nothing = false
-is_refused why Before.Done = false
-is_refused why (Before.Refused other) = is_same_refusal why other
+abbrev pub is_refused : Refusal → LineResult → Bool
+is_refused why LineResult.Nothing = false
+is_refused why LineResult.Done = false
+is_refused why (LineResult.Refused other) = is_same_refusal why other
 
--- a fact holds, with this place of its name and this result of the previous line
+-- the line before was refused
+abbrev pub is_any_refused : LineResult → Bool
+is_any_refused LineResult.Nothing = false
+is_any_refused LineResult.Done = false
+is_any_refused (LineResult.Refused why) = true
+
+-- there is a line before
+abbrev pub is_line : LineResult → Bool
+is_line LineResult.Nothing = false
+is_line LineResult.Done = true
+is_line (LineResult.Refused why) = true
+
+-- what a request came to, without its number or address
+abbrev pub served_as : Served → ServedAs
+served_as Served.Quiet = ServedAs.Quiet
+served_as (Served.Recorded place) = ServedAs.Recorded
+served_as Served.Refused = ServedAs.TurnedDown
+served_as Served.Torn = ServedAs.Torn
+served_as Served.Joining = ServedAs.Joining
+served_as (Served.WantsRole a) = ServedAs.WantsRole
+
+-- the first request of the line before came to this
+abbrev pub is_served : ServedAs → Before → Bool
+is_served way before = is_line before.result && pointwise nat_eq (served_text way) (served_text (served_as before.heard.served))
+
+-- bytes that were read begin with these
+abbrev pub begins_with : List ℕ → Option (List ℕ) → Bool
+begins_with bytes None = false
+begins_with bytes (Some read) = pointwise nat_eq bytes (take (length bytes) read)
+
+-- the request that a slot's device chooses
+abbrev pub choice_in : State → ℕ → Option Request
+choice_in st slot = option_and_then (λ d. choice_of d.address d) (device_at st slot)
+
+-- a slot drives its choice, which comes before this request
+abbrev pub is_ahead : State → Request → ℕ → Option Request → Bool
+is_ahead st r slot None = false
+is_ahead st r slot (Some choice) = drives st choice slot && nat_lt (rank choice) (rank r)
+
+-- one of the slots below a number drives a request that comes before this one
+abbrev pub is_beaten : State → Request → ℕ → Bool
+is_beaten st r zero = false
+is_beaten st r (suc slot) = is_beaten st r slot || is_ahead st r slot (choice_in st slot)
+
+-- a slot drives its choice, and no slot drives a request that comes before it
+abbrev pub is_first : State → ℕ → Option Request → Bool
+is_first st slot None = false
+is_first st slot (Some choice) = drives st choice slot && not (is_beaten st choice (length st.devices))
+
+-- the device of a name asks: it drives the first request of the next frame
+abbrev pub is_asking : State → Option ℕ → Bool
+is_asking st None = false
+is_asking st (Some slot) = is_first st slot (choice_in st slot)
+
+-- a fact holds, with this place of its name and this previous line
 abbrev pub fact_holds : State → Option Place → Before → Fact → Bool
 fact_holds st place before (Fact.Active name) = same_number (slot_of place) (Some st.active)
 fact_holds st place before (Fact.At name address) = in_slot (has_address address) (device_of st place)
@@ -113,8 +170,12 @@ fact_holds st place before (Fact.Recorded name byte count) = are_recorded st.rec
 fact_holds st place before Fact.Assigned = assigned_below st SLOTS
 fact_holds st place before Fact.Listed = st.listed
 fact_holds st place before Fact.Open = st.in_session
-fact_holds st place before Fact.Done = is_done before
-fact_holds st place before (Fact.Refused why) = is_refused why before
+fact_holds st place before Fact.Done = is_done before.result
+fact_holds st place before (Fact.Refused why) = is_refused why before.result
+fact_holds st place before Fact.AnyRefused = is_any_refused before.result
+fact_holds st place before (Fact.Served way) = is_served way before
+fact_holds st place before (Fact.Bytes bytes) = begins_with bytes before.heard.read
+fact_holds st place before (Fact.Asking name) = is_asking st (slot_of place)
 
 -- a claim holds: its fact does, or, negated, doesn't
 abbrev pub claim_holds : State → Option Place → Before → Claim → Bool

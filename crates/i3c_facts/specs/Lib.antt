@@ -1,5 +1,6 @@
 pub mod Forms
 pub mod Reading
+pub mod Hearing
 pub mod Holding
 pub mod Printing
 pub mod Laws

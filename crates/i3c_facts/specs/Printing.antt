@@ -1,5 +1,5 @@
 -- The texts of marks and facts, and of what holds in place of unmet facts.
-use Rattle.std.specs.Prelude.{◌≢◌, ⊤, ℕ, ◌^◌, ◌<◌, Bool, true, false, List, [], ◌∷◌, ◌++◌, Option, Some, None, codes, length}
+use Rattle.std.specs.Prelude.{◌≢◌, ⊤, ℕ, ◌^◌, ◌<◌, ◌≤◌, All, Bool, true, false, List, [], ◌∷◌, ◌++◌, Option, Some, None, codes, length}
 use Rattle.std.specs.Fmt.{decimal}
 use Rattle.i3c_base.specs.declared.range.TheConstants.{SLOTS}
 use Rattle.i3c_base.specs.declared.requests.Record.{Record}
@@ -9,15 +9,17 @@ use Rattle.i3c_step.specs.declared.replies.Refusal.{Refusal as BusRefusal}
 use Rattle.i3c_facts.specs.declared.facts.Claim.{Claim}
 use Rattle.i3c_facts.specs.declared.fact.Fact.{Fact}
 use Rattle.i3c_facts.specs.declared.before.Before.{Before}
+use Rattle.i3c_facts.specs.declared.before.LineResult.{LineResult}
 use Rattle.i3c_facts.specs.declared.marks.Mark.{Mark}
-use Rattle.i3c_facts.specs.Holding.{device_of, place_for, records_of, slot_of, waiting_below}
+use Rattle.i3c_facts.specs.Forms.{served_text}
+use Rattle.i3c_facts.specs.Holding.{device_of, place_for, records_of, served_as, slot_of, waiting_below}
 use Rattle.i3c_lines.specs.declared.names.Name.{Name}
 use Rattle.i3c_lines.specs.declared.names.Place.{Place}
 use Rattle.i3c_lines.specs.declared.refusals.Refusal.{Refusal}
 use Rattle.i3c_lines.specs.Naming.{letters}
 use Rattle.i3c_lines.specs.Printing.{IsNamable, IsWithin}
 use Rattle.i3c_lines.specs.Refusing.{refusal_text}
-use Rattle.i3c_text.specs.Hex.{byte_text}
+use Rattle.i3c_text.specs.Hex.{byte_text, bytes_text}
 
 -- a mandatory byte, or `--` for none
 abbrev pub byte_or_none : Option ℕ → List ℕ
@@ -44,6 +46,10 @@ fact_text Fact.Listed = codes "listed"
 fact_text Fact.Open = codes "open"
 fact_text Fact.Done = codes "done"
 fact_text (Fact.Refused why) = codes "refused " ++ refusal_text why
+fact_text Fact.AnyRefused = codes "refused"
+fact_text (Fact.Served way) = codes "served " ++ served_text way
+fact_text (Fact.Bytes bytes) = codes "bytes " ++ bytes_text bytes
+fact_text (Fact.Asking name) = codes "asking " ++ letters name
 
 -- what a claim says before its fact
 abbrev pub negation_text : Bool → List ℕ
@@ -99,10 +105,26 @@ counted_text name byte None records = letters name ++ codes " gone"
 counted_text name byte (Some slot) records = recorded_text name byte (records_of slot byte records)
 
 -- the result of the previous line, if it isn't the one that a fact says
-abbrev pub before_text : Fact → Before → List ℕ
-before_text fact Before.Nothing = codes "not " ++ fact_text fact
-before_text fact Before.Done = codes "done"
-before_text fact (Before.Refused why) = codes "refused " ++ refusal_text why
+abbrev pub before_text : Fact → LineResult → List ℕ
+before_text fact LineResult.Nothing = codes "not " ++ fact_text fact
+before_text fact LineResult.Done = codes "done"
+before_text fact (LineResult.Refused why) = codes "refused " ++ refusal_text why
+
+-- what a fact of the previous line says, and `not` where there is no such line
+abbrev pub told_text : Fact → LineResult → List ℕ → List ℕ
+told_text fact LineResult.Nothing said = codes "not " ++ fact_text fact
+told_text fact LineResult.Done said = said
+told_text fact (LineResult.Refused why) said = said
+
+-- the bytes that were read, or `--` for none
+abbrev pub read_text : Option (List ℕ) → List ℕ
+read_text None = codes "bytes --"
+read_text (Some bytes) = codes "bytes " ++ bytes_text bytes
+
+-- that a device doesn't ask, or that it is gone
+abbrev pub silent_text : Name → Option Device → List ℕ
+silent_text name None = letters name ++ codes " gone"
+silent_text name (Some d) = codes "not asking " ++ letters name
 
 -- what holds in place of an unmet fact
 abbrev pub there_text : State → Option Place → (ℕ → Option Name) → Before → Fact → List ℕ
@@ -118,8 +140,12 @@ there_text st place slot_names before (Fact.Recorded name byte count) = counted_
 there_text st place slot_names before Fact.Assigned = codes "not assigned"
 there_text st place slot_names before Fact.Listed = codes "not listed"
 there_text st place slot_names before Fact.Open = codes "not open"
-there_text st place slot_names before Fact.Done = before_text Fact.Done before
-there_text st place slot_names before (Fact.Refused why) = before_text (Fact.Refused why) before
+there_text st place slot_names before Fact.Done = before_text Fact.Done before.result
+there_text st place slot_names before (Fact.Refused why) = before_text (Fact.Refused why) before.result
+there_text st place slot_names before Fact.AnyRefused = before_text Fact.AnyRefused before.result
+there_text st place slot_names before (Fact.Served way) = told_text (Fact.Served way) before.result (codes "served " ++ served_text (served_as before.heard.served))
+there_text st place slot_names before (Fact.Bytes bytes) = told_text (Fact.Bytes bytes) before.result (read_text before.heard.read)
+there_text st place slot_names before (Fact.Asking name) = silent_text name (device_of st place)
 
 -- what holds in place of an unmet claim: a fact that it negates
 abbrev pub unmet_claim : State → Option Place → (ℕ → Option Name) → Before → Fact → Bool → List ℕ
@@ -159,6 +185,10 @@ FactHasLine Fact.Listed = ⊤
 FactHasLine Fact.Open = ⊤
 FactHasLine Fact.Done = ⊤
 FactHasLine (Fact.Refused why) = ReasonHasLine why
+FactHasLine Fact.AnyRefused = ⊤
+FactHasLine (Fact.Served way) = ⊤
+FactHasLine (Fact.Bytes bytes) = (0 < length bytes) × (length bytes ≤ 16) × All (λ byte. byte < 256) bytes
+FactHasLine (Fact.Asking name) = IsSayable name × (letters name ≢ codes "gone")
 
 -- claims that a line can make
 abbrev pub HaveLines : List Claim → Type 0

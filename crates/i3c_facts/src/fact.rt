@@ -1,5 +1,56 @@
-use i3c_base::Addr7;
+use i3c_base::{Addr7, Bytes, Served};
 use i3c_lines::{Name, Refusal};
+
+/// What the first request of a frame came to, without its number or address (I3C Basic 5.1.6).
+#[derive(Clone, Copy)]
+pub enum ServedAs {
+    /// Nobody asked.
+    Quiet,
+    /// An interrupt was recorded.
+    Recorded,
+    /// A request was turned down.
+    TurnedDown,
+    /// The mandatory byte of an interrupt was torn.
+    Torn,
+    /// A join was accepted.
+    Joining,
+    /// A role request was accepted.
+    WantsRole,
+}
+
+impl ServedAs {
+    ghost use Rattle.std.specs.Prelude.{◌≡◌};
+    ghost use Rattle.i3c_facts.specs.Forms.{served_text};
+    ghost use Rattle.i3c_facts.specs.Holding.{served_as};
+
+    /// What a request came to, without its number or address.
+    pub fn of(served: &Served) -> ServedAs
+        ensures { result ≡ served_as served.now }
+    {
+        match served {
+            Served::Quiet => ServedAs::Quiet,
+            Served::Recorded(_) => ServedAs::Recorded,
+            Served::Refused => ServedAs::TurnedDown,
+            Served::Torn => ServedAs::Torn,
+            Served::Joining => ServedAs::Joining,
+            Served::WantsRole(_) => ServedAs::WantsRole,
+        }
+    }
+
+    /// Its tokens, as a script prints them.
+    pub fn text(self) -> &'static str
+        ensures { result.now ≡ served_text self }
+    {
+        match self {
+            ServedAs::Quiet => "quiet",
+            ServedAs::Recorded => "recorded",
+            ServedAs::TurnedDown => "turned down",
+            ServedAs::Torn => "torn",
+            ServedAs::Joining => "joining",
+            ServedAs::WantsRole => "wants role",
+        }
+    }
+}
 
 /// One thing that may hold: of the bus, of the device of a name, or of the previous line's result.
 #[derive(Clone, Copy)]
@@ -33,6 +84,14 @@ pub enum Fact {
     Done,
     /// `refused REASON`: the line before was refused, for this reason.
     Refused(Refusal),
+    /// `refused`: the line before was refused.
+    AnyRefused,
+    /// `served quiet`, `served recorded` and so on: what the first request of the line before came to.
+    Served(ServedAs),
+    /// `bytes HEX`: the line before read these bytes first.
+    Bytes(Bytes),
+    /// `asking NAME`: the device would drive the first request of the next frame.
+    Asking(Name),
 }
 
 impl Fact {
@@ -51,6 +110,7 @@ impl Fact {
             Fact::Gone(name) => Some(name),
             Fact::Waiting(name, _) => Some(name),
             Fact::Recorded(name, _, _) => Some(name),
+            Fact::Asking(name) => Some(name),
             _ => None,
         }
     }

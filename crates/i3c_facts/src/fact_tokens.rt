@@ -1,9 +1,10 @@
-ghost use Rattle.std.specs.Prelude.{◌≡◌, ◌∷◌, ℕ, Option, MatchOption, [], codes};
-ghost use Rattle.i3c_facts.specs.Forms.{IsByteOrNone, IsFact, texts};
+ghost use Rattle.std.specs.Prelude.{◌≡◌, ◌∷◌, ℕ, List, Option, MatchOption, [], codes};
+ghost use Rattle.i3c_facts.specs.Forms.{IsByteOrNone, IsFact, WritesBytes, texts};
 ghost use Rattle.i3c_lines.specs.Parsing.{Reads};
 
-use crate::fact::Fact;
+use crate::fact::{Fact, ServedAs};
 use crate::reasons::{plain_reason, reason_at};
+use i3c_base::{Bytes, REGISTERS};
 use i3c_lines::Name;
 use i3c_lines::tokens::{self, is_token};
 
@@ -11,9 +12,13 @@ const ACTIVE: &[u8] = b"active";
 
 const ANY: &[u8] = b"any";
 
+const ASKING: &[u8] = b"asking";
+
 const ASSIGNED: &[u8] = b"assigned";
 
 const AT: &[u8] = b"at";
+
+const BYTES: &[u8] = b"bytes";
 
 const DONE: &[u8] = b"done";
 
@@ -35,6 +40,8 @@ const RECORD: &[u8] = b"record";
 const RECORDS: &[u8] = b"records";
 
 const REFUSED: &[u8] = b"refused";
+
+const SERVED: &[u8] = b"served";
 
 const WAITING: &[u8] = b"waiting";
 
@@ -67,6 +74,9 @@ fn of_one(token: &[u8]) -> Option<Fact>
     if is_token(token, DONE) {
         return Some(Fact::Done);
     }
+    if is_token(token, REFUSED) {
+        return Some(Fact::AnyRefused);
+    }
     None
 }
 
@@ -89,6 +99,27 @@ fn of_two(first: &[u8], second: &[u8]) -> Option<Fact>
     if is_token(first, REFUSED) {
         return refused(second);
     }
+    of_line(first, second)
+}
+
+/// A fact of two tokens: what the line before came to, or who asks now.
+fn of_line(first: &[u8], second: &[u8]) -> Option<Fact>
+    requires active { first.now ≡ codes "active" → ⊥ }
+    requires gone { second.now ≡ codes "gone" → ⊥ }
+    requires waiting { first.now ≡ codes "waiting" → ⊥ }
+    requires records { first.now ≡ codes "records" → ⊥ }
+    requires refused { first.now ≡ codes "refused" → ⊥ }
+    ensures { Reads IsFact (first.now ∷ second.now ∷ []) result }
+{
+    if is_token(first, SERVED) {
+        return served(second);
+    }
+    if is_token(first, BYTES) {
+        return bytes(second);
+    }
+    if is_token(first, ASKING) {
+        return asking(second);
+    }
     None
 }
 
@@ -104,6 +135,9 @@ fn of_three(first: &[u8], second: &[u8], third: &[u8]) -> Option<Fact>
     }
     if is_token(first, REFUSED) {
         return refused_at(second, third);
+    }
+    if is_token(first, SERVED) {
+        return served_as(second, third);
     }
     None
 }
@@ -170,6 +204,70 @@ fn refused_at(token: &[u8], address: &[u8]) -> Option<Fact>
 {
     let why = reason_at(token, address)?;
     Some(Fact::Refused(why))
+}
+
+/// `served`, by what it came to in one token. `served gone` is about a device that is called served.
+fn served(token: &[u8]) -> Option<Fact>
+    requires { token.now ≡ codes "gone" → ⊥ }
+    ensures { Reads IsFact (codes "served" ∷ token.now ∷ []) result }
+{
+    if is_token(token, b"quiet") {
+        return Some(Fact::Served(ServedAs::Quiet));
+    }
+    if is_token(token, b"recorded") {
+        return Some(Fact::Served(ServedAs::Recorded));
+    }
+    if is_token(token, b"torn") {
+        return Some(Fact::Served(ServedAs::Torn));
+    }
+    if is_token(token, b"joining") {
+        return Some(Fact::Served(ServedAs::Joining));
+    }
+    None
+}
+
+/// `served`, by what it came to in two tokens. With `at` or `waiting` it is about a device that is called served.
+fn served_as(token: &[u8], more: &[u8]) -> Option<Fact>
+    requires at { token.now ≡ codes "at" → ⊥ }
+    requires waiting { token.now ≡ codes "waiting" → ⊥ }
+    ensures { Reads IsFact (codes "served" ∷ token.now ∷ more.now ∷ []) result }
+{
+    if is_token(token, b"turned") && is_token(more, b"down") {
+        return Some(Fact::Served(ServedAs::TurnedDown));
+    }
+    if is_token(token, b"wants") && is_token(more, b"role") {
+        return Some(Fact::Served(ServedAs::WantsRole));
+    }
+    None
+}
+
+/// `bytes`, by one to sixteen of them.
+fn bytes(token: &[u8]) -> Option<Fact>
+    requires { token.now ≡ codes "gone" → ⊥ }
+    ensures { Reads IsFact (codes "bytes" ∷ token.now ∷ []) result }
+{
+    let bytes = written_bytes(token)?;
+    Some(Fact::Bytes(bytes))
+}
+
+/// One to sixteen bytes, each of two hex digits.
+fn written_bytes(token: &[u8]) -> Option<Bytes>
+    ensures { MatchOption result ((bytes : List ℕ) → WritesBytes token.now bytes → ⊥) (λ bytes. WritesBytes token.now bytes) }
+{
+    let bytes = tokens::bytes(token)?;
+    if bytes.is_empty() || bytes.len() > REGISTERS {
+        return None;
+    }
+    Some(Bytes::new(bytes.as_slice()))
+}
+
+/// `asking`, by its name. `asking gone` is about a device that is called asking.
+fn asking(token: &[u8]) -> Option<Fact>
+    requires { token.now ≡ codes "gone" → ⊥ }
+    ensures { Reads IsFact (codes "asking" ∷ token.now ∷ []) result }
+{
+    let name = Name::parse(token)?;
+    Some(Fact::Asking(name))
 }
 
 /// `at`, by its name, and an address, `any` or `none`.

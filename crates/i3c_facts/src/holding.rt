@@ -1,13 +1,13 @@
-ghost use Rattle.std.specs.Prelude.{◌≡◌, ◌==◌, IfSome, Some, is_some, length, not};
+ghost use Rattle.std.specs.Prelude.{◌≡◌, ◌==◌, IfSome, Some, is_some, length, not, option_map};
 ghost use Rattle.i3c_base.specs.declared.range.TheConstants.{SLOTS};
 ghost use Rattle.i3c_base.specs.State.{has_address, in_slot};
-ghost use Rattle.i3c_facts.specs.Holding.{are_recorded, claim_holds, claims_hold, device_of, fact_holds, is_done, is_refused, is_same_refusal, address_about, place_for, slot_of, waiting_below};
+ghost use Rattle.i3c_facts.specs.Holding.{are_recorded, begins_with, claim_holds, claims_hold, device_of, fact_holds, is_any_refused, is_asking, is_done, is_line, is_refused, is_same_refusal, is_served, address_about, place_for, slot_of, waiting_below};
 
-use crate::before::Before;
+use crate::before::{Before, LineResult};
 use crate::counting::{are_assigned, records_of, waiting};
-use crate::fact::Fact;
+use crate::fact::{Fact, ServedAs};
 use crate::facts::{Claim, Facts};
-use i3c_base::{Addr7, Record, Slot};
+use i3c_base::{Addr7, Bytes, Record, Slot};
 use i3c_bus::{Bus, Refusal as BusRefusal};
 use i3c_lines::{Naming, Place, Refusal};
 
@@ -29,8 +29,12 @@ impl Fact {
             Fact::Assigned => are_assigned(bus),
             Fact::Listed => bus.listed(),
             Fact::Open => bus.in_session(),
-            Fact::Done => is_done(before),
-            Fact::Refused(why) => is_refused(why, before),
+            Fact::Done => is_done(&before.result),
+            Fact::Refused(why) => is_refused(why, &before.result),
+            Fact::AnyRefused => is_any_refused(&before.result),
+            Fact::Served(way) => is_served(*way, before),
+            Fact::Bytes(bytes) => begins_with(bytes, &before.heard.read),
+            Fact::Asking(_) => is_asking(bus, place),
         }
     }
 }
@@ -118,19 +122,81 @@ fn are_recorded(records: &[Record], place: Option<Place>, byte: Option<u8>, coun
 }
 
 /// Whether the line before was done.
-fn is_done(before: &Before) -> bool
-    ensures { result ≡ is_done before.now }
+fn is_done(ended: &LineResult) -> bool
+    ensures { result ≡ is_done ended.now }
 {
-    matches!(before, Before::Done)
+    matches!(ended, LineResult::Done)
 }
 
 /// Whether the line before was refused for this reason.
-fn is_refused(why: &Refusal, before: &Before) -> bool
-    ensures { result ≡ is_refused why.now before.now }
+fn is_refused(why: &Refusal, ended: &LineResult) -> bool
+    ensures { result ≡ is_refused why.now ended.now }
 {
-    match before {
-        Before::Refused(other) => is_same_refusal(why, other),
+    match ended {
+        LineResult::Refused(other) => is_same_refusal(why, other),
         _ => false,
+    }
+}
+
+/// Whether the line before was refused.
+fn is_any_refused(ended: &LineResult) -> bool
+    ensures { result ≡ is_any_refused ended.now }
+{
+    matches!(ended, LineResult::Refused(_))
+}
+
+/// Whether there is a line before.
+fn is_line(ended: &LineResult) -> bool
+    ensures { result ≡ is_line ended.now }
+{
+    match ended {
+        LineResult::Nothing => false,
+        LineResult::Done | LineResult::Refused(_) => true,
+    }
+}
+
+/// Whether the first request of the line before came to this.
+fn is_served(way: ServedAs, before: &Before) -> bool
+    ensures { result ≡ is_served way before.now }
+{
+    is_line(&before.result)
+        && way.text().as_bytes() == ServedAs::of(&before.heard.served).text().as_bytes()
+}
+
+/// Whether bytes that were read begin with these.
+fn begins_with(bytes: &Bytes, read: &Option<Bytes>) -> bool
+    ensures { result ≡ begins_with bytes.now read.now }
+{
+    match read {
+        Some(read) => is_prefix(bytes.as_slice(), read.as_slice()),
+        None => false,
+    }
+}
+
+/// Whether some bytes are the first of others.
+fn is_prefix(bytes: &[u8], all: &[u8]) -> bool
+    ensures { result ≡ begins_with bytes.now (Some all.now) }
+{
+    bytes.len() <= all.len() && bytes == &all[..bytes.len()]
+}
+
+/// Whether the device of a name would drive the first request of the next frame (I3C Basic 5.1.6.2).
+fn is_asking(bus: &Bus, place: Option<Place>) -> bool
+    ensures { result ≡ is_asking bus.now.state (slot_of place) }
+{
+    match slot_of(place) {
+        Some(slot) => asks(bus, slot),
+        None => false,
+    }
+}
+
+/// Whether a slot's device would drive the first request of the next frame.
+fn asks(bus: &Bus, slot: Slot) -> bool
+    ensures { result ≡ is_asking bus.now.state (Some slot) }
+{
+    match bus.asking() {
+        Some((_, slots)) => slots.contains(slot),
+        None => false,
     }
 }
 

@@ -2,7 +2,7 @@
 //!
 //! Reading: `marks` reads a line (`Mark`), `facts` its facts (`Facts`), `fact_tokens` one fact (`Fact`, in `fact`), and
 //! `reasons` the reason of a refusal. Testing: `holding` tests a fact, by the place of its name, the result of the
-//! previous line (`before`) and counts over slots and records (`counting`). Printing: `printing` prints marks and facts, and
+//! previous line (`before`, which hears its pieces) and counts over slots and records (`counting`). Printing: `printing` prints marks and facts, and
 //! `unmet` prints what holds in place of an unmet fact. `laws` has theorems over all lines.
 #![tactic(auto)]
 
@@ -18,8 +18,10 @@ mod printing;
 mod reasons;
 mod unmet;
 
-pub use before::Before;
-pub use fact::Fact;
+pub use before::{Before, Heard, LineResult};
+pub use fact::{Fact, ServedAs};
 pub use facts::{Claim, Facts};
-pub use laws::{lines_are_of_one_mark, marks_are_no_commands, printed_marks_are_read};
+pub use laws::{
+    askers_drive_the_first, lines_are_of_one_mark, marks_are_no_commands, printed_marks_are_read,
+};
 pub use marks::{Mark, read_mark};

@@ -1,14 +1,15 @@
 ghost use Rattle.std.specs.Prelude.{◌≡◌, ◌++◌, OnOk, codes};
 ghost use Rattle.std.specs.Fmt.{decimal};
+ghost use Rattle.i3c_facts.specs.Forms.{served_text};
 ghost use Rattle.i3c_facts.specs.Printing.{byte_or_none, claim_text, claims_text, fact_text, mark_text, more_text, negation_text, recorded_text};
 ghost use Rattle.i3c_lines.specs.Naming.{letters};
 ghost use Rattle.i3c_lines.specs.Refusing.{refusal_text};
-ghost use Rattle.i3c_text.specs.Hex.{byte_text};
+ghost use Rattle.i3c_text.specs.Hex.{byte_text, bytes_text};
 
-use crate::fact::Fact;
+use crate::fact::{Fact, ServedAs};
 use crate::facts::{Claim, Facts};
 use crate::marks::Mark;
-use i3c_base::Addr7;
+use i3c_base::{Addr7, Bytes};
 use i3c_lines::{Name, Refusal};
 use i3c_text::Text;
 use std::alloc::AllocError;
@@ -81,6 +82,10 @@ impl Fact {
             Fact::Open => text.push(b"open"),
             Fact::Done => text.push(b"done"),
             Fact::Refused(why) => push_refused(text, why),
+            Fact::AnyRefused => text.push(b"refused"),
+            Fact::Served(way) => push_served(text, *way),
+            Fact::Bytes(bytes) => push_bytes(text, bytes),
+            Fact::Asking(name) => push_named(text, b"asking ", name),
         }
     }
 }
@@ -182,4 +187,20 @@ pub(crate) fn push_refused(text: &mut Text, why: &Refusal) -> Result<(), AllocEr
 {
     text.push(b"refused ")?;
     why.push(text)
+}
+
+/// Appends what the first request of a frame came to.
+pub(crate) fn push_served(text: &mut Text, way: ServedAs) -> Result<(), AllocError>
+    ensures { OnOk result (text.new ≡ text.old ++ (codes "served " ++ served_text way)) }
+{
+    text.push(b"served ")?;
+    text.push(way.text().as_bytes())
+}
+
+/// Appends bytes that were read.
+pub(crate) fn push_bytes(text: &mut Text, bytes: &Bytes) -> Result<(), AllocError>
+    ensures { OnOk result (text.new ≡ text.old ++ (codes "bytes " ++ bytes_text bytes.now)) }
+{
+    text.push(b"bytes ")?;
+    text.push_bytes(bytes.as_slice())
 }

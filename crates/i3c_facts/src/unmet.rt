@@ -1,19 +1,21 @@
 ghost use Rattle.std.specs.Prelude.{◌≡◌, ◌++◌, OnOk, codes};
 ghost use Rattle.std.specs.Fmt.{decimal};
 ghost use Rattle.i3c_base.specs.declared.range.TheConstants.{SLOTS};
-ghost use Rattle.i3c_facts.specs.Holding.{device_of, slot_of, waiting_below};
-ghost use Rattle.i3c_facts.specs.Printing.{active_text, address_text, before_text, counted_text, place_text, there_text, unmet_claim, unmet_text, waiting_text};
+ghost use Rattle.i3c_facts.specs.Forms.{served_text};
+ghost use Rattle.i3c_facts.specs.Holding.{device_of, served_as, slot_of, waiting_below};
+ghost use Rattle.i3c_facts.specs.Printing.{active_text, address_text, before_text, counted_text, fact_text, place_text, read_text, silent_text, there_text, told_text, unmet_claim, unmet_text, waiting_text};
 ghost use Rattle.i3c_lines.specs.Naming.{letters};
 
-use crate::before::Before;
+use crate::before::{Before, LineResult};
 use crate::counting::{records_of, waiting};
-use crate::fact::Fact;
+use crate::fact::{Fact, ServedAs};
 use crate::facts::{Claim, Facts};
 use crate::holding::{device_slot, place_for, slot_of};
 use crate::printing::{
-    push_at, push_name, push_named, push_number, push_recorded, push_refused, push_waiting,
+    push_at, push_bytes, push_name, push_named, push_number, push_recorded, push_refused,
+    push_served, push_waiting,
 };
-use i3c_base::{Addr7, Record};
+use i3c_base::{Addr7, Bytes, Record};
 use i3c_bus::Bus;
 use i3c_lines::{Name, Naming, Place};
 use i3c_text::Text;
@@ -86,22 +88,79 @@ impl Fact {
             Fact::Assigned => text.push(b"not assigned"),
             Fact::Listed => text.push(b"not listed"),
             Fact::Open => text.push(b"not open"),
-            Fact::Done | Fact::Refused(_) => self.push_before(before, text),
+            Fact::Done | Fact::Refused(_) | Fact::AnyRefused => {
+                self.push_before(&before.result, text)
+            }
+            Fact::Served(_) => self.push_served(before, text),
+            Fact::Bytes(_) => self.push_read(before, text),
+            Fact::Asking(name) => push_silent(bus, place, name, text),
         }
     }
 
     /// Appends the result of the previous line, if it isn't this fact.
-    fn push_before(&self, before: &Before, text: &mut Text) -> Result<(), AllocError>
-        ensures { OnOk result (text.new ≡ text.old ++ before_text self.now before.now) }
+    fn push_before(&self, ended: &LineResult, text: &mut Text) -> Result<(), AllocError>
+        ensures { OnOk result (text.new ≡ text.old ++ before_text self.now ended.now) }
     {
-        match before {
-            Before::Nothing => {
-                text.push(b"not ")?;
-                self.push(text)
-            }
-            Before::Done => text.push(b"done"),
-            Before::Refused(why) => push_refused(text, why),
+        match ended {
+            LineResult::Nothing => self.push_contrary(text),
+            LineResult::Done => text.push(b"done"),
+            LineResult::Refused(why) => push_refused(text, why),
         }
+    }
+
+    /// Appends what the first request of the previous line came to.
+    fn push_served(&self, before: &Before, text: &mut Text) -> Result<(), AllocError>
+        ensures { OnOk result (text.new ≡ text.old ++ told_text self.now before.now.result (codes "served " ++ served_text (served_as before.now.heard.served))) }
+    {
+        match &before.result {
+            LineResult::Nothing => self.push_contrary(text),
+            LineResult::Done | LineResult::Refused(_) => {
+                push_served(text, ServedAs::of(&before.heard.served))
+            }
+        }
+    }
+
+    /// Appends the bytes that the previous line read.
+    fn push_read(&self, before: &Before, text: &mut Text) -> Result<(), AllocError>
+        ensures { OnOk result (text.new ≡ text.old ++ told_text self.now before.now.result (read_text before.now.heard.read)) }
+    {
+        match &before.result {
+            LineResult::Nothing => self.push_contrary(text),
+            LineResult::Done | LineResult::Refused(_) => push_some_read(&before.heard.read, text),
+        }
+    }
+
+    /// Appends that the fact doesn't hold.
+    fn push_contrary(&self, text: &mut Text) -> Result<(), AllocError>
+        ensures { OnOk result (text.new ≡ text.old ++ (codes "not " ++ fact_text self.now)) }
+    {
+        text.push(b"not ")?;
+        self.push(text)
+    }
+}
+
+/// Appends bytes that were read, or that none were.
+fn push_some_read(read: &Option<Bytes>, text: &mut Text) -> Result<(), AllocError>
+    ensures { OnOk result (text.new ≡ text.old ++ read_text read.now) }
+{
+    match read {
+        Some(bytes) => push_bytes(text, bytes),
+        None => text.push(b"bytes --"),
+    }
+}
+
+/// Appends that the device of a name doesn't ask, or that it is gone.
+fn push_silent(
+    bus: &Bus,
+    place: Option<Place>,
+    name: &Name,
+    text: &mut Text,
+) -> Result<(), AllocError>
+    ensures { OnOk result (text.new ≡ text.old ++ silent_text name.now (device_of bus.now.state place)) }
+{
+    match device_slot(bus, place) {
+        Some(_) => push_named(text, b"not asking ", name),
+        None => push_name(text, name, b" gone"),
     }
 }
 

@@ -27,6 +27,8 @@ fault_behind first front before after (FormFault.Missing field) is so = so
 fault_behind first front before after (FormFault.Misfit field token) is so = (among_behind token.now front before after is so.0, so.1)
 fault_behind first front before after (FormFault.Surplus token) is so = among_behind token.now front before after is so
 fault_behind first front before after (FormFault.Repeated token) is so = among_behind token.now front before after is so
+fault_behind first front before after FormFault.MissingFact is so = so
+fault_behind first front before after (FormFault.NoFact token) is so = among_behind token.now front before after is so
 
 -- one more token is in front
 pub front_more : (token : List ℕ) (front all before after : List (List ℕ)) → all ≡ front ++ before → before ≡ token ∷ after → all ≡ (front ++ token ∷ []) ++ after
@@ -46,3 +48,5 @@ line_so line first rest (FormFault.Missing field) is so = (first, rest, is, so)
 line_so line first rest (FormFault.Misfit field token) is so = (first, rest, is, so)
 line_so line first rest (FormFault.Surplus token) is so = (first, rest, is, so)
 line_so line first rest (FormFault.Repeated token) is so = (first, rest, is, so)
+line_so line first rest FormFault.MissingFact is so = (first, rest, is, so)
+line_so line first rest (FormFault.NoFact token) is so = (first, rest, is, so)

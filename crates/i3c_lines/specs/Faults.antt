@@ -44,6 +44,8 @@ IsTokenFault first rest (FormFault.Missing field) = ⊤
 IsTokenFault first rest (FormFault.Misfit field token) = IsAmong token.now rest × (IsField field token.now → ⊥)
 IsTokenFault first rest (FormFault.Surplus token) = IsAmong token.now rest
 IsTokenFault first rest (FormFault.Repeated token) = IsAmong token.now rest
+IsTokenFault first rest FormFault.MissingFact = ⊤
+IsTokenFault first rest (FormFault.NoFact token) = IsAmong token.now rest
 IsTokenFault first rest _ = ⊥
 
 -- what a fault says of its line is so
@@ -165,6 +167,8 @@ IsFaultText (FormFault.Misfit field token) text =
     (lesson : List ℕ) × IsLesson field token.now lesson × (text ≡ labelled (label field) ++ (quoted token.now ++ (codes ": " ++ lesson)))
 IsFaultText (FormFault.Surplus token) text = text ≡ quoted token.now ++ codes ": a word too many"
 IsFaultText (FormFault.Repeated token) text = text ≡ quoted token.now ++ codes ": named twice"
+IsFaultText FormFault.MissingFact text = text ≡ codes "FACT is missing"
+IsFaultText (FormFault.NoFact token) text = text ≡ quoted token.now ++ codes ": no word of a fact"
 
 -- why a line has no form, as it is told
 abbrev pub IsReason : List ℕ → List ℕ → Type 0

@@ -259,7 +259,7 @@ pub(crate) fn pid(token: &[u8]) -> Option<Pid>
 }
 
 /// The bytes of a write: two hex digits for each. Of more than are kept the first ones are given.
-pub(crate) fn bytes(token: &[u8]) -> Option<ArrayVec<u8, WRITE_KEPT>>
+pub fn bytes(token: &[u8]) -> Option<ArrayVec<u8, WRITE_KEPT>>
     ensures form { IsSome result ↔ AreBytes token.now }
     ensures value { IfSome result (λ bytes. bytes.items ≡ take WRITE_KEPT (pair_values token.now)) }
 {

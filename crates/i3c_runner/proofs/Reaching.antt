@@ -6,6 +6,7 @@ use Rattle.i3c_script.specs.Leading.{AreLegalBehind}
 use Rattle.i3c_script.specs.Making.{Made}
 use Rattle.i3c_script.specs.Obeying.{IsBegun, ScriptState}
 use Rattle.i3c_script.specs.Situations.{Situation, Told}
+use Rattle.i3c_script.specs.Printed.{pieces_text}
 use Rattle.i3c_script.proofs.Reaching.{IsSound, at_on}
 use Rattle.i3c_facts.specs.declared.facts.Claim.{Claim}
 use Rattle.i3c_facts.specs.declared.marks.Mark.{Mark}
@@ -66,9 +67,9 @@ counted_on : (steps : List Made) (now : Standing) (line said : List ℕ) (refuse
 counted_on steps now line said refused new s (inl (bad, none, why, same)) = stays steps now.script new.script s (ap (λ s. s.script) same)
 counted_on steps now line said refused new s (inr (inl (skipped, none, why, same))) = stays steps now.script new.script s (ap (λ s. s.script) same)
 counted_on steps now line said refused new s (inr (inr (inl (mark, is, does)))) = stays steps now.script new.script s (mark_stays now mark said refused new does)
-counted_on steps now line said refused new s (inr (inr (inr (command, state, own, told, asks, obeys, text, lasts)))) =
-    subst (λ (script : ScriptState). IsSound (steps ++ counted_made now line said refused new (inr (inr (inr (command, state, own, told, asks, obeys, text, lasts))))) script.stage)
-    (sym (lasts_stay (went now state refused) state.stage told new lasts)) (at_on steps now.script.stage now.script.names command own refused state s obeys)
+counted_on steps now line said refused new s (inr (inr (inr (command, state, pieces, told, asks, comes, text, lasts)))) =
+    subst (λ (script : ScriptState). IsSound (steps ++ counted_made now line said refused new (inr (inr (inr (command, state, pieces, told, asks, comes, text, lasts))))) script.stage)
+    (sym (lasts_stay (went now state pieces refused) state.stage told new lasts)) (at_on steps now.script.stage now.script.names command (pieces_text pieces) refused state s (pieces, comes, refl))
 
 script_on : (steps : List Made) (old : Standing) (lines : List LineRun) (new : Standing) → IsSound steps old.script.stage → (h : LinesLead old lines new) → IsSound (steps ++ script_made old lines new h) new.script.stage
 script_on steps old [] new s same = stays steps old.script new.script s (ap (λ s. s.script) same)

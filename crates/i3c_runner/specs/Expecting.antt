@@ -6,7 +6,8 @@ use Rattle.i3c_facts.specs.declared.facts.Claim.{Claim}
 use Rattle.i3c_facts.specs.declared.before.Before.{Before}
 use Rattle.i3c_facts.specs.declared.marks.Mark.{Mark}
 use Rattle.i3c_facts.specs.Forms.{IsMark}
-use Rattle.i3c_facts.specs.Holding.{came_to, claims_hold}
+use Rattle.i3c_facts.specs.Hearing.{came_to, no_line}
+use Rattle.i3c_facts.specs.Holding.{claims_hold}
 use Rattle.i3c_facts.specs.Printing.{unmet_text}
 use Rattle.i3c_lines.specs.declared.names.Name.{Name}
 use Rattle.i3c_lines.specs.declared.names.Names.{Names}
@@ -14,25 +15,28 @@ use Rattle.i3c_lines.specs.declared.refusals.Refusal.{Refusal}
 use Rattle.i3c_lines.specs.Forms.{HasNoForm}
 use Rattle.i3c_lines.specs.Naming.{place_named, slot_names}
 use Rattle.i3c_runner.specs.declared.lasting.Lasting.{Lasting}
+use Rattle.i3c_script.specs.declared.piece.Piece.{Piece}
 use Rattle.i3c_script.specs.declared.stage.Stage.{Stage}
 use Rattle.i3c_script.specs.Obeying.{IsBegun, ScriptState}
 
--- the state of a script between two lines: its bus and names, the number of the previous line, the result of the last
--- command, the number of expectations not met, and the lasting ones
+-- the state of a script between two lines: its bus and names, the number of the previous line, what the last command came
+-- to, the number of expectations not met, the lasting ones, and the number of lines without a form
 pub record Standing : Type 0 where
   pub script : ScriptState
   pub lines : ℕ
   pub before : Before
   pub unmet : ℕ
   pub lasting : List Lasting
+  pub formless : ℕ
 
 -- the start of a script: no line was run
 pub record HasBegun (start : Standing) : Type 0 where
   pub script : IsBegun start.script
   pub lines : start.lines ≡ 0
-  pub before : start.before ≡ Before.Nothing
+  pub before : start.before ≡ no_line
   pub unmet : start.unmet ≡ 0
   pub lasting : start.lasting ≡ []
+  pub formless : start.formless ≡ 0
 
 -- one more, as far as 64 bits count
 abbrev pub one_more : ℕ → ℕ
@@ -42,9 +46,13 @@ one_more count = min (count + 1) 18446744073709551615
 abbrev pub counted : Standing → Standing
 counted old = record old { lines = one_more old.lines }
 
--- a command led to this state, with this result
-abbrev pub went : Standing → ScriptState → Option Refusal → Standing
-went now script refused = record now { script = script; before = came_to refused }
+-- a command led to this state, and came to these pieces and this refusal
+abbrev pub went : Standing → ScriptState → List Piece → Option Refusal → Standing
+went now script pieces refused = record now { script = script; before = came_to pieces refused }
+
+-- a line without a form was refused
+abbrev pub misread : Standing → Standing
+misread now = record (went now now.script [] (Some Refusal.BadLine)) { formless = one_more now.formless }
 
 -- one more expectation that isn't met, unless it is
 abbrev pub unmet_if : Bool → ℕ → ℕ
@@ -55,7 +63,7 @@ unmet_if false unmet = one_more unmet
 abbrev pub tested : Standing → Bool → Standing
 tested now met = record now { unmet = unmet_if met now.unmet }
 
--- whether one of these claims holds of a bus, with these names and this result of the previous line
+-- whether one of these claims holds of a bus, with these names and what is known of the previous line
 abbrev pub is_met : State → Names → Before → List Claim → Bool
 is_met st names before facts = claims_hold st (place_named names) before facts
 
@@ -74,7 +82,7 @@ test_text now st facts false = unmet_line st now.script.names now.before now.lin
 
 -- an expectation changes nothing but the count of those that weren't met. Before the bus it is refused
 abbrev pub TestsAt : Standing → Stage → List Claim → List ℕ → Option Refusal → Standing → Type 0
-TestsAt now (Stage.Before board) facts said refused new = (said ≡ []) × (refused ≡ Some Refusal.NoBus) × (new ≡ went now now.script (Some Refusal.NoBus))
+TestsAt now (Stage.Before board) facts said refused new = (said ≡ []) × (refused ≡ Some Refusal.NoBus) × (new ≡ went now now.script [] (Some Refusal.NoBus))
 TestsAt now (Stage.Running ran) facts said refused new =
     (said ≡ test_text now ran.state facts (is_met ran.state now.script.names now.before facts)) × (refused ≡ None) × (new ≡ tested now (is_met ran.state now.script.names now.before facts))
 
@@ -116,7 +124,7 @@ lasting_from now one false = record now { unmet = one_more now.unmet }
 
 -- an expectation that is to last is tested at once. Before the bus it is refused
 abbrev pub AlwaysAt : Standing → Stage → List Claim → List ℕ → Option Refusal → Standing → Type 0
-AlwaysAt now (Stage.Before board) facts said refused new = (said ≡ []) × (refused ≡ Some Refusal.NoBus) × (new ≡ went now now.script (Some Refusal.NoBus))
+AlwaysAt now (Stage.Before board) facts said refused new = (said ≡ []) × (refused ≡ Some Refusal.NoBus) × (new ≡ went now now.script [] (Some Refusal.NoBus))
 AlwaysAt now (Stage.Running ran) facts said refused new =
     let one : Lasting = record { number = now.lines; facts = facts } in
     let holds = is_met ran.state now.script.names now.before facts in

@@ -1,11 +1,12 @@
 -- What the lines of a script make of the bus.
 use Rattle.std.specs.Prelude.{◌≡◌, ℕ, List, [], ◌∷◌, ◌++◌, Option}
-use Rattle.std.proofs.Common.{inl, inr}
+use Rattle.std.proofs.Common.{inl, inr, refl}
 use Rattle.i3c_lines.specs.declared.refusals.Refusal.{Refusal}
 use Rattle.i3c_script.specs.declared.stage.Stage.{Stage}
 use Rattle.i3c_script.specs.Leading.{AreLegalBehind}
 use Rattle.i3c_script.specs.Making.{Made, command_made}
 use Rattle.i3c_script.specs.Obeying.{IsBegun, ScriptState}
+use Rattle.i3c_script.specs.Printed.{pieces_text}
 use Rattle.i3c_script.specs.Situations.{Situation, Told}
 use Rattle.i3c_runner.specs.Expecting.{HasBegun, Standing, counted}
 use Rattle.i3c_runner.specs.Scripts.{CountedRuns, Lead, LineDoes, LineRun, LinesLead}
@@ -26,7 +27,8 @@ abbrev pub counted_made : (now : Standing) (line said : List ℕ) (refused : Opt
 counted_made now line said refused new (inl bad) = []
 counted_made now line said refused new (inr (inl skipped)) = []
 counted_made now line said refused new (inr (inr (inl mark))) = []
-counted_made now line said refused new (inr (inr (inr (command, state, own, told, asks, obeys, text, lasts)))) = command_made now.script.stage now.script.names command own refused state obeys
+counted_made now line said refused new (inr (inr (inr (command, state, pieces, told, asks, comes, text, lasts)))) =
+    command_made now.script.stage now.script.names command (pieces_text pieces) refused state (pieces, comes, refl)
 
 -- the steps that lines of a script are, in order
 abbrev pub script_made : (old : Standing) (lines : List LineRun) (new : Standing) → LinesLead old lines new → List Made

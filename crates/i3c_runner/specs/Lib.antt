@@ -1,3 +1,4 @@
+pub mod Saying
 pub mod Expecting
 pub mod Scripts
 pub mod ScriptSteps

@@ -230,3 +230,19 @@ abbrev pub IsOutcomeTold : ℕ → List ℕ → Result (Unit {0}) (LineError Ref
 IsOutcomeTold number line (Ok done) waited after told = IsExplained number line None waited after told
 IsOutcomeTold number line (Err (LineError.Refused why)) waited after told = IsExplained number line (Some why) waited after told
 IsOutcomeTold number line (Err LineError.Memory) waited after told = ⊤
+
+-- what a test tells of a refused line: why it has no form, and of other refusals nothing
+abbrev pub IsFormTold : ℕ → List ℕ → Refusal → List ℕ → Type 0
+IsFormTold number line Refusal.BadLine told = IsFormNote number line told
+IsFormTold number line why told = told ≡ []
+
+-- the same of a line with this result
+abbrev pub IsJudged : ℕ → List ℕ → Result (Unit {0}) (LineError Refusal) → List ℕ → Type 0
+IsJudged number line (Ok done) told = told ≡ []
+IsJudged number line (Err (LineError.Refused why)) told = IsFormTold number line why told
+IsJudged number line (Err LineError.Memory) told = ⊤
+
+-- the same of a line with this refusal, if it was refused
+abbrev pub IsFormToldIf : ℕ → List ℕ → Option Refusal → List ℕ → Type 0
+IsFormToldIf number line None told = told ≡ []
+IsFormToldIf number line (Some why) told = IsFormTold number line why told

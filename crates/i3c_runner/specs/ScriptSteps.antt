@@ -7,7 +7,7 @@ use Rattle.i3c_text.specs.declared.line_error.LineError.{LineError}
 use Rattle.i3c_runner.specs.declared.script.Script.{Script}
 use Rattle.i3c_script.specs.Obeying.{script}
 use Rattle.i3c_script.specs.Telling.{Prints}
-use Rattle.i3c_facts.specs.declared.before.Before.{Before}
+use Rattle.i3c_facts.specs.declared.before.LineResult.{LineResult}
 use Rattle.i3c_runner.specs.Expecting.{LastsAt, Standing}
 use Rattle.i3c_streams.specs.Outcomes.{HasNoFeed, Output, Puts, PutsSome, written}
 use Rattle.i3c_runner.specs.Scripts.{CountedRuns, LineRun, LineRuns, LinesLead, OutBefore, lines_bytes, lines_out, lines_refused, refusals_of, refused_text}
@@ -18,7 +18,7 @@ pub record Progress : Type 0 where
   pub refused : ℕ
 
 abbrev pub state : Script → Standing
-state running = record { script = script running.stage running.names; lines = running.lines; before = running.before; unmet = running.unmet; lasting = running.lasting.items }
+state running = record { script = script running.stage running.names; lines = running.lines; before = record { result = running.ended; heard = running.said.heard }; unmet = running.unmet; lasting = running.lasting.items; formless = running.formless }
 
 abbrev pub progress : Script → Progress
 progress running = record { state = state running; refused = running.refused }
@@ -27,10 +27,14 @@ progress running = record { state = state running; refused = running.refused }
 abbrev pub Reads : Standing → List ℕ → List ℕ → List ℕ → Result (Unit {0}) (LineError Refusal) → Standing → Type 0
 Reads old line before after result new = Prints (λ said refused. LineRuns old line said refused new) before after result
 
+-- the line before was refused for this reason
+abbrev pub refused_so : Standing → Refusal → Standing
+refused_so now why = record now { before = record now.before { result = LineResult.Refused why } }
+
 -- a refusal is noted for the facts behind it
 abbrev pub noted : Standing → Result (Unit {0}) (LineError Refusal) → Standing
 noted now (Ok done) = now
-noted now (Err (LineError.Refused why)) = record now { before = Before.Refused why }
+noted now (Err (LineError.Refused why)) = refused_so now why
 noted now (Err LineError.Memory) = now
 
 -- the result of a line that was counted
@@ -47,7 +51,7 @@ Outlasts now before after (Ok done) (Ok same) new = HaveLasted now before after 
 Outlasts now before after (Ok done) (Err (LineError.Refused why)) new = ⊥
 Outlasts now before after (Ok done) (Err LineError.Memory) new = ⊤
 Outlasts now before after (Err (LineError.Refused why)) (Ok done) new = ⊥
-Outlasts now before after (Err (LineError.Refused why)) (Err (LineError.Refused same)) new = (same ≡ why) × HaveLasted (record now { before = Before.Refused why }) before after new
+Outlasts now before after (Err (LineError.Refused why)) (Err (LineError.Refused same)) new = (same ≡ why) × HaveLasted (refused_so now why) before after new
 Outlasts now before after (Err (LineError.Refused why)) (Err LineError.Memory) new = ⊤
 Outlasts now before after (Err LineError.Memory) (Ok done) new = ⊥
 Outlasts now before after (Err LineError.Memory) (Err (LineError.Refused why)) new = ⊥

@@ -7,10 +7,12 @@ use Rattle.i3c_lines.specs.Forms.{HasNoForm, IsCommand, IsSkipped}
 use Rattle.i3c_lines.specs.Refusing.{refusal_text}
 use Rattle.i3c_streams.specs.declared.faults.ScriptFault.{ScriptFault}
 use Rattle.i3c_streams.specs.declared.tally.Tally.{Tally}
-use Rattle.i3c_script.specs.Obeying.{Obeys, ScriptState}
+use Rattle.i3c_script.specs.declared.piece.Piece.{Piece}
+use Rattle.i3c_script.specs.Obeying.{ComesTo, Obeys, ScriptState}
+use Rattle.i3c_script.specs.Printed.{pieces_text}
 use Rattle.i3c_facts.specs.declared.marks.Mark.{Mark}
 use Rattle.i3c_facts.specs.Forms.{IsMark}
-use Rattle.i3c_runner.specs.Expecting.{HasBegun, IsBad, LastsAt, MarkDoes, Standing, counted, went}
+use Rattle.i3c_runner.specs.Expecting.{HasBegun, IsBad, LastsAt, MarkDoes, Standing, counted, misread, went}
 use Rattle.i3c_streams.specs.Outcomes.{AppendsSome, HasNoFeed}
 
 -- a line that was run: its bytes without the line feed, what it printed, and why it was refused, if it was
@@ -49,10 +51,10 @@ Lead old (run ∷ rest) new = (mid : ScriptState) × IsRun old run mid × Lead m
 -- mark that isn't refused isn't the previous line of a later fact. The lasting expectations that no longer hold follow the
 -- command's output
 abbrev pub CountedRuns : Standing → List ℕ → List ℕ → Option Refusal → Standing → Type 0
-CountedRuns now line said refused new = (IsBad line × (said ≡ []) × (refused ≡ Some Refusal.BadLine) × (new ≡ went now now.script (Some Refusal.BadLine)))
+CountedRuns now line said refused new = (IsBad line × (said ≡ []) × (refused ≡ Some Refusal.BadLine) × (new ≡ misread now))
     ⊎ (IsSkipped line × (said ≡ []) × (refused ≡ None) × (new ≡ now))
     ⊎ ((mark : Mark) × IsMark line mark × MarkDoes now mark said refused new)
-    ⊎ ((command : Command) × (state : ScriptState) × (own told : List ℕ) × IsCommand line command × Obeys now.script command own refused state × (said ≡ own ++ told) × LastsAt (went now state refused) state.stage told new)
+    ⊎ ((command : Command) × (state : ScriptState) × (pieces : List Piece) × (told : List ℕ) × IsCommand line command × ComesTo now.script.stage now.script.names command pieces refused state × (said ≡ pieces_text pieces ++ told) × LastsAt (went now state pieces refused) state.stage told new)
 
 -- the same of a line that comes next
 abbrev pub LineRuns : Standing → List ℕ → List ℕ → Option Refusal → Standing → Type 0

@@ -14,7 +14,8 @@ use Rattle.i3c_streams.specs.declared.watching.Watching.{Watching}
 use Rattle.i3c_runner.specs.declared.watched.WatchFault.{WatchFault}
 use Rattle.i3c_runner.specs.Expecting.{HasBegun, IsBad, Standing}
 use Rattle.i3c_streams.specs.Outcomes.{AppendsSome}
-use Rattle.i3c_runner.specs.Reasons.{IsExplained, IsOutcomeTold, cuts_on}
+use Rattle.i3c_streams.specs.Watching.{tells}
+use Rattle.i3c_runner.specs.Reasons.{IsExplained, IsFormToldIf, IsJudged, IsOutcomeTold, cuts_on}
 use Rattle.i3c_runner.specs.Scripts.{IsLineRun, LineRun, LineRuns, lines_bytes, lines_out, lines_refused, refusals_of, run_text}
 use Rattle.i3c_runner.specs.ScriptSteps.{Progress}
 
@@ -73,7 +74,7 @@ abbrev pub AreHeard : {T : Type 0} → Hears T → T → List (List ℕ) → T �
 AreHeard hears old [] new = new ≡ old
 AreHeard {T} hears old (told ∷ rest) new = (mid : T) × hears old told mid × AreHeard hears mid rest new
 
--- the same if explanations are asked for; otherwise a witness is told nothing
+-- the same if a witness is told something, and otherwise nothing
 abbrev pub HeardIf : {T : Type 0} → Hears T → Bool → T → List (List ℕ) → T → Type 0
 HeardIf hears true old texts new = AreHeard hears old texts new
 HeardIf hears false old texts new = new ≡ old
@@ -87,13 +88,16 @@ abbrev pub HeardBefore : {T : Type 0} → ScriptFault → Hears T → Bool → T
 HeardBefore ScriptFault.Write hears explain old texts new = HeardIf hears explain old texts new ⊎ HeardButLast hears explain old texts new
 HeardBefore fault hears explain old texts new = HeardIf hears explain old texts new
 
--- what is told of a line before which these cuts waited, if explanations are asked for
+-- what is told of a line before which these cuts waited: with explanations why it was refused, and in a test without them why it
+-- has no form
 abbrev pub IsTold : Watching → ℕ → List ℕ → Option Refusal → CutList → ScriptState → List ℕ → Type 0
-IsTold watching number line refused waited after told = watching.explain ≡ true → IsExplained number line refused waited after told
+IsTold watching number line refused waited after told =
+    (watching.explain ≡ true → IsExplained number line refused waited after told) × (watching.explain ≡ false → watching.test ≡ true → IsFormToldIf number line refused told)
 
 -- the same of a line with this result
 abbrev pub IsExplainedIf : Watching → ℕ → List ℕ → Result (Unit {0}) (LineError Refusal) → CutList → ScriptState → List ℕ → Type 0
-IsExplainedIf watching number line outcome waited after told = watching.explain ≡ true → IsOutcomeTold number line outcome waited after told
+IsExplainedIf watching number line outcome waited after told =
+    (watching.explain ≡ true → IsOutcomeTold number line outcome waited after told) × (watching.explain ≡ false → watching.test ≡ true → IsJudged number line outcome told)
 
 -- if explanations are asked for, the cuts that wait on a stage are known
 abbrev pub KnowsCuts : Watching → CutList → Stage → Type 0
@@ -107,7 +111,7 @@ pub record LineWatched {T : Type 0} (hears : Hears T) (watching : Watching) (num
   pub formed : IsFormed watching line
   pub does : LineRuns from.state line said refused to.state
   pub tells : IsTold watching number line refused waited to.state.script told
-  pub heard : HeardIf hears watching.explain before (told ∷ []) after
+  pub heard : HeardIf hears (tells watching) before (told ∷ []) after
   pub out : Appends old new (shown watching number (record { line = line; said = said; refused = refused }))
   pub count : to.refused ≡ min (from.refused + refusals_of refused) 18446744073709551615
 
@@ -155,7 +159,7 @@ pub record WatchedWhole {T : Type 0} (hears : Hears T) (watching : Watching) (kn
   pub lines : List LineRun
   pub texts : List (List ℕ)
   pub run : LinesTell watching 1 from.state lines texts to.state
-  pub heard : HeardIf hears watching.explain before texts after
+  pub heard : HeardIf hears (tells watching) before texts after
   pub formed : AreFormed watching lines
   pub all : IfSome known (λ script. lines_bytes lines ≡ script ++ 10 ∷ [])
   pub out : Appends old new (shown_out watching 1 lines)
@@ -168,7 +172,7 @@ pub record WatchedPart {T : Type 0} (hears : Hears T) (watching : Watching) (kno
   pub to : Standing
   pub rest : List ℕ
   pub run : LinesTell watching 1 from.state lines texts to
-  pub heard : HeardBefore fault hears watching.explain before texts after
+  pub heard : HeardBefore fault hears (tells watching) before texts after
   pub formed : AreFormed watching lines
   pub first : IfSome known (λ script. lines_bytes lines ++ rest ≡ script ++ 10 ∷ [])
   pub out : AppendsSome old new (shown_out watching 1 lines)
@@ -184,7 +188,7 @@ pub record WatchedTo {T : Type 0} (hears : Hears T) (watching : Watching) (known
   pub none : IsBad line
   pub why : IsLastReason (1 + length lines) line told
   pub run : LinesTell watching 1 from.state lines texts to
-  pub heard : HeardIf hears watching.explain before texts after
+  pub heard : HeardIf hears (tells watching) before texts after
   pub formed : AreFormed watching lines
   pub first : IfSome known (λ script. lines_bytes lines ++ (line ++ 10 ∷ rest) ≡ script ++ 10 ∷ [])
   pub out : Appends old new (shown_out watching 1 lines)
@@ -199,10 +203,16 @@ abbrev pub RunsWatched : {T : Type 0} → Hears T → Watching → Option (List 
 RunsWatched hears watching known old new before after from to result =
     MatchResult result (λ _. WatchedWhole hears watching known old new before after from to) (WatchedEnds hears watching known old new before after from)
 
--- the same from a script's start, with no line refused; the tally counts the refused ones, and the expectations that weren't met
+-- what a run counts: the refused lines, and the expectations that weren't met. A test counts no refusals, and lines without a
+-- form as expectations that weren't met
+abbrev pub counts_of : Watching → Progress → Tally
+counts_of watching to =
+    if watching.test then record { refused = 0; unmet = min (to.state.unmet + to.state.formless) 18446744073709551615 } else record { refused = to.refused; unmet = to.state.unmet }
+
+-- the same from a script's start, with no line refused, and what the run counts
 abbrev pub WatchedGoesOut : {T : Type 0} → Hears T → Watching → Option (List ℕ) → Option (List ℕ) → Option (List ℕ) → T → T → Result Tally WatchFault → Type 0
 WatchedGoesOut hears watching known old new before after result = (from : Progress) × HasBegun from.state × (from.refused ≡ 0)
-    × MatchResult result (λ tally. (to : Progress) × (to.refused ≡ tally.refused) × (to.state.unmet ≡ tally.unmet) × WatchedWhole hears watching known old new before after from to) (WatchedEnds hears watching known old new before after from)
+    × MatchResult result (λ tally. (to : Progress) × (tally ≡ counts_of watching to) × WatchedWhole hears watching known old new before after from to) (WatchedEnds hears watching known old new before after from)
 
 -- Without numbers and without the lines themselves, what goes out of lines is what they put out
 abbrev pub WatchedLinesPrintTheSame : Type 0

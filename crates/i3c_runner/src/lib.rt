@@ -1,5 +1,6 @@
 //! Whole scripts: one that is run, and what is told and shown of its lines.
 //!
+//! * `said` is what a line prints, and what facts know of its pieces.
 //! * `script` reads a script's lines, runs them and counts the refusals.
 //! * `expecting` prints whether expectations are met.
 //! * `lasting` tests those that last to the next `close`.
@@ -17,6 +18,7 @@ mod lasting;
 mod laws;
 mod output;
 mod reasons;
+mod said;
 mod script;
 mod viewed;
 mod watched;

@@ -4,7 +4,7 @@ ghost use Rattle.i3c_base.specs.State.{device_at};
 ghost use Rattle.i3c_lines.specs.Forms.{IsSkipped};
 ghost use Rattle.i3c_script.specs.Obeying.{script as state_of};
 ghost use Rattle.i3c_runner.specs.Expecting.{name_in_slot};
-ghost use Rattle.i3c_runner.specs.Reasons.{Adds, AreCutNotes, IsDoneAs, IsDoneNote, IsEntryNote, IsFirstTwin, IsFormNote, IsOutcomeTold, IsReadOf, IsRefusalNote, IsRefusedAs, IsTwin, IsTwinNote, active_stays_reason, bus_reason, cut_note, cuts_on, declare_reason, is_active_reason, legacy_reason, line_start, no_address_reason, no_answer_reason, not_capable_reason, reason_text, refusal_note, slot_note, slots_told, twin_note};
+ghost use Rattle.i3c_runner.specs.Reasons.{Adds, AreCutNotes, IsDoneAs, IsDoneNote, IsEntryNote, IsFirstTwin, IsFormNote, IsFormTold, IsJudged, IsOutcomeTold, IsReadOf, IsRefusalNote, IsRefusedAs, IsTwin, IsTwinNote, active_stays_reason, bus_reason, cut_note, cuts_on, declare_reason, is_active_reason, legacy_reason, line_start, no_address_reason, no_answer_reason, not_capable_reason, reason_text, refusal_note, slot_note, slots_told, twin_note};
 
 use crate::script::Script;
 use i3c_base::{Cuts, Identity, SLOTS, Slot};
@@ -114,6 +114,39 @@ fn explain_refused(
     match why {
         Refusal::BadLine => explain_form(script.alloc, number, line, text),
         _ => explain_refusal(&script.command, number, why, text),
+    }
+}
+
+/// Tells why a line that was just obeyed has no form, if it has none.
+pub(crate) fn judge(
+    alloc: Global,
+    number: u64,
+    line: &[u8],
+    outcome: &Result<(), LineError<Refusal>>,
+    text: &mut Text,
+) -> Result<(), AllocError>
+    ensures { OnOk result (Adds (IsJudged number line.now outcome.now) text.old text.new) }
+{
+    match outcome {
+        Ok(()) => Ok(()),
+        Err(LineError::Refused(why)) => judge_refused(alloc, number, line, why, text),
+        Err(LineError::Memory) => Err(AllocError),
+    }
+}
+
+/// The same of a line that was refused.
+fn judge_refused(
+    alloc: Global,
+    number: u64,
+    line: &[u8],
+    why: &Refusal,
+    text: &mut Text,
+) -> Result<(), AllocError>
+    ensures { OnOk result (Adds (IsFormTold number line.now why.now) text.old text.new) }
+{
+    match why {
+        Refusal::BadLine => explain_form(alloc, number, line, text),
+        _ => Ok(()),
     }
 }
 

@@ -3,21 +3,21 @@ ghost use Rattle.std.specs.Io.KnownBytes.{IsAtEnd};
 ghost use Rattle.i3c_lines.specs.Gathering.{gathered};
 ghost use Rattle.i3c_streams.specs.Outcomes.{HasNoFeed, output, written};
 ghost use Rattle.i3c_script.specs.Printed.{end_text};
-ghost use Rattle.i3c_facts.specs.declared.before.Before.{Before as BeforeValue};
 ghost use Rattle.i3c_text.specs.declared.line_error.LineError.{LineError as StopValue};
 ghost use Rattle.i3c_runner.specs.Scripts.{LinesGoOut, refused_text};
 ghost use Rattle.i3c_lines.specs.Forms.{HasNoForm};
 ghost use Rattle.i3c_runner.specs.Expecting.{AlwaysAt, HasBegun, MarkDoes, TestsAt};
 ghost use Rattle.i3c_runner.specs.Reasons.{IsReadOf};
 ghost use Rattle.i3c_script.specs.Telling.{Prints};
-ghost use Rattle.i3c_runner.specs.ScriptSteps.{HaveLasted, LineEnds, Outlasts, Reads, ReadsAll, ReadsCounted, Runs, Takes, noted, progress, state};
+ghost use Rattle.i3c_runner.specs.ScriptSteps.{HaveLasted, LineEnds, Outlasts, Reads, ReadsAll, ReadsCounted, Runs, Takes, noted, progress, refused_so, state};
 ghost use Rattle.i3c_streams.specs.Faults.{IsLineFault};
 ghost use Rattle.i3c_script.specs.Stops.{refusals};
 
 use crate::expecting::{push_met, push_unmet};
 use crate::lasting::{Lasting, keep, test_all, test_one};
 use crate::output::show_refusal;
-use i3c_facts::{Before, Facts, Mark, read_mark};
+use crate::said::Said;
+use i3c_facts::{Before, Facts, Heard, LineResult, Mark, read_mark};
 use i3c_lines::{Command, Line, Names, Refusal, is_skipped};
 use i3c_script::Stage;
 use i3c_streams::{
@@ -64,7 +64,7 @@ pub fn run_script<R: Read, W: Write>(
 struct Plain;
 
 /// The state of a running script: its bus and names, the partial line, the current command, that command's output, and output
-/// not yet written. For expectations it has the number of the line, the result of the last command, and the lasting ones.
+/// not yet written. For expectations it has the number of the line, how the last command ended, the lasting ones, and how many lines had no form.
 pub(crate) struct Script {
     pub(crate) alloc: Global,
     pub(crate) stage: Stage,
@@ -72,13 +72,14 @@ pub(crate) struct Script {
     line: Line,
     // the last that was read
     pub(crate) command: Command,
-    pub(crate) text: Text,
+    pub(crate) said: Said,
     gathered: Text,
     refused: u64,
     lines: u64,
-    before: Before,
+    ended: LineResult,
     unmet: u64,
     lasting: Vec<Lasting>,
+    pub(crate) formless: u64,
 }
 
 impl Script {
@@ -94,13 +95,14 @@ impl Script {
             names: Names::new(alloc),
             line: Line::new(),
             command: Command::Show,
-            text: Text::new(alloc),
+            said: Said::new(alloc),
             gathered: Text::new(alloc),
             refused: 0,
             lines: 0,
-            before: Before::Nothing,
+            ended: LineResult::Nothing,
             unmet: 0,
             lasting: Vec::new(alloc),
+            formless: 0,
         }
     }
 
@@ -220,10 +222,10 @@ impl Script {
         ensures held { self.new.line ≡ self.old.line }
         ensures ends { LineEnds line.now (output (W.contents out.old) self.old.gathered) (output (W.contents out.new) self.new.gathered) (progress self.old) (progress self.new) result }
     {
-        self.text.clear();
+        self.said.text.clear();
         let outcome = self.obey::<Plain>(line);
         self.settle::<Plain>(outcome)?;
-        gather(self.text.as_bytes(), &mut self.gathered, out)
+        gather(self.said.text.as_bytes(), &mut self.gathered, out)
     }
 
     /// Obeys a line, if it has a command or is a mark. `settle` notes a refusal. `K` names the caller, so that each caller
@@ -232,7 +234,7 @@ impl Script {
         ensures held { self.new.line ≡ self.old.line }
         ensures gathered { self.new.gathered ≡ self.old.gathered }
         ensures refused { self.new.refused ≡ self.old.refused }
-        ensures reads { Reads (state self.old) line.now self.old.text self.new.text result (noted (state self.new) result) }
+        ensures reads { Reads (state self.old) line.now self.old.said.text self.new.said.text result (noted (state self.new) result) }
         ensures meant { IsReadOf line.now result self.new.command }
     {
         self.lines = self.lines.saturating_add(1);
@@ -245,10 +247,13 @@ impl Script {
         match self.command.read::<K>(line) {
             Some(()) => {
                 // unless it is refused, which `settle` notes
-                self.before = Before::Done;
+                self.ended = LineResult::Done;
+                self.said.heard = Heard::nothing();
                 let outcome = self
                     .stage
-                    .obey::<K>(self.alloc, &mut self.names, &self.command, &mut self.text);
+                    .obey_heard::<K, Said>(
+                        self.alloc, &mut self.names, &self.command, &mut self.said,
+                    );
                 if self.lasting.is_empty() {
                     return outcome;
                 }
@@ -266,11 +271,15 @@ impl Script {
         ensures held { self.new.line ≡ self.old.line }
         ensures gathered { self.new.gathered ≡ self.old.gathered }
         ensures refused { self.new.refused ≡ self.old.refused }
-        ensures reads { ReadsCounted (state self.old) line.now self.old.text self.new.text result (noted (state self.new) result) }
+        ensures reads { ReadsCounted (state self.old) line.now self.old.said.text self.new.said.text result (noted (state self.new) result) }
     {
         match read_mark(self.alloc, line) {
             Ok(Some(mark)) => self.obey_read(mark),
-            Ok(None) => Err(LineError::Refused(Refusal::BadLine)),
+            Ok(None) => {
+                self.formless = self.formless.saturating_add(1);
+                self.said.heard = Heard::nothing();
+                Err(LineError::Refused(Refusal::BadLine))
+            }
             Err(_) => Err(LineError::Memory),
         }
     }
@@ -280,7 +289,7 @@ impl Script {
         ensures held { self.new.line ≡ self.old.line }
         ensures gathered { self.new.gathered ≡ self.old.gathered }
         ensures refused { self.new.refused ≡ self.old.refused }
-        ensures does { Prints (λ said refused. MarkDoes (state self.old) mark said refused (noted (state self.new) result)) self.old.text self.new.text result }
+        ensures does { Prints (λ said refused. MarkDoes (state self.old) mark said refused (noted (state self.new) result)) self.old.said.text self.new.said.text result }
     {
         match mark {
             Mark::Expect(facts) => self.test(&facts),
@@ -293,25 +302,37 @@ impl Script {
         }
     }
 
+    /// What facts know of the previous line.
+    fn before(&self) -> Before
+        ensures { result ≡ (state self.now).before }
+    {
+        Before {
+            result: self.ended,
+            heard: self.said.heard,
+        }
+    }
+
     /// Tests an expectation that is to last. It lasts if it holds.
     fn last(&mut self, facts: Facts) -> Result<(), LineError<Refusal>>
         ensures held { self.new.line ≡ self.old.line }
         ensures gathered { self.new.gathered ≡ self.old.gathered }
         ensures refused { self.new.refused ≡ self.old.refused }
-        ensures begins { Prints (λ said refused. AlwaysAt (state self.old) self.old.stage facts said refused (noted (state self.new) result)) self.old.text self.new.text result }
+        ensures begins { Prints (λ said refused. AlwaysAt (state self.old) self.old.stage facts said refused (noted (state self.new) result)) self.old.said.text self.new.said.text result }
     {
         let Stage::Running(running) = &self.stage else {
+            self.said.heard = Heard::nothing();
             return Err(LineError::Refused(Refusal::NoBus));
         };
         let number = self.lines;
         let one = Lasting { number, facts };
+        let before = self.before();
         if test_one(
             running.bus(),
             &self.names,
-            &self.before,
+            &before,
             &one,
             &mut self.unmet,
-            &mut self.text,
+            &mut self.said.text,
         )? {
             keep(&mut self.lasting, one)?;
         }
@@ -326,7 +347,7 @@ impl Script {
         ensures gathered { self.new.gathered ≡ self.old.gathered }
         ensures refused { self.new.refused ≡ self.old.refused }
         ensures command { self.new.command ≡ self.old.command }
-        ensures lasts { Outlasts (state self.old) self.old.text self.new.text outcome result (state self.new) }
+        ensures lasts { Outlasts (state self.old) self.old.said.text self.new.said.text outcome result (state self.new) }
     {
         match outcome {
             Ok(()) => {
@@ -344,9 +365,9 @@ impl Script {
         ensures gathered { self.new.gathered ≡ self.old.gathered }
         ensures refused { self.new.refused ≡ self.old.refused }
         ensures command { self.new.command ≡ self.old.command }
-        ensures lasts { Outlasts (state self.old) self.old.text self.new.text (Err (StopValue.Refused why.now)) result (state self.new) }
+        ensures lasts { Outlasts (state self.old) self.old.said.text self.new.said.text (Err (StopValue.Refused why.now)) result (state self.new) }
     {
-        self.before = Before::Refused(*why);
+        self.ended = LineResult::Refused(*why);
         self.retest()?;
         Err(LineError::Refused(*why))
     }
@@ -357,20 +378,21 @@ impl Script {
         ensures gathered { self.new.gathered ≡ self.old.gathered }
         ensures refused { self.new.refused ≡ self.old.refused }
         ensures command { self.new.command ≡ self.old.command }
-        ensures lasts { OnOk result (HaveLasted (state self.old) self.old.text self.new.text (state self.new)) }
+        ensures lasts { OnOk result (HaveLasted (state self.old) self.old.said.text self.new.said.text (state self.new)) }
     {
         let Stage::Running(running) = &self.stage else {
             return Ok(());
         };
         let lasting = mem::replace(&mut self.lasting, Vec::new(self.alloc));
+        let before = self.before();
         self.lasting = test_all(
             self.alloc,
             running.bus(),
             &self.names,
-            &self.before,
+            &before,
             lasting,
             &mut self.unmet,
-            &mut self.text,
+            &mut self.said.text,
         )?;
         Ok(())
     }
@@ -380,14 +402,16 @@ impl Script {
         ensures held { self.new.line ≡ self.old.line }
         ensures gathered { self.new.gathered ≡ self.old.gathered }
         ensures refused { self.new.refused ≡ self.old.refused }
-        ensures tests { Prints (λ said refused. TestsAt (state self.old) self.old.stage facts.now said refused (noted (state self.new) result)) self.old.text self.new.text result }
+        ensures tests { Prints (λ said refused. TestsAt (state self.old) self.old.stage facts.now said refused (noted (state self.new) result)) self.old.said.text self.new.said.text result }
     {
         let Stage::Running(running) = &self.stage else {
+            self.said.heard = Heard::nothing();
             return Err(LineError::Refused(Refusal::NoBus));
         };
         let bus = running.bus();
-        if facts.hold(bus, &self.names, &self.before) {
-            push_met(&mut self.text)?;
+        let before = self.before();
+        if facts.hold(bus, &self.names, &before) {
+            push_met(&mut self.said.text)?;
             return Ok(());
         }
         self.unmet = self.unmet.saturating_add(1);
@@ -395,10 +419,10 @@ impl Script {
         push_unmet(
             bus,
             &self.names,
-            &self.before,
+            &before,
             number,
             facts,
-            &mut self.text,
+            &mut self.said.text,
         )?;
         Ok(())
     }
@@ -410,7 +434,7 @@ impl Script {
     ) -> Result<(), ScriptFault>
         ensures fault { IfErr result (λ fault. fault ≡ ScriptFault.Memory) }
         ensures memory { outcome ≡ Err LineError.Memory → result ≡ Err ScriptFault.Memory }
-        ensures told { OnOk result (self.new.text ≡ self.old.text ++ end_text outcome) }
+        ensures told { OnOk result (self.new.said.text ≡ self.old.said.text ++ end_text outcome) }
         ensures counted { self.new.refused ≡ min (self.old.refused + refusals outcome) u64.MAX }
         ensures held { self.new.line ≡ self.old.line }
         ensures gathered { self.new.gathered ≡ self.old.gathered }
@@ -428,15 +452,15 @@ impl Script {
     /// Prints a refusal, counts it, and notes it for the facts behind it.
     fn refuse(&mut self, refusal: &Refusal) -> Result<(), ScriptFault>
         ensures fault { IfErr result (λ fault. fault ≡ ScriptFault.Memory) }
-        ensures told { OnOk result (self.new.text ≡ self.old.text ++ refused_text (Some refusal.now)) }
+        ensures told { OnOk result (self.new.said.text ≡ self.old.said.text ++ refused_text (Some refusal.now)) }
         ensures counted { self.new.refused ≡ min (self.old.refused + 1) u64.MAX }
         ensures held { self.new.line ≡ self.old.line }
         ensures gathered { self.new.gathered ≡ self.old.gathered }
-        ensures state { state self.new ≡ record (state self.old) { before = BeforeValue.Refused refusal.now } }
+        ensures state { state self.new ≡ refused_so (state self.old) refusal.now }
     {
         self.refused = self.refused.saturating_add(1);
-        self.before = Before::Refused(*refusal);
-        match show_refusal(refusal, &mut self.text) {
+        self.ended = LineResult::Refused(*refusal);
+        match show_refusal(refusal, &mut self.said.text) {
             Ok(()) => Ok(()),
             Err(_) => Err(ScriptFault::Memory),
         }
@@ -453,13 +477,14 @@ impl Script {
             names: _,
             line: _,
             command: _,
-            text: _,
+            said: _,
             gathered: _,
             refused,
             lines: _,
-            before: _,
+            ended: _,
             unmet,
             lasting: _,
+            formless: _,
         } = self;
         stage.retire();
         Tally { refused, unmet }

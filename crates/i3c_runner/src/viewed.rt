@@ -121,17 +121,17 @@ impl ViewedRun {
             Ok(()) => {}
             Err(fault) => return Err(fault),
         }
-        match viewer.view(line, self.script.text.as_bytes(), &self.wire) {
+        match viewer.view(line, self.script.said.text.as_bytes(), &self.wire) {
             Ok(()) => Ok(()),
             Err(failed) => Err(failed),
         }
     }
 
-    /// Runs a line. Its output is in `script.text` then, and its symbols are in `wire`.
+    /// Runs a line. Its output is in `script.said.text` then, and its symbols are in `wire`.
     fn obey(&mut self, line: &[u8]) -> Result<(), ScriptFault>
-        ensures { OnOk result (LineRan line.now self.new.script.text self.new.wire.items (progress self.old.script) (progress self.new.script)) }
+        ensures { OnOk result (LineRan line.now self.new.script.said.text self.new.wire.items (progress self.old.script) (progress self.new.script)) }
     {
-        self.script.text.clear();
+        self.script.said.text.clear();
         match self.script.stage.copy_wire(&mut self.before) {
             Ok(()) => {}
             Err(_) => return Err(ScriptFault::Memory),
@@ -147,7 +147,7 @@ impl ViewedRun {
     fn take_sent(&mut self) -> Result<(), ScriptFault>
         ensures sent { OnOk result (wire_on self.old.script.stage ≡ kept (self.old.before.items ++ self.new.wire.items)) }
         ensures state { progress self.new.script ≡ progress self.old.script }
-        ensures text { self.new.script.text ≡ self.old.script.text }
+        ensures text { self.new.script.said.text ≡ self.old.script.said.text }
     {
         match self.script.stage.copy_later(&mut self.wire) {
             Ok(()) => {}

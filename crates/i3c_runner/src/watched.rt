@@ -3,10 +3,11 @@ ghost use Rattle.std.specs.Fmt.{decimal};
 ghost use Rattle.std.specs.Io.KnownBytes.{Appends, IsAtEnd};
 ghost use Rattle.i3c_lines.specs.Faults.{IsFaultText};
 ghost use Rattle.i3c_runner.specs.Reasons.{IsReadOf};
-ghost use Rattle.i3c_runner.specs.Watched.{HeardIf, IsExplainedIf, KnowsCuts, WatchedGoesOut, numbered};
+ghost use Rattle.i3c_streams.specs.Watching.{tells};
+ghost use Rattle.i3c_runner.specs.Watched.{HeardIf, IsExplainedIf, KnowsCuts, WatchedGoesOut, counts_of, numbered};
 
 use crate::expecting::line_fault;
-use crate::reasons::Explainer;
+use crate::reasons::{Explainer, judge};
 use crate::script::Script;
 use i3c_lines::{FormFault, Refusal};
 use i3c_streams::{CHUNK, MOST_BYTES, ScriptFault, ScriptLines, Tally, Watching, write_out};
@@ -160,9 +161,9 @@ impl WatchedRun {
 
     /// Tells the witness of the line, if that is asked for.
     fn tell<T: Witness>(&self, witness: &mut T)
-        ensures { HeardIf T.hears self.now.watching.explain witness.old (self.now.told ∷ []) witness.new }
+        ensures { HeardIf T.hears (tells self.now.watching) witness.old (self.now.told ∷ []) witness.new }
     {
-        if self.watching.explain {
+        if self.watching.tells() {
             witness.tell(self.told.as_bytes());
         }
     }
@@ -191,7 +192,7 @@ impl WatchedRun {
         ensures knows { OnOk result (KnowsCuts self.old.watching self.new.known.cuts self.new.script.stage) }
         ensures watching { self.new.watching ≡ self.old.watching }
     {
-        self.script.text.clear();
+        self.script.said.text.clear();
         let outcome = self.script.obey::<Watched>(line);
         match self.explain(number, line, &outcome) {
             Ok(()) => {}
@@ -207,7 +208,7 @@ impl WatchedRun {
         }
     }
 
-    /// Explains the result of a line, if that is asked for.
+    /// Explains the result of a line, or says in a test why it has no form, if that is asked for.
     fn explain(
         &mut self,
         number: u64,
@@ -224,6 +225,8 @@ impl WatchedRun {
         if self.watching.explain {
             self.known
                 .explain(&self.script, number, line, outcome, &mut self.told)
+        } else if self.watching.test {
+            judge(self.script.alloc, number, line, outcome, &mut self.told)
         } else {
             Ok(())
         }
@@ -231,14 +234,14 @@ impl WatchedRun {
 
     /// Shows the line that was obeyed.
     fn show(&mut self, number: u64, line: &[u8]) -> Result<(), AllocError>
-        ensures shown { OnOk result (self.new.shown ≡ numbered_by self.old.watching number (echoed self.old.watching line.now ++ self.old.script.text)) }
+        ensures shown { OnOk result (self.new.shown ≡ numbered_by self.old.watching number (echoed self.old.watching line.now ++ self.old.script.said.text)) }
         ensures script { self.new.script ≡ self.old.script }
         ensures told { self.new.told ≡ self.old.told }
         ensures known { self.new.known ≡ self.old.known }
         ensures watching { self.new.watching ≡ self.old.watching }
     {
         self.echo(line)?;
-        self.plain.push(self.script.text.as_bytes())?;
+        self.plain.push(self.script.said.text.as_bytes())?;
         self.number(number)
     }
 
@@ -279,20 +282,27 @@ impl WatchedRun {
         }
     }
 
-    /// Ends the run, and answers how many lines were refused and how many expectations weren't met.
+    /// Ends the run, and answers what it counts.
     fn retire(self) -> Tally
-        ensures refused { result.refused ≡ self.script.refused }
-        ensures unmet { result.unmet ≡ self.script.unmet }
+        ensures { result ≡ counts_of self.watching (progress self.script) }
     {
         let WatchedRun {
             script,
-            watching: _,
+            watching,
             known: _,
             plain: _,
             shown: _,
             told: _,
         } = self;
-        script.retire()
+        let formless = script.formless;
+        let Tally { refused, unmet } = script.retire();
+        if watching.test {
+            return Tally {
+                refused: 0,
+                unmet: unmet.saturating_add(formless),
+            };
+        }
+        Tally { refused, unmet }
     }
 }
 

@@ -3,7 +3,7 @@ use Rattle.std.proofs.Common.{◌≡◌, ℕ, false, List, Option, Result, refl,
 use Rattle.std.specs.Prelude.{MatchResult}
 use Rattle.i3c_bus.proofs.Nearby.{raised_near}
 use Rattle.i3c_facts.specs.declared.before.Before.{Before}
-use Rattle.i3c_facts.specs.Holding.{came_to}
+use Rattle.i3c_facts.specs.Hearing.{came_to}
 use Rattle.i3c_lines.specs.declared.command.Command.{Command}
 use Rattle.i3c_lines.specs.declared.refusals.Refusal.{Refusal}
 use Rattle.i3c_script.specs.declared.piece.Piece.{Piece}
@@ -33,12 +33,13 @@ no_cut old (Risk.Two one other) ways = refl
 
 -- a raise is what the line does, in all ways
 pub raise_runs : (old new : Seen) (command : Option Command) (risk : Risk) (before : Before) (slot : ℕ) (byte : Option ℕ) (pieces : List Piece) (refused : Option Refusal) → RaisesIn old command slot byte → new.names ≡ old.names
-    → Answers no_past (on_bus old) (Event.Raise slot byte) pieces refused (on_bus new) → before ≡ came_to refused → (ways : Ways) → RunsIn old command risk ways before new
+    → Answers no_past (on_bus old) (Event.Raise slot byte) pieces refused (on_bus new) → before ≡ came_to pieces refused → (ways : Ways) → RunsIn old command risk ways before new
 raise_runs old new command risk before slot byte pieces refused r names answers came ways = subst (λ (c : Option Command). RunsIn old c risk ways before new) (sym r.raise) (
+  pieces,
   refused,
-  subst (λ (s : Seen). Does s (Command.Raise r.name byte) refused new) (sym (no_cut old risk ways)) (
-    pieces,
-    (names, subst (λ (s : Result ℕ Refusal). MatchResult s (λ slot. Answers no_past (on_bus old) (Event.Raise slot byte) pieces refused (on_bus new)) (λ why. (on_bus new ≡ on_bus old) × IsRefused why pieces refused)) (sym r.named) answers),
+  subst (λ (s : Seen). Does s (Command.Raise r.name byte) pieces refused new) (sym (no_cut old risk ways)) (
+    names,
+    subst (λ (s : Result ℕ Refusal). MatchResult s (λ slot. Answers no_past (on_bus old) (Event.Raise slot byte) pieces refused (on_bus new)) (λ why. (on_bus new ≡ on_bus old) × IsRefused why pieces refused)) (sym r.named) answers,
   ),
   came,
 )

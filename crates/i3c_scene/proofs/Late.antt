@@ -147,79 +147,67 @@ assigns_late old pieces refused new s bit other late (inr (why, moves, told, is)
 )
 
 -- a command that sends a frame does the same with a late cut
-does_late : (old : Seen) (command : Command) (refused : Option Refusal) (new : Seen) (s bit : ℕ) → sends command ≡ true → s ≢ old.state.active → last_bit old.state command < bit
-    → Does old command refused new → Does (with_cuts old (cut_at old.cuts s bit)) command refused new
-does_late old (Command.Frame frame) refused new s bit e other late (pieces, (same, (fixed, accepts, (reply, moves, told)))) =
+does_late : (old : Seen) (command : Command) (pieces : List Piece) (refused : Option Refusal) (new : Seen) (s bit : ℕ) → sends command ≡ true → s ≢ old.state.active → last_bit old.state command < bit
+    → Does old command pieces refused new → Does (with_cuts old (cut_at old.cuts s bit)) command pieces refused new
+does_late old (Command.Frame frame) pieces refused new s bit e other late (same, (fixed, accepts, (reply, moves, told))) =
     let cuts = cut_at old.cuts s bit in (
-      pieces,
+      same,
       (
-        same,
+        fixed,
+        accepts,
         (
-          fixed,
-          accepts,
-          (
-            reply,
-            moves_as old cuts (event_of frame fixed old.cuts) (event_of frame fixed cuts) reply new (frame_left frame fixed old.cuts cuts) (frame_late old.state frame fixed old.cuts reply new.state s bit other late) moves,
-            subst (λ subject. IsTold subject (reply_from old.settings.forgotten reply) pieces refused) (sym (one_subject frame fixed old.cuts) ∙ one_subject frame fixed cuts) told,
-          ),
+          reply,
+          moves_as old cuts (event_of frame fixed old.cuts) (event_of frame fixed cuts) reply new (frame_left frame fixed old.cuts cuts) (frame_late old.state frame fixed old.cuts reply new.state s bit other late) moves,
+          subst (λ subject. IsTold subject (reply_from old.settings.forgotten reply) pieces refused) (sym (one_subject frame fixed old.cuts) ∙ one_subject frame fixed cuts) told,
         ),
       ),
     )
-does_late old (Command.HandOver to) refused new s bit e other late (pieces, (same, (reply, moves, told))) = (
-  pieces,
+does_late old (Command.HandOver to) pieces refused new s bit e other late (same, (reply, moves, told)) = (
+  same,
   (
-    same,
-    (
-      reply,
-      moves_as old (cut_at old.cuts s bit) (Event.HandOver to old.cuts) (Event.HandOver to (cut_at old.cuts s bit)) reply new refl
-          (step_late old.state (Event.HandOver to old.cuts) reply new.state s bit other late) moves,
-      told,
-    ),
+    reply,
+    moves_as old (cut_at old.cuts s bit) (Event.HandOver to old.cuts) (Event.HandOver to (cut_at old.cuts s bit)) reply new refl
+        (step_late old.state (Event.HandOver to old.cuts) reply new.state s bit other late) moves,
+    told,
   ),
 )
-does_late old Command.Open refused new s bit e other late (pieces, (same, (reply, moves, told))) = (
-  pieces,
+does_late old Command.Open pieces refused new s bit e other late (same, (reply, moves, told)) = (
+  same,
   (
-    same,
-    (
-      reply,
-      moves_as old (cut_at old.cuts s bit) (Event.OpenDaa old.cuts) (Event.OpenDaa (cut_at old.cuts s bit)) reply new refl
-          (step_late old.state (Event.OpenDaa old.cuts) reply new.state s bit other late) moves,
-      told,
-    ),
+    reply,
+    moves_as old (cut_at old.cuts s bit) (Event.OpenDaa old.cuts) (Event.OpenDaa (cut_at old.cuts s bit)) reply new refl
+        (step_late old.state (Event.OpenDaa old.cuts) reply new.state s bit other late) moves,
+    told,
   ),
 )
-does_late old Command.Round refused new s bit e other late (pieces, (same, (reply, moves, told))) = (
-  pieces,
+does_late old Command.Round pieces refused new s bit e other late (same, (reply, moves, told)) = (
+  same,
   (
-    same,
-    (
-      reply,
-      moves_as old (cut_at old.cuts s bit) (Event.Round old.cuts) (Event.Round (cut_at old.cuts s bit)) reply new refl
-          (step_late old.state (Event.Round old.cuts) reply new.state s bit other late) moves,
-      told,
-    ),
+    reply,
+    moves_as old (cut_at old.cuts s bit) (Event.Round old.cuts) (Event.Round (cut_at old.cuts s bit)) reply new refl
+        (step_late old.state (Event.Round old.cuts) reply new.state s bit other late) moves,
+    told,
   ),
 )
-does_late old Command.Daa refused new s bit e other late (pieces, (same, assigns)) = (pieces, (same, assigns_late old pieces refused new s bit other late assigns))
-does_late old (Command.Attach name setup) refused new s bit e other late does = absurd cc
-does_late old (Command.DropOff name) refused new s bit e other late does = absurd cc
-does_late old (Command.Raise name byte) refused new s bit e other late does = absurd cc
-does_late old (Command.AskJoin name) refused new s bit e other late does = absurd cc
-does_late old (Command.AskRole name) refused new s bit e other late does = absurd cc
-does_late old Command.End refused new s bit e other late does = absurd cc
-does_late old (Command.Policy kinds) refused new s bit e other late does = absurd cc
-does_late old (Command.Cut name at) refused new s bit e other late does = absurd cc
-does_late old (Command.PolicyBut kinds but) refused new s bit e other late does = absurd cc
-does_late old (Command.Forget last) refused new s bit e other late does = absurd cc
-does_late old Command.Show refused new s bit e other late does = absurd cc
-does_late old Command.ShowAll refused new s bit e other late does = absurd cc
-does_late old (Command.ShowFrom first) refused new s bit e other late does = absurd cc
-does_late old Command.Symbols refused new s bit e other late does = absurd cc
-does_late old (Command.Frames count) refused new s bit e other late does = absurd cc
-does_late old (Command.Legacy name address lvr) refused new s bit e other late does = absurd cc
-does_late old (Command.Declare address identity) refused new s bit e other late does = absurd cc
-does_late old (Command.Main name setup) refused new s bit e other late does = absurd cc
+does_late old Command.Daa pieces refused new s bit e other late (same, assigns) = (same, assigns_late old pieces refused new s bit other late assigns)
+does_late old (Command.Attach name setup) pieces refused new s bit e other late does = absurd cc
+does_late old (Command.DropOff name) pieces refused new s bit e other late does = absurd cc
+does_late old (Command.Raise name byte) pieces refused new s bit e other late does = absurd cc
+does_late old (Command.AskJoin name) pieces refused new s bit e other late does = absurd cc
+does_late old (Command.AskRole name) pieces refused new s bit e other late does = absurd cc
+does_late old Command.End pieces refused new s bit e other late does = absurd cc
+does_late old (Command.Policy kinds) pieces refused new s bit e other late does = absurd cc
+does_late old (Command.Cut name at) pieces refused new s bit e other late does = absurd cc
+does_late old (Command.PolicyBut kinds but) pieces refused new s bit e other late does = absurd cc
+does_late old (Command.Forget last) pieces refused new s bit e other late does = absurd cc
+does_late old Command.Show pieces refused new s bit e other late does = absurd cc
+does_late old Command.ShowAll pieces refused new s bit e other late does = absurd cc
+does_late old (Command.ShowFrom first) pieces refused new s bit e other late does = absurd cc
+does_late old Command.Symbols pieces refused new s bit e other late does = absurd cc
+does_late old (Command.Frames count) pieces refused new s bit e other late does = absurd cc
+does_late old (Command.Legacy name address lvr) pieces refused new s bit e other late does = absurd cc
+does_late old (Command.Declare address identity) pieces refused new s bit e other late does = absurd cc
+does_late old (Command.Main name setup) pieces refused new s bit e other late does = absurd cc
 
 -- a slot that may be cut in a command's frame: the command sends one, its last bit is below `last`, and the slot isn't the active controller's
 record MayLose (st : State) (command : Command) (slot : Option ℕ) (last : ℕ) : Type 0 where
@@ -253,14 +241,14 @@ may_lose old command name = record { sent = slot_sent old (sends command) name; 
 
 -- a way covers another, in each scene of this bus: what it does, the other does too
 abbrev Covers : State → Command → Option ℕ → ℕ → ℕ → Type 0
-Covers st command slot tried way = (old : Seen) → old.state ≡ st → (refused : Option Refusal) → (new : Seen) → Does (cut_in old slot tried) command refused new → Does (cut_in old slot way) command refused new
+Covers st command slot tried way = (old : Seen) → old.state ≡ st → (pieces : List Piece) → (refused : Option Refusal) → (new : Seen) → Does (cut_in old slot tried) command pieces refused new → Does (cut_in old slot way) command pieces refused new
 
 -- the way in which nobody is cut covers each way over the last one
-late_way : (old : Seen) (command : Command) (slot : Option ℕ) (last way : ℕ) (refused : Option Refusal) (new : Seen) → MayLose old.state command slot last → last < way
-    → Does (cut_in old slot 0) command refused new → Does (cut_in old slot way) command refused new
-late_way old command None last way refused new may late does = does
-late_way old command (Some s) last zero refused new may late does = does
-late_way old command (Some s) last (suc bit) refused new may late does = does_late old command refused new s bit (may.sent s refl) (may.other s refl) (omega (arith, late, may.ended)) does
+late_way : (old : Seen) (command : Command) (slot : Option ℕ) (last way : ℕ) (pieces : List Piece) (refused : Option Refusal) (new : Seen) → MayLose old.state command slot last → last < way
+    → Does (cut_in old slot 0) command pieces refused new → Does (cut_in old slot way) command pieces refused new
+late_way old command None last way pieces refused new may late does = does
+late_way old command (Some s) last zero pieces refused new may late does = does
+late_way old command (Some s) last (suc bit) pieces refused new may late does = does_late old command pieces refused new s bit (may.sent s refl) (may.other s refl) (omega (arith, late, may.ended)) does
 
 within_is : (last way : ℕ) → (within last way ≡ way) ⊎ ((within last way ≡ 0) × (last < way))
 within_is last way = elim (leb_tells way last) [
@@ -269,10 +257,10 @@ within_is last way = elim (leb_tells way last) [
 ]
 
 within_covers : (st : State) (command : Command) (slot : Option ℕ) (last way : ℕ) → MayLose st command slot last → Covers st command slot (within last way) way
-within_covers st command slot last way may old same refused new does = elim (within_is last way) [
-  | inl is ↦ subst (λ (w : ℕ). Does (cut_in old slot w) command refused new) is does
+within_covers st command slot last way may old same pieces refused new does = elim (within_is last way) [
+  | inl is ↦ subst (λ (w : ℕ). Does (cut_in old slot w) command pieces refused new) is does
   | inr (is, late) ↦
-      late_way old command slot last way refused new (subst (λ (at : State). MayLose at command slot last) (sym same) may) late (subst (λ (w : ℕ). Does (cut_in old slot w) command refused new) is does)
+      late_way old command slot last way pieces refused new (subst (λ (at : State). MayLose at command slot last) (sym same) may) late (subst (λ (w : ℕ). Does (cut_in old slot w) command pieces refused new) is does)
 ]
 
 -- the way that is tried for a way of a slot's device; without a slot it is way 0
@@ -281,8 +269,8 @@ tried_for None last way = 0
 tried_for (Some s) last way = within last way
 
 tried_covers : (st : State) (command : Command) (slot : Option ℕ) (last way : ℕ) → MayLose st command slot last → Covers st command slot (tried_for slot last way) way
-tried_covers st command None last way may old same refused new does = does
-tried_covers st command (Some s) last way may old same refused new does = within_covers st command (Some s) last way may old same refused new does
+tried_covers st command None last way may old same pieces refused new does = does
+tried_covers st command (Some s) last way may old same pieces refused new does = within_covers st command (Some s) last way may old same pieces refused new does
 
 within_last : (last way : ℕ) → within last way ≤ last
 within_last last way = elim (leb_tells way last) [
@@ -320,30 +308,31 @@ cut_keeps old (Some s) zero = refl
 cut_keeps old (Some s) (suc way) = refl
 
 -- two ways cover two others
-both_cover : (old : Seen) (command : Command) (first second : Option ℕ) (tried tested one other : ℕ) → Covers old.state command first tried one → Covers old.state command second tested other → (refused : Option Refusal) (new : Seen)
-    → Does (cut_in (cut_in old first tried) second tested) command refused new → Does (cut_in (cut_in old first one) second other) command refused new
-both_cover old command first second tried tested one other for_one for_other refused new does =
-    let later = for_other (cut_in old first tried) (cut_keeps old first tried) refused new does in
-    let turned = subst (λ (s : Seen). Does s command refused new) (cut_in_commutes old first second tried other) later in
-    let both = for_one (cut_in old second other) (cut_keeps old second other) refused new turned in
-    subst (λ (s : Seen). Does s command refused new) (cut_in_commutes old second first other one) both
+both_cover : (old : Seen) (command : Command) (first second : Option ℕ) (tried tested one other : ℕ) → Covers old.state command first tried one → Covers old.state command second tested other → (pieces : List Piece) (refused : Option Refusal) (new : Seen)
+    → Does (cut_in (cut_in old first tried) second tested) command pieces refused new → Does (cut_in (cut_in old first one) second other) command pieces refused new
+both_cover old command first second tried tested one other for_one for_other pieces refused new does =
+    let later = for_other (cut_in old first tried) (cut_keeps old first tried) pieces refused new does in
+    let turned = subst (λ (s : Seen). Does s command pieces refused new) (cut_in_commutes old first second tried other) later in
+    let both = for_one (cut_in old second other) (cut_keeps old second other) pieces refused new turned in
+    subst (λ (s : Seen). Does s command pieces refused new) (cut_in_commutes old second first other one) both
 
 -- the ways that are tried for a way do what that does
 pub runs_tried : (old : Seen) (command : Option Command) (risk : Risk) (before : Before) (new : Seen) (way : ℕ) → RunsIn old command risk (tried_as old.state risk command way) before new → Runs old command risk way before new
 runs_tried old None risk before new way runs = runs
 runs_tried old (Some command) Risk.Nobody before new way runs = runs
-runs_tried old (Some command) (Risk.One name) before new way (refused, does, came) =
+runs_tried old (Some command) (Risk.One name) before new way (pieces, refused, does, came) =
     let last = suc (last_bit old.state command) in
     let slot = slot_at_risk old (sends command) name in
-    (refused, within_covers old.state command slot last way (may_lose old command name) old refl refused new does, came)
-runs_tried old (Some command) (Risk.Two name other) before new way (refused, does, came) =
+    (pieces, refused, within_covers old.state command slot last way (may_lose old command name) old refl pieces refused new does, came)
+runs_tried old (Some command) (Risk.Two name other) before new way (pieces, refused, does, came) =
     let ways = pair way in
     let last = suc (last_bit old.state command) in
     let first = slot_at_risk old (sends command) name in
     let second = slot_at_risk old (sends command) other in (
+      pieces,
       refused,
       both_cover old command first second (within last ways.one) (within last ways.other) ways.one ways.other
-          (within_covers old.state command first last ways.one (may_lose old command name)) (within_covers old.state command second last ways.other (may_lose old command other)) refused new does,
+          (within_covers old.state command first last ways.one (may_lose old command name)) (within_covers old.state command second last ways.other (may_lose old command other)) pieces refused new does,
       came,
     )
 
@@ -360,7 +349,7 @@ way_tried old (Some command) (Risk.One name) way =
       tried_for slot last way,
       (
         tried_last slot last way,
-        λ before new (refused, does, came). (refused, tried_covers old.state command slot last way (may_lose old command name) old refl refused new does, came),
+        λ before new (pieces, refused, does, came). (pieces, refused, tried_covers old.state command slot last way (may_lose old command name) old refl pieces refused new does, came),
       ),
     )
 way_tried old (Some command) (Risk.Two name other) way =
@@ -378,10 +367,11 @@ way_tried old (Some command) (Risk.Two name other) way =
       number,
       (
         le,
-        λ before new runs. let (refused, does, came) = subst (λ (w : Ways). RunsIn old (Some command) (Risk.Two name other) w before new) is runs in (
+        λ before new runs. let (pieces, refused, does, came) = subst (λ (w : Ways). RunsIn old (Some command) (Risk.Two name other) w before new) is runs in (
+          pieces,
           refused,
           both_cover old command first second one two ways.one ways.other
-              (tried_covers old.state command first last ways.one (may_lose old command name)) (tried_covers old.state command second last ways.other (may_lose old command other)) refused new does,
+              (tried_covers old.state command first last ways.one (may_lose old command name)) (tried_covers old.state command second last ways.other (may_lose old command other)) pieces refused new does,
           came,
         ),
       ),

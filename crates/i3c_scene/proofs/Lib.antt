@@ -2,3 +2,4 @@ mod Pairs
 pub mod Late
 mod Behind
 mod Setting
+mod Ran

@@ -70,30 +70,30 @@ keeps old new names (Command.Legacy name address lvr) pieces refused n h = same_
 keeps old new names (Command.Declare address identity) pieces refused n h = same_kept old old new refl h.0
 keeps old new names (Command.Main name setup) pieces refused n h = same_kept old old new refl h.0
 
-does_same : (old new : Seen) (command : Command) (refused : Option Refusal) → sets_some (Some command) ≡ false → Does old command refused new → HasSameSettings old new
-does_same old new (Command.Frame frame) refused n (pieces, (same, h)) = record { settings = keeps (on_bus old) (on_bus new) old.names (Command.Frame frame) pieces refused n h; names = same }
-does_same old new (Command.DropOff name) refused n (pieces, (same, h)) = record { settings = keeps (on_bus old) (on_bus new) old.names (Command.DropOff name) pieces refused n h; names = same }
-does_same old new (Command.Raise name byte) refused n (pieces, (same, h)) = record { settings = keeps (on_bus old) (on_bus new) old.names (Command.Raise name byte) pieces refused n h; names = same }
-does_same old new (Command.AskJoin name) refused n (pieces, (same, h)) = record { settings = keeps (on_bus old) (on_bus new) old.names (Command.AskJoin name) pieces refused n h; names = same }
-does_same old new (Command.AskRole name) refused n (pieces, (same, h)) = record { settings = keeps (on_bus old) (on_bus new) old.names (Command.AskRole name) pieces refused n h; names = same }
-does_same old new (Command.HandOver to) refused n (pieces, (same, h)) = record { settings = keeps (on_bus old) (on_bus new) old.names (Command.HandOver to) pieces refused n h; names = same }
-does_same old new (Command.Open) refused n (pieces, (same, h)) = record { settings = keeps (on_bus old) (on_bus new) old.names (Command.Open) pieces refused n h; names = same }
-does_same old new (Command.Round) refused n (pieces, (same, h)) = record { settings = keeps (on_bus old) (on_bus new) old.names (Command.Round) pieces refused n h; names = same }
-does_same old new (Command.End) refused n (pieces, (same, h)) = record { settings = keeps (on_bus old) (on_bus new) old.names (Command.End) pieces refused n h; names = same }
-does_same old new (Command.Daa) refused n (pieces, (same, h)) = record { settings = keeps (on_bus old) (on_bus new) old.names (Command.Daa) pieces refused n h; names = same }
-does_same old new (Command.Policy kinds) refused n (pieces, (same, h)) = record { settings = keeps (on_bus old) (on_bus new) old.names (Command.Policy kinds) pieces refused n h; names = same }
-does_same old new (Command.PolicyBut kinds but) refused n (pieces, (same, h)) = record { settings = keeps (on_bus old) (on_bus new) old.names (Command.PolicyBut kinds but) pieces refused n h; names = same }
-does_same old new (Command.Cut name bit) refused n (pieces, (same, h)) = record { settings = keeps (on_bus old) (on_bus new) old.names (Command.Cut name bit) pieces refused n h; names = same }
-does_same old new (Command.Show) refused n (pieces, (same, h)) = record { settings = keeps (on_bus old) (on_bus new) old.names (Command.Show) pieces refused n h; names = same }
-does_same old new (Command.ShowAll) refused n (pieces, (same, h)) = record { settings = keeps (on_bus old) (on_bus new) old.names (Command.ShowAll) pieces refused n h; names = same }
-does_same old new (Command.ShowFrom first) refused n (pieces, (same, h)) = record { settings = keeps (on_bus old) (on_bus new) old.names (Command.ShowFrom first) pieces refused n h; names = same }
-does_same old new (Command.Forget last) refused n (pieces, (same, h)) = record { settings = keeps (on_bus old) (on_bus new) old.names (Command.Forget last) pieces refused n h; names = same }
-does_same old new (Command.Symbols) refused n (pieces, (same, h)) = record { settings = keeps (on_bus old) (on_bus new) old.names (Command.Symbols) pieces refused n h; names = same }
-does_same old new (Command.Frames count) refused n (pieces, (same, h)) = record { settings = keeps (on_bus old) (on_bus new) old.names (Command.Frames count) pieces refused n h; names = same }
-does_same old new (Command.Legacy name address lvr) refused n (pieces, (same, h)) = record { settings = keeps (on_bus old) (on_bus new) old.names (Command.Legacy name address lvr) pieces refused n h; names = same }
-does_same old new (Command.Declare address identity) refused n (pieces, (same, h)) = record { settings = keeps (on_bus old) (on_bus new) old.names (Command.Declare address identity) pieces refused n h; names = same }
-does_same old new (Command.Main name setup) refused n (pieces, (same, h)) = record { settings = keeps (on_bus old) (on_bus new) old.names (Command.Main name setup) pieces refused n h; names = same }
-does_same old new (Command.Attach name setup) refused n h = absurd (false≢true (sym n))
+does_same : (old new : Seen) (command : Command) (pieces : List Piece) (refused : Option Refusal) → sets_some (Some command) ≡ false → Does old command pieces refused new → HasSameSettings old new
+does_same old new (Command.Frame frame) pieces refused n (same, h) = record { settings = keeps (on_bus old) (on_bus new) old.names (Command.Frame frame) pieces refused n h; names = same }
+does_same old new (Command.DropOff name) pieces refused n (same, h) = record { settings = keeps (on_bus old) (on_bus new) old.names (Command.DropOff name) pieces refused n h; names = same }
+does_same old new (Command.Raise name byte) pieces refused n (same, h) = record { settings = keeps (on_bus old) (on_bus new) old.names (Command.Raise name byte) pieces refused n h; names = same }
+does_same old new (Command.AskJoin name) pieces refused n (same, h) = record { settings = keeps (on_bus old) (on_bus new) old.names (Command.AskJoin name) pieces refused n h; names = same }
+does_same old new (Command.AskRole name) pieces refused n (same, h) = record { settings = keeps (on_bus old) (on_bus new) old.names (Command.AskRole name) pieces refused n h; names = same }
+does_same old new (Command.HandOver to) pieces refused n (same, h) = record { settings = keeps (on_bus old) (on_bus new) old.names (Command.HandOver to) pieces refused n h; names = same }
+does_same old new (Command.Open) pieces refused n (same, h) = record { settings = keeps (on_bus old) (on_bus new) old.names (Command.Open) pieces refused n h; names = same }
+does_same old new (Command.Round) pieces refused n (same, h) = record { settings = keeps (on_bus old) (on_bus new) old.names (Command.Round) pieces refused n h; names = same }
+does_same old new (Command.End) pieces refused n (same, h) = record { settings = keeps (on_bus old) (on_bus new) old.names (Command.End) pieces refused n h; names = same }
+does_same old new (Command.Daa) pieces refused n (same, h) = record { settings = keeps (on_bus old) (on_bus new) old.names (Command.Daa) pieces refused n h; names = same }
+does_same old new (Command.Policy kinds) pieces refused n (same, h) = record { settings = keeps (on_bus old) (on_bus new) old.names (Command.Policy kinds) pieces refused n h; names = same }
+does_same old new (Command.PolicyBut kinds but) pieces refused n (same, h) = record { settings = keeps (on_bus old) (on_bus new) old.names (Command.PolicyBut kinds but) pieces refused n h; names = same }
+does_same old new (Command.Cut name bit) pieces refused n (same, h) = record { settings = keeps (on_bus old) (on_bus new) old.names (Command.Cut name bit) pieces refused n h; names = same }
+does_same old new (Command.Show) pieces refused n (same, h) = record { settings = keeps (on_bus old) (on_bus new) old.names (Command.Show) pieces refused n h; names = same }
+does_same old new (Command.ShowAll) pieces refused n (same, h) = record { settings = keeps (on_bus old) (on_bus new) old.names (Command.ShowAll) pieces refused n h; names = same }
+does_same old new (Command.ShowFrom first) pieces refused n (same, h) = record { settings = keeps (on_bus old) (on_bus new) old.names (Command.ShowFrom first) pieces refused n h; names = same }
+does_same old new (Command.Forget last) pieces refused n (same, h) = record { settings = keeps (on_bus old) (on_bus new) old.names (Command.Forget last) pieces refused n h; names = same }
+does_same old new (Command.Symbols) pieces refused n (same, h) = record { settings = keeps (on_bus old) (on_bus new) old.names (Command.Symbols) pieces refused n h; names = same }
+does_same old new (Command.Frames count) pieces refused n (same, h) = record { settings = keeps (on_bus old) (on_bus new) old.names (Command.Frames count) pieces refused n h; names = same }
+does_same old new (Command.Legacy name address lvr) pieces refused n (same, h) = record { settings = keeps (on_bus old) (on_bus new) old.names (Command.Legacy name address lvr) pieces refused n h; names = same }
+does_same old new (Command.Declare address identity) pieces refused n (same, h) = record { settings = keeps (on_bus old) (on_bus new) old.names (Command.Declare address identity) pieces refused n h; names = same }
+does_same old new (Command.Main name setup) pieces refused n (same, h) = record { settings = keeps (on_bus old) (on_bus new) old.names (Command.Main name setup) pieces refused n h; names = same }
+does_same old new (Command.Attach name setup) pieces refused n h = absurd (false≢true (sym n))
 
 cut_in_same : (old : Seen) (slot : Option ℕ) (way : ℕ) → HasSameSettings old (cut_in old slot way)
 cut_in_same old None way = record { settings = refl; names = refl }
@@ -113,6 +113,6 @@ cut_as_same old sent (Risk.Two one other) ways =
 -- so it is in each way
 pub run_same : (old new : Seen) (command : Option Command) (risk : Risk) (ways : Ways) (before : Before) → sets_some command ≡ false → RunsIn old command risk ways before new → HasSameSettings old new
 run_same old new None risk ways before n h = record { settings = ap (λ (s : Seen). s.settings) h.0; names = ap (λ (s : Seen). s.names) h.0 }
-run_same old new (Some command) risk ways before n (refused, does, came) =
+run_same old new (Some command) risk ways before n (pieces, refused, does, came) =
     let cut = cut_as old (sends command) risk ways in
-    both_same old cut new (cut_as_same old (sends command) risk ways) (does_same cut new command refused n does)
+    both_same old cut new (cut_as_same old (sends command) risk ways) (does_same cut new command pieces refused n does)

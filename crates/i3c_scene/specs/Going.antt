@@ -15,9 +15,9 @@ use Rattle.i3c_scene.specs.Scenes.{Seen, known_kept, seen}
 abbrev pub on_bus : Seen → Situation Unkept
 on_bus scene = situation scene.state scene.settings scene.cuts (record {})
 
--- what a command does, and why it is refused, if it is: what it does on any bus, whatever it comes to
-abbrev pub Does : Seen → Command → Option Refusal → Seen → Type 0
-Does old command refused new = (pieces : List Piece) × ObeysOn no_past known_kept (on_bus old) old.names command pieces refused (on_bus new) new.names
+-- what a command does, what it comes to, and why it is refused, if it is: as on any bus
+abbrev pub Does : Seen → Command → List Piece → Option Refusal → Seen → Type 0
+Does old command pieces refused new = ObeysOn no_past known_kept (on_bus old) old.names command pieces refused (on_bus new) new.names
 
 -- whether a command sends a frame that takes the cuts that wait
 abbrev pub sends : Command → Bool

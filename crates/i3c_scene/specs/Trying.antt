@@ -1,10 +1,14 @@
 -- Lines that are tried in each way, and what is expected behind them.
-use Rattle.std.specs.Prelude.{◌≡◌, ℕ, Bool, true, false, ◌&&◌, List, [], ◌∷◌, Option, None, Some}
+use Rattle.std.specs.Prelude.{◌≡◌, ℕ, Bool, true, false, ◌&&◌, List, [], ◌∷◌, Option, None, Some, Result, Ok, Err}
 use Rattle.i3c_facts.specs.declared.before.Before.{Before}
-use Rattle.i3c_facts.specs.Holding.{came_to, claims_hold}
+use Rattle.i3c_facts.specs.declared.before.LineResult.{LineResult}
+use Rattle.i3c_facts.specs.Hearing.{came_to, no_line}
+use Rattle.i3c_facts.specs.Holding.{claims_hold}
 use Rattle.i3c_lines.specs.declared.command.Command.{Command}
 use Rattle.i3c_lines.specs.declared.names.Name.{Name}
 use Rattle.i3c_lines.specs.declared.refusals.Refusal.{Refusal}
+use Rattle.i3c_script.specs.declared.piece.Piece.{Piece}
+use Rattle.i3c_text.specs.declared.line_error.LineError.{LineError}
 use Rattle.i3c_scene.specs.declared.line.Expectation.{Expectation}
 use Rattle.i3c_scene.specs.declared.line.Line.{Line}
 use Rattle.i3c_scene.specs.declared.risk.Risk.{Risk}
@@ -30,10 +34,16 @@ cut_as old sent Risk.Nobody ways = old
 cut_as old sent (Risk.One name) ways = cut_in old (slot_at_risk old sent name) ways.one
 cut_as old sent (Risk.Two one other) ways = cut_in (cut_in old (slot_at_risk old sent one) ways.one) (slot_at_risk old sent other) ways.other
 
+-- how a line with this outcome ends; one that is short of memory doesn't
+abbrev pub IsEndOf : Result (Unit {0}) (LineError Refusal) → LineResult → Type 0
+IsEndOf (Ok done) ended = ended ≡ LineResult.Done
+IsEndOf (Err (LineError.Refused why)) ended = ended ≡ LineResult.Refused why
+IsEndOf (Err LineError.Memory) ended = ⊥
+
 -- a line runs in these ways of the devices at risk, with this result
 abbrev pub RunsIn : Seen → Option Command → Risk → Ways → Before → Seen → Type 0
-RunsIn old None risk ways before new = (new ≡ old) × (before ≡ Before.Nothing)
-RunsIn old (Some command) risk ways before new = (refused : Option Refusal) × Does (cut_as old (sends command) risk ways) command refused new × (before ≡ came_to refused)
+RunsIn old None risk ways before new = (new ≡ old) × (before ≡ no_line)
+RunsIn old (Some command) risk ways before new = (pieces : List Piece) × (refused : Option Refusal) × Does (cut_as old (sends command) risk ways) command pieces refused new × (before ≡ came_to pieces refused)
 
 -- a line runs in a way, with this result
 abbrev pub Runs : Seen → Option Command → Risk → ℕ → Before → Seen → Type 0

@@ -1,5 +1,6 @@
-ghost use Rattle.std.specs.Prelude.{◌≡◌};
+ghost use Rattle.std.specs.Prelude.{◌≡◌, IfOk};
 ghost use Rattle.i3c_scene.specs.Going.{sends};
+ghost use Rattle.i3c_scene.specs.Trying.{IsEndOf};
 ghost use Rattle.i3c_scene.specs.Near.{sets_some};
 
 use crate::line::{Expectation, Line};
@@ -9,9 +10,9 @@ use crate::scene_names::SceneNames;
 use crate::ways::Ways;
 use i3c_base::Slot;
 use i3c_bus::{Bus, BusSnapshot};
-use i3c_facts::Before;
+use i3c_facts::{Before, Heard, LineResult};
 use i3c_lines::{Command, Name, Naming, Place, Refusal, slot_meant};
-use i3c_script::{Deaf, ScriptBus, Unkept};
+use i3c_script::{Deaf, Listener, ScriptBus, Unkept};
 use i3c_text::LineError;
 use std::alloc::{AllocError, Global};
 use std::marker::Model;
@@ -64,7 +65,7 @@ impl Scene {
 impl SceneBus {
     ghost use Rattle.std.specs.Prelude.{◌≡◌, ◌<◌, ◌^◌, IfOk, IfSome, IsTrue, OnOk};
     ghost use Rattle.i3c_scene.specs.Near.{HasSameSettings, IsBehind, RaisesIn};
-    ghost use Rattle.i3c_script.specs.Stops.{Ends};
+    ghost use Rattle.i3c_script.specs.Hearing.{Hears};
     ghost use Rattle.i3c_facts.specs.declared.before.Before.{Before as BeforeValue};
     ghost use Rattle.i3c_scene.specs.Trying.{RunsIn, all_hold, cut_as, slot_at_risk};
     ghost use Rattle.i3c_scene.specs.declared.ways.Ways.{Ways as WaysValue};
@@ -122,13 +123,13 @@ impl SceneBus {
         ensures tried { IfOk result (λ held. (before : BeforeValue) × ((ways : WaysValue) → RunsIn self.old line.now.command line.now.risk ways before self.new) × (held ≡ all_hold self.new before line.now.expectations.items)) }
         ensures behind { OnOk result (IsBehind slot self.old self.new) }
     {
-        match self.bus.raise_in(slot, byte, &mut Deaf) {
-            Ok(()) => Ok(self.all_hold(&Before::Done, line.expectations.as_slice())),
-            Err(LineError::Refused(why)) => {
-                Ok(self.all_hold(&Before::Refused(why), line.expectations.as_slice()))
-            }
-            Err(LineError::Memory) => Err(AllocError),
-        }
+        let mut heard = Heard::nothing();
+        let raised = end_of(&self.bus.raise_in(slot, byte, &mut heard))?;
+        let before = Before {
+            result: raised,
+            heard,
+        };
+        Ok(self.all_hold(&before, line.expectations.as_slice()))
     }
 
     /// The bus at rest.
@@ -189,27 +190,50 @@ impl SceneBus {
         requires other { ways.other < 2 ^ 16 }
         ensures { IfOk result (λ held. (before : BeforeValue) × RunsIn self.old line.now.command line.now.risk ways before self.new × (held ≡ all_hold self.new before line.now.expectations.items)) }
     {
+        if line.expectations.is_empty() {
+            return match self.run_unheard(line, ways) {
+                Ok(()) => Ok(true),
+                Err(short) => Err(short),
+            };
+        }
         match self.run(line, ways) {
             Ok(before) => Ok(self.all_hold(&before, line.expectations.as_slice())),
             Err(short) => Err(short),
         }
     }
 
-    /// Runs a line in these ways of the devices at risk, and answers the result.
+    /// Runs a line in these ways of the devices at risk, with nobody to hear what it comes to.
+    fn run_unheard(&mut self, line: &Line, ways: Ways) -> Result<(), AllocError>
+        requires one { ways.one < 2 ^ 16 }
+        requires other { ways.other < 2 ^ 16 }
+        ensures { OnOk result ((before : BeforeValue) × RunsIn self.old line.now.command line.now.risk ways before self.new) }
+    {
+        let Some(command) = &line.command else {
+            return Ok(());
+        };
+        self.cut_as(sends(command), &line.risk, ways);
+        match self.obey(command, &mut Deaf) {
+            Ok(()) | Err(LineError::Refused(_)) => Ok(()),
+            Err(LineError::Memory) => Err(AllocError),
+        }
+    }
+
+    /// Runs a line in these ways of the devices at risk, and answers what facts know of it then.
     pub(crate) fn run(&mut self, line: &Line, ways: Ways) -> Result<Before, AllocError>
         requires one { ways.one < 2 ^ 16 }
         requires other { ways.other < 2 ^ 16 }
         ensures { IfOk result (λ before. RunsIn self.old line.now.command line.now.risk ways before self.new) }
     {
         let Some(command) = &line.command else {
-            return Ok(Before::Nothing);
+            return Ok(Before::nothing());
         };
         self.cut_as(sends(command), &line.risk, ways);
-        match self.obey(command) {
-            Ok(()) => Ok(Before::Done),
-            Err(LineError::Refused(why)) => Ok(Before::Refused(why)),
-            Err(LineError::Memory) => Err(AllocError),
-        }
+        let mut heard = Heard::nothing();
+        let ended = end_of(&self.obey(command, &mut heard))?;
+        Ok(Before {
+            result: ended,
+            heard,
+        })
     }
 
     /// Cuts the devices at risk in these ways, where the line sends a frame.
@@ -282,12 +306,27 @@ impl SceneBus {
         first.facts.hold(self.bus(), &self.known, before) && self.all_hold(before, rest)
     }
 
-    /// Obeys a line's command, which nobody hears.
-    pub(crate) fn obey(&mut self, command: &Command) -> Result<(), LineError<Refusal>>
-        ensures { Ends (λ refused. Does self.old command.now refused self.new) result }
+    /// Obeys a line's command, and lets a listener hear what it comes to.
+    fn obey<L: Listener>(
+        &mut self,
+        command: &Command,
+        listener: &mut L,
+    ) -> Result<(), LineError<Refusal>>
+        ensures { Hears L.heard (λ pieces refused. Does self.old command.now pieces refused self.new) listener.old listener.new result }
     {
         self.bus
-            .obey::<Explored, SceneNames, Deaf>(&mut self.known, command, &mut Deaf)
+            .obey::<Explored, SceneNames, L>(&mut self.known, command, listener)
+    }
+}
+
+/// How a line with this outcome ended.
+fn end_of(outcome: &Result<(), LineError<Refusal>>) -> Result<LineResult, AllocError>
+    ensures { IfOk result (IsEndOf outcome.now) }
+{
+    match outcome {
+        Ok(()) => Ok(LineResult::Done),
+        Err(LineError::Refused(why)) => Ok(LineResult::Refused(*why)),
+        Err(LineError::Memory) => Err(AllocError),
     }
 }
 

@@ -9,16 +9,25 @@ pub struct Watching {
     pub explain: bool,
     /// The run ends at the first line that has no form.
     pub strict: bool,
+    /// A witness is told each line that has no form, which then counts as an expectation that isn't met. No refusal counts.
+    pub test: bool,
 }
 
 impl Watching {
     ghost use Rattle.std.specs.Prelude.{◌≡◌};
-    ghost use Rattle.i3c_streams.specs.Watching.{is_plain};
+    ghost use Rattle.i3c_streams.specs.Watching.{is_plain, tells};
 
     /// Whether nothing more is shown.
     pub fn is_plain(self) -> bool
         ensures { result ≡ is_plain self }
     {
-        !(self.numbers || self.echo || self.explain || self.strict)
+        !(self.numbers || self.echo || self.explain || self.strict || self.test)
+    }
+
+    /// Whether a witness is told something.
+    pub fn tells(self) -> bool
+        ensures { result ≡ tells self }
+    {
+        self.explain || self.test
     }
 }

@@ -44,7 +44,7 @@ name_of Verb.Stress = codes "stress"
 
 -- the arguments of a command
 abbrev pub arguments_of : Verb → List Rule
-arguments_of Verb.Run = file ∷ flag (codes "strict") ∷ flag (codes "numbers") ∷ flag (codes "echo") ∷ flag (codes "explain") ∷ []
+arguments_of Verb.Run = file ∷ flag (codes "strict") ∷ flag (codes "numbers") ∷ flag (codes "echo") ∷ flag (codes "explain") ∷ flag (codes "test") ∷ []
 arguments_of Verb.Drive = flag (codes "json") ∷ []
 arguments_of Verb.Check = file ∷ []
 arguments_of Verb.Draw = file ∷ []

@@ -25,11 +25,11 @@ file_of found = text_or found (codes "FILE") (codes "-")
 abbrev pub IsWatching : Found → Watching → Type 0
 IsWatching found watching =
     IsFlag found (codes "numbers") watching.numbers × IsFlag found (codes "echo") watching.echo × IsFlag found (codes "explain") watching.explain
-    × IsFlag found (codes "strict") watching.strict
+    × IsFlag found (codes "strict") watching.strict × IsFlag found (codes "test") watching.test
 
 -- how a script is run: plainly, unless one of these is asked for
 abbrev pub IsRun : Found → Work → Type 0
-IsRun found Work.Run = IsWatching found (record { numbers = false; echo = false; explain = false; strict = false })
+IsRun found Work.Run = IsWatching found (record { numbers = false; echo = false; explain = false; strict = false; test = false })
 IsRun found (Work.Watch watching) = IsWatching found watching × (is_plain watching ≡ false)
 IsRun found work = ⊥
 

@@ -46,6 +46,8 @@ Exit status:
   2  the script was not run, or the trace not read, to its end, and standard error says why
   3  what is expected didn't hold, and 'unmet' was printed, or 'explore' found an order in which something doesn't hold
 
+'run --test' ends with 0 if each line has a form and what is expected holds, refused lines or not, and otherwise with 3.
+
 'i3cbus --version' prints which program this is.
 
 docs/FORMATS.md has every line of a script, what it prints and when it is refused; examples/ has scripts.";

@@ -9,7 +9,7 @@ use crate::argument::Bonds;
 use crate::options::{flag_given, legacies_given, number_given, part_given, text_given};
 use crate::verb::{
     ALL, DEVICES, ECHO, EXPLAIN, FILE, FROM_TRACE, JOBS, JSON, LEGACY, LINT, MOST, MOST_DEVICES,
-    MOST_JOBS, MOST_POSTS, NUMBERS, PART, POSTS, SCL, SDA, STRICT, TOTALS, VCD, Verb, parser,
+    MOST_JOBS, MOST_POSTS, NUMBERS, PART, POSTS, SCL, SDA, STRICT, TEST, TOTALS, VCD, Verb, parser,
     usages,
 };
 use crate::words_fault::WordsFault;
@@ -203,6 +203,7 @@ fn run_given(given: &ArgMatches<'_>) -> Work
         echo: flag_given(given, ECHO),
         explain: flag_given(given, EXPLAIN),
         strict: flag_given(given, STRICT),
+        test: flag_given(given, TEST),
     };
     if watching.is_plain() {
         Work::Run

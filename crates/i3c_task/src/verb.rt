@@ -20,6 +20,9 @@ pub(crate) const FILE: &str = "FILE";
 /// their times by the second.
 pub(crate) const STRICT: &str = "strict";
 
+/// The option of `run` for tests: refusals are no failures, and lines without a form are.
+pub(crate) const TEST: &str = "test";
+
 pub(crate) const NUMBERS: &str = "numbers";
 
 pub(crate) const ECHO: &str = "echo";
@@ -150,6 +153,12 @@ const OF_RUN: &[Argument] = &[
         takes: Takes::Nothing,
         bond: Bond::Free,
         help: "Tells on standard error why lines are refused",
+    },
+    Argument {
+        name: TEST,
+        takes: Takes::Nothing,
+        bond: Bond::Free,
+        help: "Ends with 0 if each line has a form and each expectation is met, and with 3 if not",
     },
 ];
 

@@ -81,6 +81,9 @@ refuses_outside (Mark.Expect facts) = None
 abbrev pub is_of_before : Fact → Bool
 is_of_before Fact.Done = true
 is_of_before (Fact.Refused why) = true
+is_of_before Fact.AnyRefused = true
+is_of_before (Fact.Served way) = true
+is_of_before (Fact.Bytes bytes) = true
 is_of_before _ = false
 
 -- whether one of these claims does

@@ -98,7 +98,10 @@ fn asks_before(facts: &Facts) -> bool
 fn is_of_before(fact: &Fact) -> bool
     ensures { result ≡ is_of_before fact.now }
 {
-    matches!(fact, Fact::Done | Fact::Refused(_))
+    matches!(
+        fact,
+        Fact::Done | Fact::Refused(_) | Fact::AnyRefused | Fact::Served(_) | Fact::Bytes(_)
+    )
 }
 
 /// Why a mark outside of blocks is refused, if it is.

@@ -4,12 +4,13 @@ ghost use Rattle.i3c_bus.specs.Hands.{HandFits};
 ghost use Rattle.i3c_bus.specs.declared.hand.Hand.{Hand as HandValue};
 
 use crate::checks::{expected, holds, same};
-use i3c_base::{Addr7, Cuts, Identity, Setup, Slot};
+use i3c_base::{Addr7, Bytes, Cuts, Identity, Served, Setup, Slot};
 use i3c_bus::{Bus, Fixed, Hand, Refusal as BusRefusal, Role, Verdict};
-use i3c_facts::Before;
+use i3c_facts::{Before, Heard, LineResult};
 use i3c_frame::Silent;
 use i3c_legacy::{DeclareFault, Legacies};
 use i3c_lines::{Name, Names, Refusal};
+use i3c_script::{Listener, Piece};
 use i3c_text::Text;
 use std::alloc::Global;
 use std::process::Abort;
@@ -71,6 +72,14 @@ fn slot(rt: &impl Abort, number: u8) -> Slot {
     Slot::new(number).expect(rt, "a slot")
 }
 
+// A previous line that ended so, and told nothing.
+fn ended(how: LineResult) -> Before {
+    Before {
+        result: how,
+        heard: Heard::nothing(),
+    }
+}
+
 /// A bus with names, and the result of the previous line.
 #[derive(Drop)]
 struct NamedBus<'a> {
@@ -100,7 +109,7 @@ impl NamedBus<'_> {
 }
 
 /// Facts that hold before anything is served.
-static MET: [&str; 18] = [
+static MET: [&str; 23] = [
     "expect active hub",
     "expect t at 09",
     "expect hub at 08",
@@ -118,11 +127,16 @@ static MET: [&str; 18] = [
     "expect not listed",
     "expect not open",
     "expect not done",
+    "expect not refused",
+    "expect not served quiet",
+    "expect not bytes 00",
+    "expect asking t",
+    "expect not asking hub",
     "expect waiting 0 or t at 09",
 ];
 
 /// Facts that don't hold, and what holds in their place.
-static UNMET: [(&str, &str); 22] = [
+static UNMET: [(&str, &str); 28] = [
     ("expect active t", "active hub"),
     ("expect active x", "active hub"),
     ("expect t at 0A", "t at 09"),
@@ -141,6 +155,12 @@ static UNMET: [(&str, &str); 22] = [
     ("expect listed", "not listed"),
     ("expect open", "not open"),
     ("expect done", "not done"),
+    ("expect refused", "not refused"),
+    ("expect served quiet", "not served quiet"),
+    ("expect bytes 0A0B", "not bytes 0A0B"),
+    ("expect asking hub", "not asking hub"),
+    ("expect asking x", "x gone"),
+    ("expect not asking t", "asking t"),
     ("expect refused ListStale", "not refused ListStale"),
     ("expect not waiting 1", "waiting 1"),
     ("expect not assigned", "assigned"),
@@ -155,7 +175,7 @@ fn facts_of_a_bus(rt: HostRuntime) -> Result<(), Fail> {
     let seen = NamedBus {
         bus: &bus,
         names: &names,
-        before: Before::Nothing,
+        before: Before::nothing(),
         alloc: rt.alloc(),
     };
     for line in MET {
@@ -179,7 +199,7 @@ fn facts_of_a_recorded_interrupt(rt: HostRuntime) -> Result<(), Fail> {
     let seen = NamedBus {
         bus: &bus,
         names: &names,
-        before: Before::Done,
+        before: ended(LineResult::Done),
         alloc: rt.alloc(),
     };
     seen.is_met(&rt, "expect records 1");
@@ -187,6 +207,11 @@ fn facts_of_a_recorded_interrupt(rt: HostRuntime) -> Result<(), Fail> {
     seen.is_met(&rt, "expect record t -- 0");
     seen.is_met(&rt, "expect v at none");
     seen.is_met(&rt, "expect done");
+    seen.is_met(&rt, "expect served quiet");
+    seen.is_met(&rt, "expect not asking t");
+    seen.is_unmet(&rt, "expect refused", "done");
+    seen.is_unmet(&rt, "expect served torn", "served quiet");
+    seen.is_unmet(&rt, "expect bytes 00", "bytes --");
     seen.is_unmet(&rt, "expect record t 2B 1", "record t 2B 0");
     seen.is_unmet(&rt, "expect v at any", "v at none");
     seen.is_unmet(&rt, "expect assigned", "not assigned");
@@ -204,15 +229,42 @@ fn facts_of_a_refused_line(rt: HostRuntime) -> Result<(), Fail> {
     let mut seen = NamedBus {
         bus: &bus,
         names: &names,
-        before: Before::Refused(at),
+        before: ended(LineResult::Refused(at)),
         alloc: rt.alloc(),
     };
     seen.is_met(&rt, "expect refused NoAnswer 50");
+    seen.is_met(&rt, "expect refused");
+    seen.is_unmet(&rt, "expect not refused", "refused");
     seen.is_unmet(&rt, "expect refused NoAnswer 51", "refused NoAnswer 50");
     seen.is_unmet(&rt, "expect refused BadAddress 50", "refused NoAnswer 50");
     seen.is_unmet(&rt, "expect done", "refused NoAnswer 50");
-    seen.before = Before::Refused(Refusal::Declare(DeclareFault::LegacyTwice));
+    seen.before = ended(LineResult::Refused(Refusal::Declare(DeclareFault::LegacyTwice)));
     seen.is_met(&rt, "expect refused LegacyTwice");
+    let _records = bus.retire(Hand::Role(role));
+    Ok(())
+}
+
+// What a line came to, by its pieces.
+#[test]
+fn facts_of_the_pieces_of_a_line(rt: HostRuntime) -> Result<(), Fail> {
+    let names = names(&rt, rt.alloc());
+    let (bus, role) = interrupted(rt.alloc())?;
+    let mut seen = NamedBus {
+        bus: &bus,
+        names: &names,
+        before: ended(LineResult::Done),
+        alloc: rt.alloc(),
+    };
+    let heard = &mut seen.before.heard;
+    heard.hear(Piece::Served(Served::Recorded(7))).expect(&rt, "memory");
+    heard.hear(Piece::Bytes(Bytes::new(&[0x0A, 0x0B]))).expect(&rt, "memory");
+    heard.hear(Piece::Done).expect(&rt, "memory");
+    seen.is_met(&rt, "expect served recorded");
+    seen.is_met(&rt, "expect bytes 0A");
+    seen.is_met(&rt, "expect bytes 0A0B");
+    seen.is_unmet(&rt, "expect bytes 0A0B0C", "bytes 0A0B");
+    seen.is_unmet(&rt, "expect bytes 0B", "bytes 0A0B");
+    seen.is_unmet(&rt, "expect served quiet", "served recorded");
     let _records = bus.retire(Hand::Role(role));
     Ok(())
 }

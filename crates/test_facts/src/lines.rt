@@ -4,7 +4,7 @@ use std::alloc::Global;
 use std::process::Abort;
 
 /// Lines that are printed unchanged.
-static LINES: [&str; 25] = [
+static LINES: [&str; 37] = [
     "any",
     "anywhere t",
     "always not t gone",
@@ -24,6 +24,18 @@ static LINES: [&str; 25] = [
     "expect listed",
     "expect open",
     "expect done",
+    "expect refused",
+    "expect not refused",
+    "expect served quiet",
+    "expect served recorded",
+    "expect served turned down or not served torn",
+    "expect served joining",
+    "expect served wants role",
+    "expect bytes 0A",
+    "expect bytes 000102030405060708090A0B0C0D0E0F",
+    "expect asking t",
+    "expect asking gone or served gone or bytes gone or refused gone",
+    "expect not asking asking",
     "expect refused ListStale",
     "expect refused LegacyTwice",
     "expect refused NoAnswer 50",
@@ -33,7 +45,7 @@ static LINES: [&str; 25] = [
 ];
 
 /// Lines that are no marks.
-static OTHERS: [&str; 26] = [
+static OTHERS: [&str; 36] = [
     "",
     "# any",
     "daa",
@@ -58,6 +70,16 @@ static OTHERS: [&str; 26] = [
     "expect waiting +1",
     "expect record t 2a 1",
     "expect refused Nothing",
+    "expect served",
+    "expect served turned",
+    "expect served turned up",
+    "expect served recorded 1",
+    "expect served wants role 09",
+    "expect bytes",
+    "expect bytes 0",
+    "expect bytes 0a",
+    "expect bytes 000102030405060708090A0B0C0D0E0F10",
+    "expect asking",
     "expect refused NoAnswer",
     "expect refused ListStale 09",
 ];

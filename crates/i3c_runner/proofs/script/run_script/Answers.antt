@@ -1,7 +1,7 @@
 use Rattle.std.proofs.Common.{◌≤◌, [], arith, Ok, refl, subst, sym}
 use Rattle.std.proofs.lemmas.Grind.{common_steps}
 use Rattle.i3c_base.specs.State.{no_board}
-use Rattle.i3c_facts.specs.declared.before.Before.{Before}
+use Rattle.i3c_facts.specs.Hearing.{no_line}
 use Rattle.i3c_script.specs.declared.stage.Stage.{Stage}
 use Rattle.i3c_script.specs.Obeying.{script}
 use Rattle.i3c_runner.specs.Expecting.{HasBegun, Standing}
@@ -12,8 +12,8 @@ use Rattle.i3c_runner.proofs.script.run_script.Goals as goal
 
 pub returns-in_default-clause-lines : goal.returns-in_default-clause-lines
 returns-in_default-clause-lines g c =
-    let start : Standing = record { script = script (Stage.Before no_board) c.new-none.result; lines = 0; before = Before.Nothing; unmet = 0; lasting = [] } in
-    let begun : HasBegun start = record { script = record { stage = refl; unnamed = c.new-none.ensures.places; slots = c.new-none.ensures.slots; legacies = c.new-none.ensures.legacies }; lines = refl; before = refl; unmet = refl; lasting = refl } in
+    let start : Standing = record { script = script (Stage.Before no_board) c.new-none.result; lines = 0; before = no_line; unmet = 0; lasting = []; formless = 0 } in
+    let begun : HasBegun start = record { script = record { stage = refl; unnamed = c.new-none.ensures.places; slots = c.new-none.ensures.slots; legacies = c.new-none.ensures.legacies }; lines = refl; before = refl; unmet = refl; lasting = refl; formless = refl } in
     none_run (g.R.Read.remaining c.args.reader.now) (g.W.Write.contents c.args.writer.now) start begun
 
 pub returns-in-Ok-outcome-clause-lines : goal.returns-in-Ok-outcome-clause-lines

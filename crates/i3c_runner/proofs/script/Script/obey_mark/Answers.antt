@@ -14,11 +14,11 @@ returns-in-Ok-Some-clause-reads c =
     let mark = c.in-Ok-Some.mark in
     let new = noted (state c.obey_read.new.self) c.obey_read.result in
     let is : IsMark line mark = subst (λ read. MatchOption read ((mark : Mark) → IsMark line mark → ⊥) (λ mark. IsMark line mark)) c.in-Ok-Some.field-0-is c.in-Ok-Some.ensures in
-    prints_so (λ said refused. MarkDoes now mark said refused new) (λ said refused. CountedRuns now line said refused new) c.args.self.now.text c.obey_read.new.self.text c.obey_read.result
+    prints_so (λ said refused. MarkDoes now mark said refused new) (λ said refused. CountedRuns now line said refused new) c.args.self.now.said.text c.obey_read.new.self.said.text c.obey_read.result
     (λ said refused does. inr (inr (inl (mark, is, does)))) c.obey_read.ensures.does
 
 pub returns-in-Ok-None-clause-reads : goal.returns-in-Ok-None-clause-reads
 returns-in-Ok-None-clause-reads c =
     let line = c.args.line.now in
     let none : (mark : Mark) → IsMark line mark → ⊥ = subst (λ read. MatchOption read ((mark : Mark) → IsMark line mark → ⊥) (λ mark. IsMark line mark)) c.in-Ok-None.field-0-is c.in-Ok-None.ensures in
-    ([], sym (append-nil c.args.self.now.text), inl ((c.requires, λ marked. none marked.0 marked.1), refl, refl, refl))
+    ([], sym (append-nil c.args.self.now.said.text), inl ((c.requires, λ marked. none marked.0 marked.1), refl, refl, refl))

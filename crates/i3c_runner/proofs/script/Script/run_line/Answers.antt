@@ -12,7 +12,7 @@ pub returns-clause-ends : goal.returns-clause-ends
 returns-clause-ends g c =
     let old = output (g.W.Write.contents c.args.out.now) c.args.self.now.gathered in
     let new = output (g.W.Write.contents c.gather.new.out) c.gather.new.gathered in
-    let text = c.obey-outcome.new.self.text in
+    let text = c.obey-outcome.new.self.said.text in
     let outcome = c.obey-outcome.result in
     let from = progress c.args.self.now in
     let to = progress c.settle.new.self in

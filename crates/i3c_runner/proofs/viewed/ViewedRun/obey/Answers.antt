@@ -21,10 +21,10 @@ returns-in-Ok-settle c =
     let line = c.args.line.now in
     let wire = new.wire.items in
     let alive : outcome ≢ Err LineError.Memory = λ short. passes c.settle.result _ c.in-Ok-settle.is (c.settle.ensures.memory short) in
-    let does = does_in before line c.clear.new.self obeyed.text outcome (noted (state obeyed) outcome) c.obey-outcome.ensures.reads c.clear.ensures alive in
+    let does = does_in before line c.clear.new.self obeyed.said.text outcome (noted (state obeyed) outcome) c.obey-outcome.ensures.reads c.clear.ensures alive in
     let stays : noted (state obeyed) outcome ≡ state settled = sym c.settle.ensures.state in
-    let ran = subst (λ s. LineRuns s line obeyed.text (refusal_in outcome) (state settled)) (ap (λ stage. record (state old) { script = script stage old.names }) c.in-Ok.ensures.same) (subst (LineRuns before line obeyed.text (refusal_in outcome)) stays does) in
+    let ran = subst (λ s. LineRuns s line obeyed.said.text (refusal_in outcome) (state settled)) (ap (λ stage. record (state old) { script = script stage old.names }) c.in-Ok.ensures.same) (subst (LineRuns before line obeyed.said.text (refusal_in outcome)) stays does) in
     let text = c.take_sent.ensures.text ∙ c.in-Ok-settle.ensures.told in
     let count = c.settle.ensures.counted ∙ ap (λ n. min (n + refusals outcome) 18446744073709551615) c.obey-outcome.ensures.refused in
-    in_ok c.take_sent.result (λ sent. subst (LineRan line new.script.text wire (progress old)) (sym c.take_sent.ensures.state)
-    (line_ran line obeyed.text new.script.text wire outcome (progress old) (progress settled) ran text (sent ∙ ap (λ symbols. kept (symbols ++ wire)) c.in-Ok.ensures.copied) count)) c.take_sent.ensures.sent
+    in_ok c.take_sent.result (λ sent. subst (LineRan line new.script.said.text wire (progress old)) (sym c.take_sent.ensures.state)
+    (line_ran line obeyed.said.text new.script.said.text wire outcome (progress old) (progress settled) ran text (sent ∙ ap (λ symbols. kept (symbols ++ wire)) c.in-Ok.ensures.copied) count)) c.take_sent.ensures.sent

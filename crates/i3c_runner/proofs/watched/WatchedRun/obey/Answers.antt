@@ -24,16 +24,16 @@ returns-in-Ok-show-clause-ran c =
     let number = c.args.number in
     let same = c.explain.ensures.script in
     let alive : outcome ≢ Err LineError.Memory = λ short. passes c.settle.result _ c.in-Ok-settle.is (c.settle.ensures.memory short) in
-    let does = does_in (state old) line c.clear.new.self obeyed.text outcome (noted (state obeyed) outcome) c.obey-outcome.ensures.reads c.clear.ensures alive in
+    let does = does_in (state old) line c.clear.new.self obeyed.said.text outcome (noted (state obeyed) outcome) c.obey-outcome.ensures.reads c.clear.ensures alive in
     let stays : noted (state obeyed) outcome ≡ state new = ap (λ s. noted (state s) outcome) (sym same) ∙ sym c.settle.ensures.state ∙ ap (λ s. state s) (sym c.show.ensures.script) in
-    let text : settled.text ≡ obeyed.text ++ end_text outcome = c.in-Ok-settle.ensures.told ∙ ap (λ s. s.text ++ end_text outcome) same in
-    let shows = c.in-Ok-show.ensures.shown ∙ ap (λ w. numbered_by w number (echoed w line ++ settled.text)) c.explain.ensures.watching ∙ ap (λ t. numbered_by watching number (echoed watching line ++ t)) text in
+    let text : settled.said.text ≡ obeyed.said.text ++ end_text outcome = c.in-Ok-settle.ensures.told ∙ ap (λ s. s.said.text ++ end_text outcome) same in
+    let shows = c.in-Ok-show.ensures.shown ∙ ap (λ w. numbered_by w number (echoed w line ++ settled.said.text)) c.explain.ensures.watching ∙ ap (λ t. numbered_by watching number (echoed watching line ++ t)) text in
     let count : new.refused ≡ min (old.refused + refusals outcome) 18446744073709551615 =
     ap (λ s. s.refused) c.show.ensures.script ∙ c.settle.ensures.counted ∙ ap (λ s. min (s.refused + refusals outcome) 18446744073709551615) same
     ∙ ap (λ n. min (n + refusals outcome) 18446744073709551615) c.obey-outcome.ensures.refused in
     let there : (state obeyed).script ≡ (state new).script = sym (stays_there (state obeyed) outcome) ∙ ap (λ s. s.script) stays in
     let tells = subst (λ t. IsExplainedIf watching number line outcome waited (state new).script t) (sym c.show.ensures.told) (subst (λ st. IsExplainedIf watching number line outcome waited st explained.told) there c.in-Ok.ensures.told) in
-    line_ran watching number line obeyed.text c.show.new.self.shown c.show.new.self.told outcome waited (progress old) (progress new) (subst (LineRuns (state old) line obeyed.text (refusal_in outcome)) stays does) alive tells shows count
+    line_ran watching number line obeyed.said.text c.show.new.self.shown c.show.new.self.told outcome waited (progress old) (progress new) (subst (LineRuns (state old) line obeyed.said.text (refusal_in outcome)) stays does) alive tells shows count
 
 pub returns-in-Ok-show-clause-knows : goal.returns-in-Ok-show-clause-knows
 returns-in-Ok-show-clause-knows c on =
