@@ -87,11 +87,11 @@ not_first st r slot None first silent = refl
 not_first st r slot (Some q) first silent = elim (cases_Bool (drives st q slot)) [
   | inr other ↦ and_left _ _ other
   | inl does ↦ elim (cases_lt (rank r) (rank q)) [
-      | inl lower ↦ and_right _ _ (not_from_true _ (beaten st q r first.driven.0 (length st.devices) (driver_within st r first.driven.0 first.driven.1) first.driven.1 lower))
-      | inr least ↦
-          let leads : IsFirst st q = record { driven = (slot, does); first = λ s p drives_it. omega (arith, first.first s p drives_it, least) } in
-          absurd (both_ways (drives st r slot) silent (subst (λ p. drives st p slot ≡ true) (sym (first_unique st r q first leads)) does))
-    ]
+    | inl lower ↦ and_right _ _ (not_from_true _ (beaten st q r first.driven.0 (length st.devices) (driver_within st r first.driven.0 first.driven.1) first.driven.1 lower))
+    | inr least ↦
+        let leads : IsFirst st q = record { driven = (slot, does); first = λ s p drives_it. omega (arith, first.first s p drives_it, least) } in
+        absurd (both_ways (drives st r slot) silent (subst (λ p. drives st p slot ≡ true) (sym (first_unique st r q first leads)) does))
+  ]
 ]
 
 -- one that doesn't is silent

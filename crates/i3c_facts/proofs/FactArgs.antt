@@ -187,7 +187,7 @@ fact_few tokens (Fact.Refused why) (rest, e, is) = (omega (arith, ap length e), 
 fact_few tokens (Fact.Served way) e = (omega (arith, ap length e), omega (arith, ap length e, served_few way))
 
 pub no_fact : (tokens : List (Bor (List ℕ))) (fact : Fact) → length tokens < 1 → IsFact (texts tokens) fact → ⊥
-no_fact tokens fact none is = omega (arith, none, length-map (λ (token : Bor (List ℕ)). token.now) tokens, (fact_few (texts tokens) fact is).0)
+no_fact tokens fact none is = omega (arith, none, length-map tokens (λ (token : Bor (List ℕ)). token.now), (fact_few (texts tokens) fact is).0)
 
 pub long_fact : (tokens : List (Bor (List ℕ))) (fact : Fact) → 5 ≤ length tokens → IsFact (texts tokens) fact → ⊥
-long_fact tokens fact many is = omega (arith, many, length-map (λ (token : Bor (List ℕ)). token.now) tokens, (fact_few (texts tokens) fact is).1)
+long_fact tokens fact many is = omega (arith, many, length-map tokens (λ (token : Bor (List ℕ)). token.now), (fact_few (texts tokens) fact is).1)

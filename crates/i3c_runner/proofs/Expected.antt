@@ -1,5 +1,5 @@
 -- The results of lines that are commands.
-use Rattle.std.proofs.Common.{◌≡◌, ◌∙◌, ◌++◌, [], ℕ, List, Option, Some, None, Result, Ok, Err, ap, append_assoc, append-nil, inr, refl, subst, sym}
+use Rattle.std.proofs.Common.{◌≡◌, ◌∙◌, ◌∷◌, ◌++◌, [], ℕ, List, Option, Some, None, Result, Ok, Err, ap, append_assoc, append-nil, inr, refl, subst, sym}
 use Rattle.i3c_lines.specs.declared.command.Command.{Command}
 use Rattle.i3c_lines.specs.declared.refusals.Refusal.{Refusal}
 use Rattle.i3c_text.specs.declared.line_error.LineError.{LineError}
@@ -61,16 +61,14 @@ printed_so old after pieces e = ap (λ s. s.text) (e ∙ said_heard old pieces)
 pub command_runs : (now : Standing) (line : List ℕ) (command : Command) (before after : Said) (result : Result (Unit {0}) (LineError Refusal)) (state : ScriptState) → before.heard ≡ nothing_heard → IsCommand line command
     → IsHeard said_with now.script command before after result state → now.lasting ≡ [] → ReadsCounted now line before.text after.text result (noted (done_so now state after.heard) result)
 command_runs now line command before after (Ok done) state none asks (pieces, heard, is) still =
-    let same = heard_so now state before after pieces none heard in
-    (
+    let same = heard_so now state before after pieces none heard in (
       pieces_text pieces,
       printed_so before after pieces heard,
       subst (λ st. CountedRuns now line (pieces_text pieces) None st) (sym same)
           (inr (inr (inr (command, state, pieces, [], asks, is, sym (append-nil (pieces_text pieces)), none_lasts (went now state pieces None) state.stage still)))),
     )
 command_runs now line command before after (Err (LineError.Refused why)) state none asks (pieces, heard, is) still =
-    let same = ap (λ st. refused_so st why) (heard_so now state before after pieces none heard) in
-    (
+    let same = ap (λ st. refused_so st why) (heard_so now state before after pieces none heard) in (
       pieces_text pieces,
       printed_so before after pieces heard,
       subst (λ st. CountedRuns now line (pieces_text pieces) (Some why) st) (sym same)
@@ -87,16 +85,14 @@ noted_on now (Stage.Running ran) why told new (text, same) = (text, λ i. refuse
 pub command_outlasts : (now : Standing) (line : List ℕ) (command : Command) (before mid : Said) (after : List ℕ) (outcome result : Result (Unit {0}) (LineError Refusal)) (state : ScriptState) (new : Standing) → before.heard ≡ nothing_heard
     → IsCommand line command → IsHeard said_with now.script command before mid outcome state → Outlasts (done_so now state mid.heard) mid.text after outcome result new → ReadsCounted now line before.text after result (noted new result)
 command_outlasts now line command before mid after (Ok done) (Ok same) state new none asks (pieces, heard, is) (told, more, lasts) =
-    let said = pieces_text pieces in
-    (
+    let said = pieces_text pieces in (
       said ++ told,
       more ∙ ap (λ t. t ++ told) (printed_so before mid pieces heard) ∙ append_assoc before.text said told,
       inr (inr (inr (command, state, pieces, told, asks, is, refl, subst (λ st. LastsAt st state.stage told new) (heard_so now state before mid pieces none heard) lasts))),
     )
 command_outlasts now line command before mid after (Err (LineError.Refused why)) (Err (LineError.Refused other)) state new none asks (pieces, heard, is) (same, (told, more, lasts)) =
     let said = pieces_text pieces in
-    subst (λ w. ReadsCounted now line before.text after (Err (LineError.Refused w)) (noted new (Err (LineError.Refused w)))) (sym same)
-    (
+    subst (λ w. ReadsCounted now line before.text after (Err (LineError.Refused w)) (noted new (Err (LineError.Refused w)))) (sym same) (
       said ++ told,
       more ∙ ap (λ t. t ++ told) (printed_so before mid pieces heard) ∙ append_assoc before.text said told,
       inr (inr (inr (

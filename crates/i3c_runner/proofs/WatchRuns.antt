@@ -16,7 +16,7 @@ use Rattle.i3c_runner.specs.declared.watched.WatchFault.{WatchFault}
 use Rattle.i3c_streams.specs.declared.script_lines.Reading.{Reading}
 use Rattle.i3c_streams.specs.Lines.{GivesLine, IsGivenOut, IsReadAs, IsReadFrom, given, line_in_hand}
 use Rattle.i3c_streams.specs.Outcomes.{AppendsSome}
-use Rattle.i3c_streams.specs.Watching.{tells}
+use Rattle.i3c_streams.specs.Watching.{is_telling}
 use Rattle.i3c_runner.specs.Expecting.{Standing}
 use Rattle.i3c_runner.specs.Reasons.{IsExplained, cuts_on}
 use Rattle.i3c_runner.specs.Scripts.{IsLineRun, LineRuns, LineRun, lines_bytes, lines_out, lines_refused, run_text}
@@ -82,7 +82,7 @@ pub record WatchedSoFar {T : Type 0} (hears : Hears T) (watching : Watching) (kn
   pub lines : List LineRun
   pub texts : List (List ℕ)
   pub run : LinesTell watching 1 from.state lines texts to.state
-  pub heard : HeardIf hears (tells watching) before texts after
+  pub heard : HeardIf hears (is_telling watching) before texts after
   pub formed : AreFormed watching lines
   pub number : at ≡ 1 + length lines
   pub bytes : given reader ≡ lines_bytes lines
@@ -101,7 +101,7 @@ module _ {T : Type 0} (hears : Hears T) (watching : Watching) (known : Option (L
     lines = [];
     texts = [];
     run = refl;
-    heard = heard_none hears (tells watching) before;
+    heard = heard_none hears (is_telling watching) before;
     formed = tt;
     number = omega arith;
     bytes = none;
@@ -122,7 +122,7 @@ module _ {T : Type 0} (hears : Hears T) (watching : Watching) (known : Option (L
         texts = so_far.texts ++ done.told ∷ [];
         run = tell_more watching 1 number from.state c1.state c2.state lines run so_far.texts done.told so_far.number so_far.run (record { one = gives.0; does = done.does })
             (told_of watching number run.line run.refused waited c1.state.script.stage c2.state.script done.told knows done.tells);
-        heard = heard_more hears (tells watching) before told after so_far.texts done.told so_far.heard done.heard;
+        heard = heard_more hears (is_telling watching) before told after so_far.texts done.told so_far.heard done.heard;
         formed = formed_more watching lines run so_far.formed done.formed;
         number = omega (arith, so_far.number, length_more lines run);
         bytes = more_bytes lines run reader further so_far.bytes gives.1;
@@ -156,7 +156,7 @@ module _ {T : Type 0} (hears : Hears T) (watching : Watching) (known : Option (L
         to = to.state;
         rest = first.0;
         run = so_far.run;
-        heard = heard_all fault hears (tells watching) before so_far.texts after so_far.heard;
+        heard = heard_all fault hears (is_telling watching) before so_far.texts after so_far.heard;
         formed = so_far.formed;
         first = subst (λ bytes. IfSome known (λ script. bytes ++ first.0 ≡ script ++ 10 ∷ [])) so_far.bytes first.1;
         out = some_out old new (shown_out watching 1 so_far.lines) so_far.out;
@@ -179,7 +179,7 @@ module _ {T : Type 0} (hears : Hears T) (watching : Watching) (known : Option (L
         rest = first.0;
         run = tell_more watching 1 number from.state c1.state cut.to lines run so_far.texts cut.told so_far.number so_far.run (record { one = gives.0; does = cut.does })
             (told_of watching number run.line run.refused waited c1.state.script.stage cut.to.script cut.told knows cut.tells);
-        heard = inr (so_far.texts, cut.told, refl, subst (λ v. HeardIf hears (tells watching) before so_far.texts v) (sym untold) so_far.heard);
+        heard = inr (so_far.texts, cut.told, refl, subst (λ v. HeardIf hears (is_telling watching) before so_far.texts v) (sym untold) so_far.heard);
         formed = formed_more watching lines run so_far.formed cut.formed;
         first = subst (λ bytes. IfSome known (λ script. bytes ++ first.0 ≡ script ++ 10 ∷ [])) (more_bytes lines run reader further so_far.bytes gives.1) first.1;
         out = subst (AppendsSome old new) (sym (shown_more watching lines 1 number run so_far.number)) (some_after old mid new (shown_out watching 1 lines) (shown watching number run) so_far.out cut.out);
@@ -201,7 +201,7 @@ module _ {T : Type 0} (hears : Hears T) (watching : Watching) (known : Option (L
         none = none;
         why = subst (λ n. IsLastReason n line reason) so_far.number why;
         run = so_far.run;
-        heard = subst (λ v. HeardIf hears (tells watching) before so_far.texts v) (sym untold) so_far.heard;
+        heard = subst (λ v. HeardIf hears (is_telling watching) before so_far.texts v) (sym untold) so_far.heard;
         formed = so_far.formed;
         first = subst (λ bytes. IfSome known (λ script. bytes ≡ script ++ 10 ∷ [])) split first.1;
         out = subst (λ out. Appends old out (shown_out watching 1 lines)) (sym same) so_far.out;
@@ -215,7 +215,7 @@ module _ {T : Type 0} (hears : Hears T) (watching : Watching) (known : Option (L
     to = from.state;
     rest = unread known ++ 10 ∷ [];
     run = refl;
-    heard = heard_all fault hears (tells watching) before [] before (heard_none hears (tells watching) before);
+    heard = heard_all fault hears (is_telling watching) before [] before (heard_none hears (is_telling watching) before);
     formed = tt;
     first = script_is known known [] [] [] (none_read known [] refl) refl;
     out = some_out old old [] (nothing_out old);

@@ -14,7 +14,7 @@ use Rattle.i3c_streams.specs.declared.watching.Watching.{Watching}
 use Rattle.i3c_runner.specs.declared.watched.WatchFault.{WatchFault}
 use Rattle.i3c_runner.specs.Expecting.{HasBegun, IsBad, Standing}
 use Rattle.i3c_streams.specs.Outcomes.{AppendsSome}
-use Rattle.i3c_streams.specs.Watching.{tells}
+use Rattle.i3c_streams.specs.Watching.{is_telling}
 use Rattle.i3c_runner.specs.Reasons.{IsExplained, IsFormToldIf, IsJudged, IsOutcomeTold, cuts_on}
 use Rattle.i3c_runner.specs.Scripts.{IsLineRun, LineRun, LineRuns, lines_bytes, lines_out, lines_refused, refusals_of, run_text}
 use Rattle.i3c_runner.specs.ScriptSteps.{Progress}
@@ -111,7 +111,7 @@ pub record LineWatched {T : Type 0} (hears : Hears T) (watching : Watching) (num
   pub formed : IsFormed watching line
   pub does : LineRuns from.state line said refused to.state
   pub tells : IsTold watching number line refused waited to.state.script told
-  pub heard : HeardIf hears (tells watching) before (told ∷ []) after
+  pub heard : HeardIf hears (is_telling watching) before (told ∷ []) after
   pub out : Appends old new (shown watching number (record { line = line; said = said; refused = refused }))
   pub count : to.refused ≡ min (from.refused + refusals_of refused) 18446744073709551615
 
@@ -159,7 +159,7 @@ pub record WatchedWhole {T : Type 0} (hears : Hears T) (watching : Watching) (kn
   pub lines : List LineRun
   pub texts : List (List ℕ)
   pub run : LinesTell watching 1 from.state lines texts to.state
-  pub heard : HeardIf hears (tells watching) before texts after
+  pub heard : HeardIf hears (is_telling watching) before texts after
   pub formed : AreFormed watching lines
   pub all : IfSome known (λ script. lines_bytes lines ≡ script ++ 10 ∷ [])
   pub out : Appends old new (shown_out watching 1 lines)
@@ -172,7 +172,7 @@ pub record WatchedPart {T : Type 0} (hears : Hears T) (watching : Watching) (kno
   pub to : Standing
   pub rest : List ℕ
   pub run : LinesTell watching 1 from.state lines texts to
-  pub heard : HeardBefore fault hears (tells watching) before texts after
+  pub heard : HeardBefore fault hears (is_telling watching) before texts after
   pub formed : AreFormed watching lines
   pub first : IfSome known (λ script. lines_bytes lines ++ rest ≡ script ++ 10 ∷ [])
   pub out : AppendsSome old new (shown_out watching 1 lines)
@@ -188,7 +188,7 @@ pub record WatchedTo {T : Type 0} (hears : Hears T) (watching : Watching) (known
   pub none : IsBad line
   pub why : IsLastReason (1 + length lines) line told
   pub run : LinesTell watching 1 from.state lines texts to
-  pub heard : HeardIf hears (tells watching) before texts after
+  pub heard : HeardIf hears (is_telling watching) before texts after
   pub formed : AreFormed watching lines
   pub first : IfSome known (λ script. lines_bytes lines ++ (line ++ 10 ∷ rest) ≡ script ++ 10 ∷ [])
   pub out : Appends old new (shown_out watching 1 lines)

@@ -252,7 +252,10 @@ impl Script {
                 let outcome = self
                     .stage
                     .obey_heard::<K, Said>(
-                        self.alloc, &mut self.names, &self.command, &mut self.said,
+                        self.alloc,
+                        &mut self.names,
+                        &self.command,
+                        &mut self.said,
                     );
                 if self.lasting.is_empty() {
                     return outcome;

@@ -3,7 +3,7 @@ ghost use Rattle.std.specs.Fmt.{decimal};
 ghost use Rattle.std.specs.Io.KnownBytes.{Appends, IsAtEnd};
 ghost use Rattle.i3c_lines.specs.Faults.{IsFaultText};
 ghost use Rattle.i3c_runner.specs.Reasons.{IsReadOf};
-ghost use Rattle.i3c_streams.specs.Watching.{tells};
+ghost use Rattle.i3c_streams.specs.Watching.{is_telling};
 ghost use Rattle.i3c_runner.specs.Watched.{HeardIf, IsExplainedIf, KnowsCuts, WatchedGoesOut, counts_of, numbered};
 
 use crate::expecting::line_fault;
@@ -161,9 +161,9 @@ impl WatchedRun {
 
     /// Tells the witness of the line, if that is asked for.
     fn tell<T: Witness>(&self, witness: &mut T)
-        ensures { HeardIf T.hears (tells self.now.watching) witness.old (self.now.told ∷ []) witness.new }
+        ensures { HeardIf T.hears (is_telling self.now.watching) witness.old (self.now.told ∷ []) witness.new }
     {
-        if self.watching.tells() {
+        if self.watching.is_telling() {
             witness.tell(self.told.as_bytes());
         }
     }

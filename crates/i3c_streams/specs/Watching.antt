@@ -7,5 +7,5 @@ abbrev pub is_plain : Watching → Bool
 is_plain watching = not (watching.numbers || (watching.echo || (watching.explain || (watching.strict || watching.test))))
 
 -- a witness is told something: why lines are refused, or why lines have no form
-abbrev pub tells : Watching → Bool
-tells watching = watching.explain || watching.test
+abbrev pub is_telling : Watching → Bool
+is_telling watching = watching.explain || watching.test

@@ -15,7 +15,7 @@ pub struct Watching {
 
 impl Watching {
     ghost use Rattle.std.specs.Prelude.{◌≡◌};
-    ghost use Rattle.i3c_streams.specs.Watching.{is_plain, tells};
+    ghost use Rattle.i3c_streams.specs.Watching.{is_plain, is_telling};
 
     /// Whether nothing more is shown.
     pub fn is_plain(self) -> bool
@@ -25,8 +25,8 @@ impl Watching {
     }
 
     /// Whether a witness is told something.
-    pub fn tells(self) -> bool
-        ensures { result ≡ tells self }
+    pub fn is_telling(self) -> bool
+        ensures { result ≡ is_telling self }
     {
         self.explain || self.test
     }

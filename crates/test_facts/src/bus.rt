@@ -256,8 +256,12 @@ fn facts_of_the_pieces_of_a_line(rt: HostRuntime) -> Result<(), Fail> {
         alloc: rt.alloc(),
     };
     let heard = &mut seen.before.heard;
-    heard.hear(Piece::Served(Served::Recorded(7))).expect(&rt, "memory");
-    heard.hear(Piece::Bytes(Bytes::new(&[0x0A, 0x0B]))).expect(&rt, "memory");
+    heard
+        .hear(Piece::Served(Served::Recorded(7)))
+        .expect(&rt, "memory");
+    heard
+        .hear(Piece::Bytes(Bytes::new(&[0x0A, 0x0B])))
+        .expect(&rt, "memory");
     heard.hear(Piece::Done).expect(&rt, "memory");
     seen.is_met(&rt, "expect served recorded");
     seen.is_met(&rt, "expect bytes 0A");

@@ -1,6 +1,5 @@
-use Rattle.std.proofs.Common.{◌∙◌, ap, arith, sym}
+use Rattle.std.proofs.Common.{◌∙◌, arith}
 use Rattle.std.proofs.lemmas.Grind.{common_steps}
-use Rattle.i3c_device.specs.Sets.{has}
 use Rattle.i3c_facts.proofs.AskLaws.{asking_is}
 use Rattle.i3c_facts.proofs.holding.asks.Goals as goal
 
