@@ -8,3 +8,4 @@ pub mod PrintedMarks
 pub mod CountLaws
 pub mod AskLaws
 pub mod BytesLaws
+pub mod MarkFaultLaws

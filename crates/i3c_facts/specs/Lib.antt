@@ -4,3 +4,4 @@ pub mod Hearing
 pub mod Holding
 pub mod Printing
 pub mod Laws
+pub mod MarkFaults

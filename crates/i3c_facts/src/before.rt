@@ -34,7 +34,7 @@ pub struct Before {
 
 impl Heard {
     ghost use Rattle.std.specs.Prelude.{◌≡◌};
-    ghost use Rattle.i3c_facts.specs.Hearing.{nothing_heard};
+    ghost use Rattle.i3c_facts.specs.Hearing.{heard_with, nothing_heard};
 
     /// No piece was heard.
     #[inline(always)]
@@ -44,6 +44,20 @@ impl Heard {
         Heard {
             served: Served::Quiet,
             read: None,
+        }
+    }
+
+    /// Notes one more piece: what a frame's first request came to, or which bytes were read.
+    // in line, where it is known which piece is heard
+    #[inline(always)]
+    pub fn note(&mut self, piece: &Piece)
+        ensures { self.new ≡ heard_with self.old piece.now }
+    {
+        match piece {
+            Piece::Served(served) => self.served = *served,
+            Piece::Bytes(bytes) => self.read = Some(*bytes),
+            Piece::Told(_, bytes) => self.read = Some(*bytes),
+            _ => {}
         }
     }
 }
@@ -68,15 +82,9 @@ impl Listener for Heard {
 
     ghost heard = { heard_with };
 
-    // in line, where it is known which piece is heard
     #[inline(always)]
     fn hear(&mut self, piece: Piece) -> Result<(), AllocError> {
-        match piece {
-            Piece::Served(served) => self.served = served,
-            Piece::Bytes(bytes) => self.read = Some(bytes),
-            Piece::Told(_, bytes) => self.read = Some(bytes),
-            _ => {}
-        }
+        self.note(&piece);
         Ok(())
     }
 }

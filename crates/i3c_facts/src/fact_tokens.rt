@@ -251,7 +251,7 @@ fn bytes(token: &[u8]) -> Option<Fact>
 }
 
 /// One to sixteen bytes, each of two hex digits.
-fn written_bytes(token: &[u8]) -> Option<Bytes>
+pub(crate) fn written_bytes(token: &[u8]) -> Option<Bytes>
     ensures { MatchOption result ((bytes : List ℕ) → WritesBytes token.now bytes → ⊥) (λ bytes. WritesBytes token.now bytes) }
 {
     let bytes = tokens::bytes(token)?;

@@ -28,7 +28,7 @@ fault_behind first front before after (FormFault.Misfit field token) is so = (am
 fault_behind first front before after (FormFault.Surplus token) is so = among_behind token.now front before after is so
 fault_behind first front before after (FormFault.Repeated token) is so = among_behind token.now front before after is so
 fault_behind first front before after FormFault.MissingFact is so = so
-fault_behind first front before after (FormFault.NoFact token) is so = among_behind token.now front before after is so
+fault_behind first front before after (FormFault.NoFact token) is so = (so.0, among_behind token.now front before after is so.1)
 
 -- one more token is in front
 pub front_more : (token : List ℕ) (front all before after : List (List ℕ)) → all ≡ front ++ before → before ≡ token ∷ after → all ≡ (front ++ token ∷ []) ++ after

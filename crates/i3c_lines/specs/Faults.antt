@@ -35,6 +35,10 @@ IsField Field.Shown token = (token ≡ codes "all") ⊎ (IsDecimal token × (dig
 abbrev pub IsAmong : List ℕ → List (List ℕ) → Type 0
 IsAmong token tokens = (front behind : List (List ℕ)) × (tokens ≡ front ++ token ∷ behind)
 
+-- the first token of a mark with facts
+abbrev pub IsFactsWord : List ℕ → Type 0
+IsFactsWord token = (token ≡ codes "expect") ⊎ (token ≡ codes "always")
+
 -- what a fault says of a line's first token, and of those behind it: the first is the one that no command has, and the fault lies
 -- in one of the others, or behind them
 abbrev pub IsTokenFault : List ℕ → List (List ℕ) → FormFault → Type 0
@@ -44,8 +48,8 @@ IsTokenFault first rest (FormFault.Missing field) = ⊤
 IsTokenFault first rest (FormFault.Misfit field token) = IsAmong token.now rest × (IsField field token.now → ⊥)
 IsTokenFault first rest (FormFault.Surplus token) = IsAmong token.now rest
 IsTokenFault first rest (FormFault.Repeated token) = IsAmong token.now rest
-IsTokenFault first rest FormFault.MissingFact = ⊤
-IsTokenFault first rest (FormFault.NoFact token) = IsAmong token.now rest
+IsTokenFault first rest FormFault.MissingFact = IsFactsWord first
+IsTokenFault first rest (FormFault.NoFact token) = IsFactsWord first × IsAmong token.now rest
 IsTokenFault first rest _ = ⊥
 
 -- what a fault says of its line is so
@@ -167,7 +171,7 @@ IsFaultText (FormFault.Misfit field token) text =
     (lesson : List ℕ) × IsLesson field token.now lesson × (text ≡ labelled (label field) ++ (quoted token.now ++ (codes ": " ++ lesson)))
 IsFaultText (FormFault.Surplus token) text = text ≡ quoted token.now ++ codes ": a word too many"
 IsFaultText (FormFault.Repeated token) text = text ≡ quoted token.now ++ codes ": named twice"
-IsFaultText FormFault.MissingFact text = text ≡ codes "FACT is missing"
+IsFaultText FormFault.MissingFact text = text ≡ codes "a word of FACT is missing"
 IsFaultText (FormFault.NoFact token) text = text ≡ quoted token.now ++ codes ": no word of a fact"
 
 -- why a line has no form, as it is told

@@ -55,7 +55,7 @@ impl Field {
     ghost use Rattle.i3c_lines.specs.Faults.{IsField, expected, is_hexadecimal, label};
 
     /// Whether a token has this field's form.
-    pub(crate) fn fits(self, token: &[u8]) -> bool
+    pub fn fits(self, token: &[u8]) -> bool
         ensures { IsTrue result ↔ IsField self token.now }
     {
         match self {

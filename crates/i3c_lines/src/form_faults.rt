@@ -54,7 +54,7 @@ pub enum FormFault<'a> {
     Surplus(&'a [u8]),
     /// This token names a kind of request, or a device, that a token before it names.
     Repeated(&'a [u8]),
-    /// A mark has no fact where one has to be.
+    /// A fact of a mark is missing, or isn't whole.
     MissingFact,
     /// No fact of a mark has this token at its place.
     NoFact(&'a [u8]),
@@ -271,7 +271,7 @@ impl FormFault<'_> {
             FormFault::Misfit(field, token) => push_misfit(*field, token, text),
             FormFault::Surplus(token) => push_behind(token, b": a word too many", text),
             FormFault::Repeated(token) => push_behind(token, b": named twice", text),
-            FormFault::MissingFact => text.push(b"FACT is missing"),
+            FormFault::MissingFact => text.push(b"a word of FACT is missing"),
             FormFault::NoFact(token) => push_behind(token, b": no word of a fact", text),
         }
     }

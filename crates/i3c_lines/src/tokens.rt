@@ -27,7 +27,7 @@ const BYTE_DIGITS: usize = 2;
 
 /// The tokens of a line, which are parted by exactly one space: those that weren't read yet.
 #[derive(Clone, Copy)]
-pub(crate) struct Tokens<'a> {
+pub struct Tokens<'a> {
     rest: Option<&'a [u8]>,
 }
 

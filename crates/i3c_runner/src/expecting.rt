@@ -4,7 +4,7 @@ ghost use Rattle.i3c_lines.specs.Forms.{HasNoForm};
 ghost use Rattle.i3c_runner.specs.Expecting.{IsBad, IsMarked, unmet_line};
 
 use i3c_bus::Bus;
-use i3c_facts::{Before, Facts, read_mark};
+use i3c_facts::{Before, Facts, mark_fault, read_mark};
 use i3c_lines::{FormFault, Names, form_fault};
 use i3c_text::Text;
 use std::alloc::{AllocError, Global};
@@ -18,8 +18,22 @@ pub(crate) fn line_fault(alloc: Global, line: &[u8]) -> Result<Option<FormFault<
     };
     match read_mark(alloc, line) {
         Ok(Some(_)) => Ok(None),
-        Ok(None) => Ok(Some(fault)),
+        Ok(None) => Ok(Some(told_fault(line, fault))),
         Err(short) => Err(short),
+    }
+}
+
+/// What is told of a line without a form, whose fault this is: of one that begins as a mark, which of the mark's words is wrong.
+pub(crate) fn told_fault<'a>(line: &'a [u8], fault: FormFault<'a>) -> FormFault<'a>
+    requires { IsSo line.now fault }
+    ensures { IsSo line.now result }
+{
+    let FormFault::Unknown(_) = fault else {
+        return fault;
+    };
+    match mark_fault(line) {
+        Some(fault) => fault,
+        None => fault,
     }
 }
 

@@ -6,6 +6,7 @@ ghost use Rattle.i3c_script.specs.Obeying.{script as state_of};
 ghost use Rattle.i3c_runner.specs.Expecting.{name_in_slot};
 ghost use Rattle.i3c_runner.specs.Reasons.{Adds, AreCutNotes, IsDoneAs, IsDoneNote, IsEntryNote, IsFirstTwin, IsFormNote, IsFormTold, IsJudged, IsOutcomeTold, IsReadOf, IsRefusalNote, IsRefusedAs, IsTwin, IsTwinNote, active_stays_reason, bus_reason, cut_note, cuts_on, declare_reason, is_active_reason, legacy_reason, line_start, no_address_reason, no_answer_reason, not_capable_reason, reason_text, refusal_note, slot_note, slots_told, twin_note};
 
+use crate::expecting::told_fault;
 use crate::script::Script;
 use i3c_base::{Cuts, Identity, SLOTS, Slot};
 use i3c_bus::{Bus, Command as Frame, Refusal as BusRefusal};
@@ -156,6 +157,7 @@ fn explain_form(alloc: Global, number: u64, line: &[u8], text: &mut Text) -> Res
 {
     match form_fault(line) {
         Some(fault) => {
+            let fault = told_fault(line, fault);
             begin(number, text)?;
             fault.push(alloc, text)?;
             text.end()

@@ -34,7 +34,7 @@ impl Listener for Said {
     // in line, where it is known which piece is heard
     #[inline(always)]
     fn hear(&mut self, piece: Piece) -> Result<(), AllocError> {
-        self.heard.hear(piece)?;
+        self.heard.note(&piece);
         self.text.hear(piece)
     }
 }

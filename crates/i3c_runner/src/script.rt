@@ -322,13 +322,13 @@ impl Script {
         ensures refused { self.new.refused ≡ self.old.refused }
         ensures begins { Prints (λ said refused. AlwaysAt (state self.old) self.old.stage facts said refused (noted (state self.new) result)) self.old.said.text self.new.said.text result }
     {
+        let before = self.before();
         let Stage::Running(running) = &self.stage else {
             self.said.heard = Heard::nothing();
             return Err(LineError::Refused(Refusal::NoBus));
         };
         let number = self.lines;
         let one = Lasting { number, facts };
-        let before = self.before();
         if test_one(
             running.bus(),
             &self.names,
@@ -383,11 +383,11 @@ impl Script {
         ensures command { self.new.command ≡ self.old.command }
         ensures lasts { OnOk result (HaveLasted (state self.old) self.old.said.text self.new.said.text (state self.new)) }
     {
+        let before = self.before();
         let Stage::Running(running) = &self.stage else {
             return Ok(());
         };
         let lasting = mem::replace(&mut self.lasting, Vec::new(self.alloc));
-        let before = self.before();
         self.lasting = test_all(
             self.alloc,
             running.bus(),
@@ -407,12 +407,12 @@ impl Script {
         ensures refused { self.new.refused ≡ self.old.refused }
         ensures tests { Prints (λ said refused. TestsAt (state self.old) self.old.stage facts.now said refused (noted (state self.new) result)) self.old.said.text self.new.said.text result }
     {
+        let before = self.before();
         let Stage::Running(running) = &self.stage else {
             self.said.heard = Heard::nothing();
             return Err(LineError::Refused(Refusal::NoBus));
         };
         let bus = running.bus();
-        let before = self.before();
         if facts.hold(bus, &self.names, &before) {
             push_met(&mut self.said.text)?;
             return Ok(());

@@ -114,6 +114,7 @@ impl WatchedRun {
         ensures whole { OnOk result (IsAtEnd (R.remaining reader.new)) }
         ensures fits { OnOk result (IfSome (R.remaining reader.old) (λ bytes. length bytes ≤ MOST_BYTES)) }
         ensures runs { RunsWatched T.hears self.old.watching (R.remaining reader.old) (W.contents out.old) (W.contents out.new) witness.old witness.new (progress self.old.script) (progress self.new.script) result }
+        ensures watching { self.new.watching ≡ self.old.watching }
     {
         let mut lines = ScriptLines::new(self.script.alloc);
         for number in 1..u64::MAX {
