@@ -4,9 +4,13 @@ use Rattle.i3c_lines.specs.declared.form_faults.FormFault.{FormFault}
 use Rattle.i3c_lines.specs.Faults.{IsFactsWord, IsSo, IsTokenFault}
 use Rattle.i3c_lines.specs.Forms.{tokens_of}
 
+-- the first token of a mark without facts
+abbrev pub IsPlainWord : List ℕ → Type 0
+IsPlainWord token = (token ≡ codes "anywhere") ⊎ (token ≡ codes "any") ⊎ (token ≡ codes "track") ⊎ (token ≡ codes "close")
+
 -- the first token of a mark
 abbrev pub IsMarkWord : List ℕ → Type 0
-IsMarkWord token = IsFactsWord token ⊎ (token ≡ codes "anywhere") ⊎ (token ≡ codes "any") ⊎ (token ≡ codes "track") ⊎ (token ≡ codes "close")
+IsMarkWord token = IsFactsWord token ⊎ IsPlainWord token
 
 -- a line begins as a mark
 abbrev pub BeginsMark : List ℕ → Type 0

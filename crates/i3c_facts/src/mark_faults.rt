@@ -1,11 +1,11 @@
-ghost use Rattle.std.specs.Prelude.{ℕ, List, MatchOption};
+ghost use Rattle.std.specs.Prelude.{◌≡◌, ℕ, List, None, MatchOption};
 ghost use Rattle.i3c_lines.specs.Faults.{IsAmong, IsFactsWord};
 ghost use Rattle.i3c_lines.specs.Parsing.{left_tokens};
-ghost use Rattle.i3c_facts.specs.MarkFaults.{BeginsMark, IsMarkFault, IsMarkWord, IsWordFault};
+ghost use Rattle.i3c_facts.specs.MarkFaults.{BeginsMark, IsMarkFault, IsMarkWord, IsPlainWord, IsWordFault};
 
 use crate::fact_forms::{is_begun, is_whole};
 use i3c_lines::tokens::{Tokens, is_token};
-use i3c_lines::{Field, FormFault, Name};
+use i3c_lines::{Field, FormFault, misfit_behind};
 
 /// Why a line that begins as a mark isn't one: its first word that is wrong. A mark that is whole is told as an unknown line.
 pub fn mark_fault(line: &[u8]) -> Option<FormFault<'_>>
@@ -25,42 +25,23 @@ fn word_fault<'a>(first: &'a [u8], tokens: &mut Tokens<'a>) -> Option<FormFault<
     if is_token(first, b"expect") || is_token(first, b"always") {
         return Some(facts_fault(first, tokens));
     }
+    match plain_fields(first) {
+        Some(fields) => Some(misfit_behind(first, fields, tokens)),
+        None => None,
+    }
+}
+
+/// The fields of a mark without facts, by its first token.
+fn plain_fields(first: &[u8]) -> Option<&'static [Field]>
+    ensures { result ≡ None → IsPlainWord first.now → ⊥ }
+{
     if is_token(first, b"anywhere") {
-        return Some(name_fault(first, tokens));
+        return Some(&[Field::Name]);
     }
     if is_token(first, b"any") || is_token(first, b"track") || is_token(first, b"close") {
-        return Some(last_fault(first, tokens));
+        return Some(&[]);
     }
     None
-}
-
-/// What is wrong where a name has to be, and nothing else.
-fn name_fault<'a>(first: &'a [u8], tokens: &mut Tokens<'a>) -> FormFault<'a>
-    requires { IsFactsWord first.now → ⊥ }
-    ensures { IsWordFault first.now (left_tokens tokens.old) result }
-{
-    let Some(token) = tokens.next() else {
-        return FormFault::Missing(Field::Name);
-    };
-    if token.is_empty() {
-        return FormFault::TwoSpaces;
-    }
-    if !Field::Name.fits(token) {
-        return FormFault::Misfit(Field::Name, token);
-    }
-    last_fault(first, tokens)
-}
-
-/// What is wrong where no token has to be.
-fn last_fault<'a>(first: &'a [u8], tokens: &mut Tokens<'a>) -> FormFault<'a>
-    requires { IsFactsWord first.now → ⊥ }
-    ensures { IsWordFault first.now (left_tokens tokens.old) result }
-{
-    match tokens.next() {
-        None => FormFault::Unknown(first),
-        Some(token) if token.is_empty() => FormFault::TwoSpaces,
-        Some(token) => FormFault::Surplus(token),
-    }
 }
 
 /// The first of a mark's facts that isn't whole, or its first token that is no word of a fact.

@@ -131,6 +131,17 @@ fn misfit<'a>(first: &'a [u8], shape: &Shape, tokens: &mut Tokens<'a>) -> FormFa
     }
 }
 
+/// The first of the tokens behind a line's first that isn't as these fields have it. No more may follow.
+pub fn misfit_behind<'a>(
+    first: &'a [u8],
+    fields: &'static [Field],
+    tokens: &mut Tokens<'a>,
+) -> FormFault<'a>
+    ensures { IsTokenFault first.now (left_tokens tokens.old) result }
+{
+    misfit(first, &Shape::of(fields), tokens)
+}
+
 /// The first of a policy's tokens that may not follow those before it.
 fn kind_misfit<'a>(first: &'a [u8], tokens: &mut Tokens<'a>) -> FormFault<'a>
     ensures { IsTokenFault first.now (left_tokens tokens.old) result }

@@ -27,7 +27,7 @@ pub use capitals::push_capitals;
 pub use command::Command;
 pub use data::{datum, datum_name, length_token};
 pub use fields::Field;
-pub use form_faults::{FormFault, form_fault, push_quoted};
+pub use form_faults::{FormFault, form_fault, misfit_behind, push_quoted};
 pub use laws::{
     lines_are_of_one_command, printed_commands_are_read, skipped_lines_are_no_commands,
 };

@@ -11,6 +11,17 @@ pub(crate) struct Shape {
     pub(crate) optional: Option<Field>,
 }
 
+impl Shape {
+    /// These fields behind some first token.
+    pub(crate) fn of(required: &'static [Field]) -> Shape {
+        Shape {
+            token: "",
+            required,
+            optional: None,
+        }
+    }
+}
+
 /// The commands, in the order of docs/FORMATS.md.
 static SHAPES: [Shape; 38] = [
     Shape {
