@@ -22,7 +22,10 @@ pub fn mark_fault(line: &[u8]) -> Option<FormFault<'_>>
 fn word_fault<'a>(first: &'a [u8], tokens: &mut Tokens<'a>) -> Option<FormFault<'a>>
     ensures { MatchOption result (IsMarkWord first.now → ⊥) (λ fault. IsWordFault first.now (left_tokens tokens.old) fault) }
 {
-    if is_token(first, b"expect") || is_token(first, b"always") {
+    if is_token(first, b"expect") {
+        return Some(facts_fault(first, tokens));
+    }
+    if is_token(first, b"always") {
         return Some(facts_fault(first, tokens));
     }
     match plain_fields(first) {
@@ -38,7 +41,13 @@ fn plain_fields(first: &[u8]) -> Option<&'static [Field]>
     if is_token(first, b"anywhere") {
         return Some(&[Field::Name]);
     }
-    if is_token(first, b"any") || is_token(first, b"track") || is_token(first, b"close") {
+    if is_token(first, b"any") {
+        return Some(&[]);
+    }
+    if is_token(first, b"track") {
+        return Some(&[]);
+    }
+    if is_token(first, b"close") {
         return Some(&[]);
     }
     None

@@ -5,6 +5,7 @@ use strsim::osa_distance;
 
 /// A command's first token, the fields that must follow it, and one that may follow these. A kind may be followed by
 /// others, and by `but` with names.
+#[derive(Clone, Copy)]
 pub(crate) struct Shape {
     token: &'static str,
     pub(crate) required: &'static [Field],
