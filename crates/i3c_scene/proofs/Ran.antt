@@ -8,7 +8,6 @@ use Rattle.i3c_lines.specs.declared.command.Command.{Command}
 use Rattle.i3c_lines.specs.declared.refusals.Refusal.{Refusal}
 use Rattle.i3c_script.specs.declared.piece.Piece.{Piece}
 use Rattle.i3c_script.specs.Hearing.{Hears, all_heard}
-use Rattle.i3c_script.specs.Stops.{Ends}
 use Rattle.i3c_text.specs.declared.line_error.LineError.{LineError}
 use Rattle.i3c_scene.specs.declared.risk.Risk.{Risk}
 use Rattle.i3c_scene.specs.declared.ways.Ways.{Ways}
@@ -42,8 +41,10 @@ ran_heard old cut new line command sent risk ways outcome ended start heard is s
     runs_so old cut new line command sent risk ways (known ended heard) pieces refused is sent_so cut_so does came
 
 -- and where nobody heard it
-pub ran_unheard : {L : Type 0} (hears : L → Piece → L) (old cut new : Seen) (line : Option Command) (command : Command) (sent : Bool) (risk : Risk) (ways : Ways) (outcome : Result (Unit {0}) (LineError Refusal)) (start heard : L) → line ≡ Some command → sent ≡ sends command
-    → cut ≡ cut_as old sent risk ways → Hears hears (λ (pieces : List Piece) (refused : Option Refusal). Does cut command pieces refused new) start heard outcome → Ends (λ (refused : Option Refusal). (before : Before) × RunsIn old line risk ways before new) outcome
-ran_unheard hears old cut new line command sent risk ways (Ok done) start heard is sent_so cut_so (pieces, told, does) = (came_to pieces None, runs_so old cut new line command sent risk ways (came_to pieces None) pieces None is sent_so cut_so does refl)
-ran_unheard hears old cut new line command sent risk ways (Err (LineError.Refused why)) start heard is sent_so cut_so (pieces, told, does) = (came_to pieces (Some why), runs_so old cut new line command sent risk ways (came_to pieces (Some why)) pieces (Some why) is sent_so cut_so does refl)
-ran_unheard hears old cut new line command sent risk ways (Err LineError.Memory) start heard is sent_so cut_so told = told
+pub ran_unheard : {L : Type 0} (hears : L → Piece → L) (old cut new : Seen) (line : Option Command) (command : Command) (sent : Bool) (risk : Risk) (ways : Ways) (outcome : Result (Unit {0}) (LineError Refusal)) (ended : LineResult) (start heard : L) → line ≡ Some command
+    → sent ≡ sends command → cut ≡ cut_as old sent risk ways → Hears hears (λ (pieces : List Piece) (refused : Option Refusal). Does cut command pieces refused new) start heard outcome → IsEndOf outcome ended → (before : Before) × RunsIn old line risk ways before new
+ran_unheard hears old cut new line command sent risk ways (Ok done) ended start heard is sent_so cut_so (pieces, told, does) same =
+    (came_to pieces None, runs_so old cut new line command sent risk ways (came_to pieces None) pieces None is sent_so cut_so does refl)
+ran_unheard hears old cut new line command sent risk ways (Err (LineError.Refused why)) ended start heard is sent_so cut_so (pieces, told, does) same =
+    (came_to pieces (Some why), runs_so old cut new line command sent risk ways (came_to pieces (Some why)) pieces (Some why) is sent_so cut_so does refl)
+ran_unheard hears old cut new line command sent risk ways (Err LineError.Memory) ended start heard is sent_so cut_so told same = absurd same

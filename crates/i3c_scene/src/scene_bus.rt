@@ -212,10 +212,8 @@ impl SceneBus {
             return Ok(());
         };
         self.cut_as(sends(command), &line.risk, ways);
-        match self.obey(command, &mut Deaf) {
-            Ok(()) | Err(LineError::Refused(_)) => Ok(()),
-            Err(LineError::Memory) => Err(AllocError),
-        }
+        let _ended = end_of(&self.obey(command, &mut Deaf))?;
+        Ok(())
     }
 
     /// Runs a line in these ways of the devices at risk, and answers what facts know of it then.
