@@ -212,8 +212,10 @@ impl SceneBus {
             return Ok(());
         };
         self.cut_as(sends(command), &line.risk, ways);
-        let _ended = end_of(&self.obey(command, &mut Deaf))?;
-        Ok(())
+        match end_of(&self.obey(command, &mut Deaf)) {
+            Ok(_) => Ok(()),
+            Err(short) => Err(short),
+        }
     }
 
     /// Runs a line in these ways of the devices at risk, and answers what facts know of it then.
