@@ -1,10 +1,10 @@
 -- The faults of a mark's tokens are its line's.
-use Rattle.std.proofs.Common.{◌≡◌, ◌∙◌, ℕ, List, [], ◌∷◌, Option, Some, None, MatchOption, ap, subst, sym}
+use Rattle.std.proofs.Common.{◌≡◌, ◌∙◌, ℕ, List, [], ◌∷◌, Option, Some, None, MatchOption, ap, codes, inl, inr, subst, sym}
 use Rattle.i3c_lines.specs.declared.form_faults.FormFault.{FormFault}
-use Rattle.i3c_lines.specs.Faults.{IsSo}
+use Rattle.i3c_lines.specs.Faults.{IsFactsWord, IsSo, IsTokenFault}
 use Rattle.i3c_lines.specs.Forms.{tokens_of}
 use Rattle.i3c_lines.proofs.FaultLaws.{line_so}
-use Rattle.i3c_facts.specs.MarkFaults.{BeginsMark, IsMarkFault, IsMarkWord, IsWordFault}
+use Rattle.i3c_facts.specs.MarkFaults.{BeginsMark, IsMarkFault, IsMarkWord, IsPlainWord, IsWordFault}
 
 -- the first of some tokens
 first_of : List (List ℕ) → List ℕ
@@ -20,3 +20,24 @@ of_line line first rest (Some fault) is so = (first, rest, is, so)
 -- and what they say of the line is so
 pub mark_so : (line : List ℕ) (fault : FormFault) → IsMarkFault line fault → IsSo line fault
 mark_so line fault (first, rest, is, so, of_facts) = line_so line first rest fault is so
+
+-- a token that is neither `expect` nor `always` begins no facts
+pub no_facts : (first : List ℕ) → (first ≡ codes "expect" → ⊥) → (first ≡ codes "always" → ⊥) → IsFactsWord first → ⊥
+no_facts first expect always (inl is) = expect is
+no_facts first expect always (inr is) = always is
+
+-- one that is none of the other words begins no other mark
+pub no_plain : (first : List ℕ) → (first ≡ codes "anywhere" → ⊥) → (first ≡ codes "any" → ⊥) → (first ≡ codes "track" → ⊥) → (first ≡ codes "close" → ⊥) → IsPlainWord first → ⊥
+no_plain first anywhere any track close (inl is) = anywhere is
+no_plain first anywhere any track close (inr (inl is)) = any is
+no_plain first anywhere any track close (inr (inr (inl is))) = track is
+no_plain first anywhere any track close (inr (inr (inr is))) = close is
+
+-- one that is none of both begins no mark
+pub no_mark : (first : List ℕ) → (IsFactsWord first → ⊥) → (IsPlainWord first → ⊥) → IsMarkWord first → ⊥
+no_mark first facts plain (inl is) = facts is
+no_mark first facts plain (inr is) = plain is
+
+-- a fault behind a token that begins no facts
+pub behind_plain : (first : List ℕ) (rest : List (List ℕ)) (fault : FormFault) → (IsFactsWord first → ⊥) → IsTokenFault first rest fault → IsWordFault first rest fault
+behind_plain first rest fault none so = (so, λ is. absurd (none is))
