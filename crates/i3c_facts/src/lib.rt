@@ -10,8 +10,8 @@
 mod before;
 mod counting;
 mod fact;
-mod fact_tokens;
 mod fact_forms;
+mod fact_tokens;
 mod facts;
 mod holding;
 mod laws;
