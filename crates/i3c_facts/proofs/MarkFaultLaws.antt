@@ -7,7 +7,7 @@ use Rattle.i3c_lines.proofs.FaultLaws.{line_so}
 use Rattle.i3c_facts.specs.MarkFaults.{BeginsMark, IsMarkFault, IsMarkWord, IsPlainWord, IsWordFault}
 
 -- the first of some tokens
-first_of : List (List ℕ) → List ℕ
+abbrev first_of : List (List ℕ) → List ℕ
 first_of [] = []
 first_of (token ∷ tokens) = token
 

@@ -5,7 +5,7 @@ use Rattle.i3c_facts.proofs.MarkFaultLaws.{of_line}
 use Rattle.i3c_facts.proofs.mark_faults.mark_fault.Goals as goal
 
 pub returns-in_default : goal.returns-in_default
-returns-in_default c (first, rest, is, word) = token_left c.args.line.now (sym c.of-tokens.ensures ∙ c.in_default.ensures)
+returns-in_default c begins = token_left c.args.line.now (sym c.of-tokens.ensures ∙ c.in_default.ensures)
 
 pub returns : goal.returns
 returns c = of_line c.args.line.now c.in-Some.first.now (left_tokens c.next.new.self) c.word_fault.result (sym c.of-tokens.ensures ∙ c.in-Some.ensures) c.word_fault.ensures
