@@ -80,9 +80,9 @@ IsWave found task = ⊥
 
 -- the task of `explore`
 abbrev pub IsExplore : Found → Task → Type 0
-IsExplore found (Task.Explore limits part count file) =
-    IsNumberOf most_lines found limits.steps × (limits.states ≡ 16384) × IsPartOf (first_value found (codes "part")) part
-    × IsNumberOf jobs found count × (file.now ≡ file_of found)
+IsExplore found (Task.Explore exploring file) =
+    IsNumberOf most_lines found exploring.limits.steps × (exploring.limits.states ≡ 16384) × IsPartOf (first_value found (codes "part")) exploring.part
+    × IsNumberOf jobs found exploring.jobs × IsFlag found (codes "quiet") exploring.quiet × (file.now ≡ file_of found)
 IsExplore found task = ⊥
 
 -- the task of `stress`

@@ -8,7 +8,7 @@ use Rattle.i3c_task.specs.declared.words_fault.WordsFault.{WordsFault}
 abbrev pub RunsInput : Task → Type 0
 RunsInput (Task.File work file) = (work ≡ Work.Run) × (file.now ≡ codes "-")
 RunsInput (Task.Capture capturing work file) = ⊥
-RunsInput (Task.Explore limits part jobs file) = ⊥
+RunsInput (Task.Explore exploring file) = ⊥
 RunsInput (Task.Stress stress) = ⊥
 RunsInput Task.Version = ⊥
 

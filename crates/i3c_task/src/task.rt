@@ -9,8 +9,8 @@ use crate::argument::Bonds;
 use crate::options::{flag_given, legacies_given, number_given, part_given, text_given};
 use crate::verb::{
     ALL, DEVICES, ECHO, EXPLAIN, FILE, FROM_TRACE, JOBS, JSON, LEGACY, LINT, MOST, MOST_DEVICES,
-    MOST_JOBS, MOST_POSTS, NUMBERS, PART, POSTS, SCL, SDA, STRICT, TEST, TOTALS, VCD, Verb, parser,
-    usages,
+    MOST_JOBS, MOST_POSTS, NUMBERS, PART, POSTS, QUIET, SCL, SDA, STRICT, TEST, TOTALS, VCD, Verb,
+    parser, usages,
 };
 use crate::words_fault::WordsFault;
 use clap::ArgMatches;
@@ -39,8 +39,8 @@ pub enum Task<'a> {
     File(Work, &'a str),
     /// Reads this file as a capture, and tells its symbols.
     Capture(Capturing<'a>, Telling, &'a str),
-    /// Tries every order of this part, of this file's tracks, within these limits, by up to this number of jobs.
-    Explore(Limits, Part, usize, &'a str),
+    /// Tries every order of this file's tracks so.
+    Explore(Exploring, &'a str),
     /// Lets devices post from threads of their own.
     Stress(Stress),
     /// Prints which program this is.
@@ -90,6 +90,18 @@ pub struct Capturing<'a> {
     pub legacies: Addresses,
     /// Whether each frame has its time.
     pub numbers: bool,
+}
+
+/// How the orders of a file's tracks are tried.
+#[derive(Clone, Copy)]
+pub struct Exploring {
+    pub limits: Limits,
+    /// The part of all orders.
+    pub part: Part,
+    /// The most threads that run lines.
+    pub jobs: usize,
+    /// Whether numbers alone are printed where all holds.
+    pub quiet: bool,
 }
 
 /// How many devices post, and how often each tries to.
@@ -286,7 +298,7 @@ fn wave_given<'a>(given: &ArgMatches<'a>) -> Result<Task<'a>, WordsFault>
     Ok(Task::File(work, file_given(given)))
 }
 
-/// The file that was given to be explored, its limits, the part of its orders, and the number of jobs.
+/// The file that was given to be explored, and how.
 fn explore_given<'a>(given: &ArgMatches<'a>) -> Result<Task<'a>, WordsFault>
     ensures { IfOk result (IsExplore (found_of given.now)) }
 {
@@ -296,7 +308,13 @@ fn explore_given<'a>(given: &ArgMatches<'a>) -> Result<Task<'a>, WordsFault>
     };
     let part = part_given(given.get_str(PART))?;
     let jobs = number_given(given, JOBS, 1, MOST_JOBS, 1)? as usize;
-    Ok(Task::Explore(limits, part, jobs, file_given(given)))
+    let exploring = Exploring {
+        limits,
+        part,
+        jobs,
+        quiet: flag_given(given, QUIET),
+    };
+    Ok(Task::Explore(exploring, file_given(given)))
 }
 
 /// The stress that was given. The parser requires both numbers.

@@ -33,12 +33,14 @@ pub(crate) const EXPLAIN: &str = "explain";
 pub(crate) const JSON: &str = "json";
 
 /// The options of `explore` for the number of lines that may be run, for the part of all orders that is tried, and for the
-/// number of threads that run lines.
+/// number of threads that run lines; and its flag that leaves out the ends.
 pub(crate) const MOST: &str = "most";
 
 pub(crate) const PART: &str = "part";
 
 pub(crate) const JOBS: &str = "jobs";
+
+pub(crate) const QUIET: &str = "quiet";
 
 /// The flags of `trace` that ask for all codes by name, for faults too, and for a file that is a capture of the lines.
 pub(crate) const ALL: &str = "all";
@@ -192,6 +194,12 @@ const OF_EXPLORE: &[Argument] = &[
         takes: Takes::Number("N", ValueParser::Unsigned(1, MOST_JOBS)),
         bond: Bond::Free,
         help: "Uses N threads, 1 without this, and prints the same",
+    },
+    Argument {
+        name: QUIET,
+        takes: Takes::Nothing,
+        bond: Bond::Free,
+        help: "Prints the numbers alone where all holds, and no end",
     },
     Argument {
         name: FILE,

@@ -13,6 +13,7 @@ use crate::broken::push_broken;
 use crate::plan::{Plan, PlanFault, read_plan};
 use crate::refusal::{Reason, Refusal};
 use crate::report::push_report;
+use crate::showing::Showing;
 use i3c_explore::{Limits, Part, Stop, Watch, explore_on};
 use i3c_streams::{CHUNK, ScriptFault, ScriptLines, write_out};
 use i3c_text::Text;
@@ -33,6 +34,7 @@ pub fn run_explore<T: Threads + Sync, R: Read, W: Write, V: Watch>(
     limits: Limits,
     part: Part,
     jobs: usize,
+    showing: Showing,
     watch: &V,
 ) -> Result<Answer, ScriptFault>
     // an `Ok` comes after the whole of a file that isn't too large
@@ -44,15 +46,17 @@ pub fn run_explore<T: Threads + Sync, R: Read, W: Write, V: Watch>(
     ensures answer { IfOk result (λ answer. (lines : List (VecValue ℕ)) × AreLines (R.remaining reader.old) lines × IsExplored lines part answer) }
     // What went out is one of three. It is the first refusal of the file's lines, or that a limit was reached. Or it is the shortest order that breaks an expectation, as a script of
     // the file's lines, with which expectation the last of them breaks. Or it has the ends to which all orders of the part
-    // lead, each with an order that leads there, how many orders do, and how many lines were run.
-    ensures printed { IfOk result (λ answer. (lines : List (VecValue ℕ)) × (said : List ℕ) × AreLines (R.remaining reader.old) lines × IsPrinted lines limits part answer [] said × Appends (W.contents writer.old) (W.contents writer.new) said) }
+    // lead, each with an order that leads there, how many orders do, and how many lines were run; or these numbers alone.
+    ensures printed { IfOk result (λ answer. (lines : List (VecValue ℕ)) × (said : List ℕ) × AreLines (R.remaining reader.old) lines × IsPrinted lines limits part showing answer [] said × Appends (W.contents writer.old) (W.contents writer.new) said) }
 {
     let lines = match read_lines(alloc, reader) {
         Ok(lines) => lines,
         Err(fault) => return Err(fault),
     };
     let mut text = Text::new(alloc);
-    let Ok(answer) = answer_file(rt, alloc, &lines, limits, part, jobs, watch, &mut text) else {
+    let Ok(answer) = answer_file(
+        rt, alloc, &lines, limits, part, jobs, showing, watch, &mut text,
+    ) else {
         return Err(ScriptFault::Memory);
     };
     match write_out(text.as_bytes(), writer) {
@@ -106,14 +110,17 @@ fn answer_file<T: Threads + Sync, V: Watch>(
     limits: Limits,
     part: Part,
     jobs: usize,
+    showing: Showing,
     watch: &V,
     text: &mut Text,
 ) -> Result<Answer, AllocError>
     ensures answer { IfOk result (IsExplored lines.now part) }
-    ensures printed { IfOk result (λ answer. IsPrinted lines.now limits part answer text.old text.new) }
+    ensures printed { IfOk result (λ answer. IsPrinted lines.now limits part showing answer text.old text.new) }
 {
     match read_plan(alloc, lines) {
-        Ok(plan) => explore_plan(rt, alloc, lines, &plan, limits, part, jobs, watch, text),
+        Ok(plan) => explore_plan(
+            rt, alloc, lines, &plan, limits, part, jobs, showing, watch, text,
+        ),
         Err(PlanFault::Memory) => Err(AllocError),
         Err(PlanFault::Refused(refusal)) => {
             refusal.push(text)?;
@@ -143,11 +150,12 @@ fn explore_plan<T: Threads + Sync, V: Watch>(
     limits: Limits,
     part: Part,
     jobs: usize,
+    showing: Showing,
     watch: &V,
     text: &mut Text,
 ) -> Result<Answer, AllocError>
     ensures answer { IfOk result (IsAnswer plan.now.start plan.now.blocks.items part) }
-    ensures printed { IsPlan lines.now plan.now → IfOk result (λ answer. IsPrinted lines.now limits part answer text.old text.new) }
+    ensures printed { IsPlan lines.now plan.now → IfOk result (λ answer. IsPrinted lines.now limits part showing answer text.old text.new) }
 {
     let Some(left) = limits_left(limits, plan.before.len()) else {
         return refuse_most(text);
@@ -155,7 +163,7 @@ fn explore_plan<T: Threads + Sync, V: Watch>(
     let start = plan.start.copied(alloc)?;
     match explore_on(rt, alloc, start, &plan.blocks, left, part, jobs, watch) {
         Ok(found) => {
-            push_report(alloc, lines, plan, &found, text)?;
+            push_report(alloc, lines, plan, showing, &found, text)?;
             Ok(Answer::Holds)
         }
         Err(Stop::Breaks(order)) => {

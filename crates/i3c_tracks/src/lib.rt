@@ -2,7 +2,7 @@
 //!
 //! `read_plan` reads the plan of a file (`plan`): `file_line` parses a line, `draft` gathers lines, `front` keeps those before the
 //! bus, and `body` those behind it, with the `open_block`. `refusal` says why a file isn't explored. `run_explore`, in
-//! `exploring`, explores the plan and prints the ends (`report`), or an order that breaks an expectation as a script
+//! `exploring`, explores the plan and prints the ends (`report`), as far as `showing` asks for them, or an order that breaks an expectation as a script
 //! (`broken`), whose lines `course` puts one after another; `answer` is its result. `laws` is a theorem over all files.
 #![tactic(auto)]
 
@@ -19,9 +19,11 @@ mod open_block;
 mod plan;
 mod refusal;
 mod report;
+mod showing;
 
 pub use answer::Answer;
 pub use exploring::run_explore;
 pub use laws::files_have_one_plan;
 pub use plan::{Plan, PlanFault, read_plan};
 pub use refusal::{Reason, Refusal};
+pub use showing::Showing;

@@ -1,9 +1,10 @@
 ghost use Rattle.std.specs.Prelude.{◌≡◌, ◌<◌, ◌+◌, ◌^◌, ◌++◌, [], ℕ, List, IfOk, OnOk, false, length, not, true, if◌then◌else◌};
-ghost use Rattle.i3c_tracks.specs.Ends.{AreEndTexts, IsEndText, IsReport, numbers_text};
+ghost use Rattle.i3c_tracks.specs.Ends.{AreEndTexts, AreShown, IsEndText, IsReport, numbers_text};
 ghost use Rattle.i3c_tracks.specs.Telling.{cut_before, head_text, like_text, line_at, orders_text, parted_text, parting, run_cuts, short_run_text};
 
 use crate::course::{Run, runs_of};
 use crate::plan::Plan;
+use crate::showing::Showing;
 use i3c_explore::{Explored, Machine, Node};
 use i3c_lines::Name;
 use i3c_scene::{Risk, Runner, Scene, ways_of};
@@ -13,20 +14,38 @@ use std::alloc::{AllocError, Global};
 /// What is told of more than 64 bits.
 const OVER: &[u8] = b"over 18446744073709551615";
 
-/// Appends the whole report: the numbers, and then the ends.
+/// Appends the whole report: the numbers, and then what is shown of the ends.
 pub(crate) fn push_report(
     alloc: Global,
     lines: &[Vec<u8>],
     plan: &Plan,
+    showing: Showing,
     found: &Explored<Scene>,
     text: &mut Text,
 ) -> Result<(), AllocError>
     requires { found.now.steps + length plan.now.before.items < 2 ^ 64 }
-    ensures { OnOk result ((said : List ℕ) × IsReport lines.now plan.now found.now.ends.items found.now.orders (found.now.steps + length plan.now.before.items) said × (text.new ≡ text.old ++ said)) }
+    ensures { OnOk result ((said : List ℕ) × IsReport showing lines.now plan.now found.now.ends.items found.now.orders (found.now.steps + length plan.now.before.items) said × (text.new ≡ text.old ++ said)) }
 {
     let steps = found.steps + plan.before.len() as u64;
     push_numbers(found.orders, steps, found.ends.len() as u64, text)?;
-    push_ends(alloc, lines, plan, &found.ends, text)
+    push_shown(alloc, lines, plan, showing, &found.ends, text)
+}
+
+/// Appends what is shown of the ends.
+fn push_shown(
+    alloc: Global,
+    lines: &[Vec<u8>],
+    plan: &Plan,
+    showing: Showing,
+    ends: &[Node<Scene>],
+    text: &mut Text,
+) -> Result<(), AllocError>
+    ensures { OnOk result ((said : List ℕ) × AreShown showing lines.now plan.now ends.now said × (text.new ≡ text.old ++ said)) }
+{
+    match showing {
+        Showing::Ends => push_ends(alloc, lines, plan, ends, text),
+        Showing::Numbers => Ok(()),
+    }
 }
 
 /// Appends the numbers of orders, of lines that were run, and of ends.

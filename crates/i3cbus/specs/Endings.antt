@@ -5,6 +5,7 @@ use Rattle.i3c_cli.specs.Endings.{tally_status, told_as}
 use Rattle.i3c_streams.specs.declared.faults.ScriptFault.{ScriptFault}
 use Rattle.i3c_streams.specs.declared.tally.Tally.{Tally}
 use Rattle.i3c_tracks.specs.declared.answer.Answer.{Answer}
+use Rattle.i3c_tracks.specs.declared.showing.Showing.{Showing}
 use Rattle.i3cbus.specs.declared.ending.Ending.{Ending}
 
 -- an exploration's own fault comes first; output that isn't taken to its end is lost
@@ -12,6 +13,11 @@ abbrev pub explore_ending : Result Answer ScriptFault → Bool → Result Ending
 explore_ending (Err fault) flushed = Err (told_as fault)
 explore_ending (Ok answer) true = Ok (Ending.Explored answer)
 explore_ending (Ok answer) false = Err Fault.Write
+
+-- a quiet exploration prints numbers alone
+abbrev pub showing_of : Bool → Showing
+showing_of true = Showing.Numbers
+showing_of false = Showing.Ends
 
 -- the ending of a run of lines
 abbrev pub lines_ending : Result Tally Fault → Result Ending Fault

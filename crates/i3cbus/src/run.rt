@@ -1,12 +1,14 @@
+ghost use Rattle.std.specs.Prelude.{◌≡◌};
+ghost use Rattle.i3cbus.specs.Endings.{showing_of};
+
 use crate::ending::{Ending, explore_ending, lines_ending, status_of};
 use crate::stack::make_stack;
 use crate::watcher::Watcher;
 use i3c_cli::{
     Fault, Output, print_fault, print_version, reading_fault, run_capture, run_file, run_stress,
 };
-use i3c_explore::{Limits, Part};
-use i3c_task::{STANDARD_INPUT, Task, task_named};
-use i3c_tracks::run_explore;
+use i3c_task::{Exploring, STANDARD_INPUT, Task, task_named};
+use i3c_tracks::{Showing, run_explore};
 use std::io::{Read, Write};
 use std::rt::{Env, Files};
 use std::sync::Wait;
@@ -42,9 +44,9 @@ where
         Task::Capture(capturing, telling, file) => lines_ending(run_capture(
             rt, capturing, telling, file,
         )),
-        Task::Explore(limits, part, jobs, file) => {
+        Task::Explore(exploring, file) => {
             let watcher = Watcher::new(rt, is_watched);
-            run_exploration(rt, limits, part, jobs, &watcher, file)
+            run_exploration(rt, &exploring, &watcher, file)
         }
         Task::Stress(stress) => lines_ending(run_stress(rt, &stress, is_watched)),
         Task::Version => lines_ending(print_version(rt)),
@@ -55,9 +57,7 @@ where
 #[inline(never)]
 fn run_exploration<R>(
     rt: &R,
-    limits: Limits,
-    part: Part,
-    jobs: usize,
+    exploring: &Exploring,
     watcher: &Watcher<'_, R>,
     file: &str,
 ) -> Result<Ending, Fault>
@@ -65,10 +65,10 @@ where
     R: Files + Input + Print + Eprint + AllocGlobal + Threads + Sync,
 {
     if file == STANDARD_INPUT {
-        return explore_from(rt, limits, part, jobs, watcher, &mut rt.reader());
+        return explore_from(rt, exploring, watcher, &mut rt.reader());
     }
     match fs::open(rt, file) {
-        Ok(mut input) => explore_from(rt, limits, part, jobs, watcher, &mut input),
+        Ok(mut input) => explore_from(rt, exploring, watcher, &mut input),
         Err(error) => Err(reading_fault(&error)),
     }
 }
@@ -84,15 +84,41 @@ fn words_given<R: Env + AllocGlobal>(rt: &R) -> Result<Vec<String>, Fault> {
 /// Explores the file of a reader.
 fn explore_from<R: Files + Print + Eprint + AllocGlobal + Threads + Sync, S: Read>(
     rt: &R,
-    limits: Limits,
-    part: Part,
-    jobs: usize,
+    exploring: &Exploring,
     watcher: &Watcher<'_, R>,
     input: &mut S,
 ) -> Result<Ending, Fault> {
     let mut printed = Output::new(rt)?;
     let alloc = rt.alloc();
-    let outcome = run_explore(rt, alloc, input, &mut printed, limits, part, jobs, watcher);
+    let showing = showing_of(exploring.quiet);
+    let Exploring {
+        limits,
+        part,
+        jobs,
+        ..
+    } = *exploring;
+    let outcome = run_explore(
+        rt,
+        alloc,
+        input,
+        &mut printed,
+        limits,
+        part,
+        jobs,
+        showing,
+        watcher,
+    );
     let flushed = printed.flush().is_ok();
     explore_ending(outcome, flushed)
+}
+
+/// What is printed where all holds.
+fn showing_of(quiet: bool) -> Showing
+    ensures { result ≡ showing_of quiet }
+{
+    if quiet {
+        Showing::Numbers
+    } else {
+        Showing::Ends
+    }
 }

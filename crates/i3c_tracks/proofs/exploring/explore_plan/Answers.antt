@@ -15,6 +15,7 @@ use Rattle.i3c_scene.specs.Scenes.{Seen}
 use Rattle.i3c_scene.specs.Trying.{LineBreaks, LineSteps}
 use Rattle.i3c_tracks.specs.declared.answer.Answer.{Answer}
 use Rattle.i3c_tracks.specs.declared.plan.Plan.{Plan}
+use Rattle.i3c_tracks.specs.declared.showing.Showing.{Showing}
 use Rattle.i3c_tracks.specs.declared.refusal.Reason.{Reason}
 use Rattle.i3c_tracks.specs.Answering.{IsPrinted}
 use Rattle.i3c_tracks.specs.Courses.{AreRunsOf, LeadsTo}
@@ -76,15 +77,15 @@ returns-in_ok-push_broken-in-Err-Breaks-clause-printed g c is =
     (script_text c.args.lines.now plan.before.items runs number there, record { plan = plan; is = is; order = order.items; shortest = shortest; runs = runs; are = are; number = number; there = there; broken = broken; script = refl }, put)
 
 -- a file with a plan, where a limit was reached
-limited : {E : Type 0} (lines : List (Vec ℕ)) (limits : Limits) (part : Part) (plan : Plan) (result : Result Answer E) (old new : List ℕ) → IsPlan lines plan → IfOk result (λ (answer : Answer). answer ≡ Answer.Refused)
-    → OnOk result (new ≡ old ++ refusal_line (at_end Reason.Most)) → IfOk result (λ (answer : Answer). IsPrinted lines limits part answer old new)
-limited lines limits part plan (Ok Answer.Refused) old new is refused put = (at_end Reason.Most, inr (plan, is, refl), put)
-limited lines limits part plan (Ok Answer.Holds) old new is refused put = absurd cc
-limited lines limits part plan (Ok Answer.Breaks) old new is refused put = absurd cc
-limited lines limits part plan (Err e) old new is refused put = tt
+limited : {E : Type 0} (lines : List (Vec ℕ)) (limits : Limits) (part : Part) (showing : Showing) (plan : Plan) (result : Result Answer E) (old new : List ℕ) → IsPlan lines plan → IfOk result (λ (answer : Answer). answer ≡ Answer.Refused)
+    → OnOk result (new ≡ old ++ refusal_line (at_end Reason.Most)) → IfOk result (λ (answer : Answer). IsPrinted lines limits part showing answer old new)
+limited lines limits part showing plan (Ok Answer.Refused) old new is refused put = (at_end Reason.Most, inr (plan, is, refl), put)
+limited lines limits part showing plan (Ok Answer.Holds) old new is refused put = absurd cc
+limited lines limits part showing plan (Ok Answer.Breaks) old new is refused put = absurd cc
+limited lines limits part showing plan (Err e) old new is refused put = tt
 
 pub returns-in-Err-Most-clause-printed : goal.returns-in-Err-Most-clause-printed
-returns-in-Err-Most-clause-printed g c is = limited c.args.lines.now c.args.limits c.args.part c.args.plan.now c.refuse_most-in-Err-Most.result c.args.text.now c.refuse_most-in-Err-Most.new.text is c.refuse_most-in-Err-Most.ensures.answer c.refuse_most-in-Err-Most.ensures.printed
+returns-in-Err-Most-clause-printed g c is = limited c.args.lines.now c.args.limits c.args.part c.args.showing c.args.plan.now c.refuse_most-in-Err-Most.result c.args.text.now c.refuse_most-in-Err-Most.new.text is c.refuse_most-in-Err-Most.ensures.answer c.refuse_most-in-Err-Most.ensures.printed
 
 pub returns-in_default-clause-printed : goal.returns-in_default-clause-printed
-returns-in_default-clause-printed g c is = limited c.args.lines.now c.args.limits c.args.part c.args.plan.now c.refuse_most.result c.args.text.now c.refuse_most.new.text is c.refuse_most.ensures.answer c.refuse_most.ensures.printed
+returns-in_default-clause-printed g c is = limited c.args.lines.now c.args.limits c.args.part c.args.showing c.args.plan.now c.refuse_most.result c.args.text.now c.refuse_most.new.text is c.refuse_most.ensures.answer c.refuse_most.ensures.printed
