@@ -124,7 +124,7 @@ impl SceneBus {
         ensures behind { OnOk result (IsBehind slot self.old self.new) }
     {
         match self.raise(slot, byte) {
-            Ok(before) => Ok(self.all_hold(&before, line.expectations.as_slice())),
+            Ok(raised) => Ok(self.all_hold(&raised, line.expectations.as_slice())),
             Err(short) => Err(short),
         }
     }
