@@ -1,12 +1,12 @@
 -- A line, and the same in capitals.
-use Rattle.std.proofs.Common.{◌≡◌, ◌≢◌, ◌∙◌, ◌⊎◌, ℕ, zero, suc, ◌<◌, ◌≤◌, Bool, true, false, cond, inl, inr, List, [], ◌∷◌, ◌++◌, Some, All, length, map, ap, arith, refl, sym, subst}
+use Rattle.std.proofs.Common.{◌≡◌, ◌≢◌, ◌∙◌, ◌⊎◌, ℕ, suc, ◌<◌, ◌≤◌, Bool, true, false, cond, inl, inr, List, [], ◌∷◌, ◌++◌, Some, All, length, map, ap, arith, refl, sym, subst}
 use Rattle.std.proofs.lemmas.Bool.Decides.{nat_tests}
 use Rattle.std.proofs.lemmas.List.{append-nil}
 use Rattle.std.proofs.lemmas.List.Elements.{All-cons}
 use Rattle.std.specs.Char.{is_ascii_hexdigit, to_ascii_uppercase}
 use Rattle.std.specs.List.{list_all, slice_get}
 use Rattle.i3c_lines.specs.declared.command.Command.{Command}
-use Rattle.i3c_lines.specs.Capitals.{capital_args, capital_token, capital_tokens, in_capitals, kept_behind}
+use Rattle.i3c_lines.specs.Capitals.{capital_args, capital_token, capital_tokens, has_name, in_capitals}
 use Rattle.i3c_lines.specs.Forms.{HasNoForm, IsCommand, IsForm, IsSkipped, tokens_of}
 use Rattle.i3c_lines.specs.Printing.{behind, spaced}
 use Rattle.i3c_lines.proofs.LineLaws.{line_is, line_of, some_token}
@@ -39,10 +39,10 @@ tokens_recased : (tokens : List (List ℕ)) → Recased (behind tokens) (behind 
 tokens_recased [] = tt
 tokens_recased (token ∷ tokens) = (inl refl, both token (capital_token token) (behind tokens) (behind (map capital_token tokens)) (token_recased token) (tokens_recased tokens))
 
-args_recased : (kept : ℕ) (tokens : List (List ℕ)) → Recased (behind tokens) (behind (capital_args kept tokens))
-args_recased zero tokens = tokens_recased tokens
-args_recased (suc kept) [] = tt
-args_recased (suc kept) (token ∷ tokens) = (inl refl, both token token (behind tokens) (behind (capital_args kept tokens)) (same_case token) (args_recased kept tokens))
+args_recased : (named : Bool) (tokens : List (List ℕ)) → Recased (behind tokens) (behind (capital_args named tokens))
+args_recased false tokens = tokens_recased tokens
+args_recased true [] = tt
+args_recased true (name ∷ tokens) = (inl refl, both name name (behind tokens) (behind (map capital_token tokens)) (same_case name) (tokens_recased tokens))
 
 spaced_line : (token : List ℕ) (tokens : List (List ℕ)) → token ++ behind tokens ≡ line_of (token ∷ tokens)
 spaced_line token [] = append-nil token
@@ -52,10 +52,10 @@ spaced_line token (next ∷ tokens) = ap (λ l. token ++ 32 ∷ l) (spaced_line 
 pub recased : (line : List ℕ) → Recased line (in_capitals line)
 recased line =
     let (first, tokens, e) = some_token line in
-    let args = behind (capital_args (kept_behind first) tokens) in
+    let args = behind (capital_args (has_name first) tokens) in
     let same : first ++ behind tokens ≡ line = spaced_line first tokens ∙ sym (line_is line (first ∷ tokens) e) in
     let capitals : in_capitals line ≡ first ++ args = ap (λ ws. spaced (capital_tokens ws)) e in
-    let are : Recased (first ++ behind tokens) (first ++ args) = both first first (behind tokens) args (same_case first) (args_recased (kept_behind first) tokens) in
+    let are : Recased (first ++ behind tokens) (first ++ args) = both first first (behind tokens) args (same_case first) (args_recased (has_name first) tokens) in
     subst (λ l. Recased l (in_capitals line)) same (subst (λ c. Recased (first ++ behind tokens) c) (sym capitals) are)
 
 same_length : (line other : List ℕ) → Recased line other → length other ≡ length line

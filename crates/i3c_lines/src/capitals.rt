@@ -1,7 +1,7 @@
 ghost use Rattle.std.specs.Prelude.{◌≡◌, ◌++◌, OnOk, bytes_eq, map};
 ghost use Rattle.std.specs.Char.{is_ascii_hexdigit, to_ascii_uppercase};
 ghost use Rattle.std.specs.List.{list_all};
-ghost use Rattle.i3c_lines.specs.Capitals.{capital_args, capital_token, has_name, in_capitals, kept_behind};
+ghost use Rattle.i3c_lines.specs.Capitals.{capital_args, capital_token, has_name, in_capitals};
 ghost use Rattle.i3c_lines.specs.Parsing.{left_tokens};
 ghost use Rattle.i3c_lines.specs.Printing.{behind};
 
@@ -10,7 +10,7 @@ use i3c_text::Text;
 use std::alloc::AllocError;
 
 /// Appends a line with its hexadecimal digits in capitals: each token that has only hexadecimal digits, except for the first
-/// one and a name, and behind `as NAME` the next one.
+/// one and a name.
 pub fn push_capitals(line: &[u8], text: &mut Text) -> Result<(), AllocError>
     ensures { OnOk result (text.new ≡ text.old ++ in_capitals line.now) }
 {
@@ -19,39 +19,16 @@ pub fn push_capitals(line: &[u8], text: &mut Text) -> Result<(), AllocError>
         unreachable!()
     };
     text.push(first)?;
-    push_args(first, &mut tokens, text)
+    push_args(has_name(first), &mut tokens, text)
 }
 
-/// Appends the tokens behind this first one in capitals, except for a name, and behind `as NAME` for one more. Each is behind a
-/// space.
-fn push_args(first: &[u8], tokens: &mut Tokens<'_>, text: &mut Text) -> Result<(), AllocError>
-    ensures { OnOk result (text.new ≡ text.old ++ behind (capital_args (kept_behind first.now) (left_tokens tokens.old))) }
+/// Appends the tokens behind a first one in capitals, except for a name, each behind a space.
+fn push_args(named: bool, tokens: &mut Tokens<'_>, text: &mut Text) -> Result<(), AllocError>
+    ensures { OnOk result (text.new ≡ text.old ++ behind (capital_args named (left_tokens tokens.old))) }
 {
-    if is(first, b"as") {
-        return push_behind_as(tokens, text);
+    if !named {
+        return push_tokens(tokens, text);
     }
-    if has_name(first) {
-        return push_behind_name(tokens, text);
-    }
-    push_tokens(tokens, text)
-}
-
-/// Appends a name and the first token of a line, and then tokens in capitals, each behind a space.
-fn push_behind_as(tokens: &mut Tokens<'_>, text: &mut Text) -> Result<(), AllocError>
-    ensures { OnOk result (text.new ≡ text.old ++ behind (capital_args 2 (left_tokens tokens.old))) }
-{
-    let Some(name) = tokens.next() else {
-        return Ok(());
-    };
-    text.push(b" ")?;
-    text.push(name)?;
-    push_behind_name(tokens, text)
-}
-
-/// Appends a token as it is, and then tokens in capitals, each behind a space.
-fn push_behind_name(tokens: &mut Tokens<'_>, text: &mut Text) -> Result<(), AllocError>
-    ensures { OnOk result (text.new ≡ text.old ++ behind (capital_args 1 (left_tokens tokens.old))) }
-{
     let Some(name) = tokens.next() else {
         return Ok(());
     };
@@ -101,7 +78,7 @@ fn push_uppercase(token: &[u8], text: &mut Text) -> Result<(), AllocError>
     push_uppercase(rest, text)
 }
 
-/// Whether a name follows this first token, and no line behind the name.
+/// Whether a name follows this first token.
 fn has_name(token: &[u8]) -> bool
     ensures { result ≡ has_name token.now }
 {
@@ -113,6 +90,7 @@ fn has_name(token: &[u8]) -> bool
         || is(token, b"ask-join")
         || is(token, b"ask-role")
         || is(token, b"cut")
+        || is(token, b"as")
 }
 
 /// Whether a token is this one.
