@@ -210,8 +210,8 @@ impl SceneBus {
         let Some(command) = &line.command else {
             return Ok(());
         };
-        let sends = self.sends(command);
-        self.cut_as(sends, &line.risk, ways);
+        let sent = self.sends(command);
+        self.cut_as(sent, &line.risk, ways);
         match end_of(&self.obey(command, &mut Deaf)) {
             Ok(_) => Ok(()),
             Err(short) => Err(short),
@@ -227,8 +227,8 @@ impl SceneBus {
         let Some(command) = &line.command else {
             return Ok(Before::nothing());
         };
-        let sends = self.sends(command);
-        self.cut_as(sends, &line.risk, ways);
+        let sent = self.sends(command);
+        self.cut_as(sent, &line.risk, ways);
         let mut heard = Heard::nothing();
         let ended = end_of(&self.obey(command, &mut heard))?;
         Ok(Before {
