@@ -204,7 +204,7 @@ impl Command {
             b'o' => self.read_o::<K>(tail),
             b'w' => self.read_w::<K>(tail),
             b'g' => self.read_g(tail),
-            b'a' => self.read_a(tail, line),
+            b'a' => self.read_a::<K>(tail, line),
             _ => self.read_tokens_of(line),
         }
     }
@@ -352,9 +352,7 @@ impl Command {
     }
 
     /// Becomes a command whose first letter is an `a`, by the line behind that, or by the line.
-    // kept apart, so that no other line pays for it
-    #[inline(never)]
-    fn read_a(&mut self, tail: &[u8], line: &[u8]) -> Option<()>
+    fn read_a<K>(&mut self, tail: &[u8], line: &[u8]) -> Option<()>
         requires { line.now ≡ 97 ∷ tail.now }
         ensures { Becomes (tokens_of line.now) result self.old self.new }
     {
@@ -365,11 +363,14 @@ impl Command {
     }
 
     /// Becomes `as NAME LINE`, by the tokens behind its first.
+    // kept apart, so that no other line pays for the room that a line of its own takes on the stack
+    #[inline(never)]
     fn read_as(&mut self, line: &[u8]) -> Option<()>
         ensures { Becomes (codes "as" ∷ tokens_of line.now) result self.old self.new }
     {
         let (name, rest) = Name::split_from(line)?;
-        let sent = parse_sent(rest?)?;
+        let behind = rest?;
+        let sent = parse_sent(behind)?;
         *self = Command::As { name, sent };
         Some(())
     }
