@@ -2,6 +2,7 @@
 use Rattle.std.proofs.Common.{◌≡◌, ◌∙◌, ℕ, List, [], ◌∷◌, ◌++◌, Option, IfSome, Result, Ok, Err, ap, append_assoc, append-nil, inl, inr, refl, subst, sym}
 use Rattle.std.specs.Io.KnownBytes.{Appends}
 use Rattle.i3c_runner.specs.Expecting.{HasBegun}
+use Rattle.i3c_wave.specs.declared.content.Content.{Content}
 use Rattle.i3c_wave.specs.declared.wave.Wave.{Wave}
 use Rattle.i3c_wave.specs.Dump.{free_bus}
 use Rattle.i3c_wave.specs.Scripts.{script_preamble}
@@ -67,63 +68,63 @@ seen_puts dumping (shown ∷ rest) old new (mid, (legacies, wave, puts), seen) =
     }
 
 -- the lines that were run, which were put behind, and what goes out last, where a fault ended the run
-part_out : (legacies : ℕ) (known a b c : Option (List ℕ)) (text : List ℕ) (fault : ScriptFault) (result : Result Tally ScriptFault) (from to : Progress) (lines : List Shown) (rest : List ℕ) → HasBegun from.state → AreRun from lines to
-    → IfSome known (λ script. bytes_of lines ++ rest ≡ script ++ 10 ∷ []) → Puts (output a script_preamble) (output b text) (shown_dump legacies free_bus lines) → GoesLast b c text (Err fault) result → IsWaved legacies known a c result
-part_out legacies known a b c text fault result from to lines rest begun run first puts last = go fault last where
-  part : (stop : ScriptFault) → WentOut stop a c (script_dump legacies lines) → IsWaved legacies known a c (Err stop)
+part_out : (legacies : ℕ) (content : Content) (known a b c : Option (List ℕ)) (text : List ℕ) (fault : ScriptFault) (result : Result Tally ScriptFault) (from to : Progress) (lines : List Shown) (rest : List ℕ) → HasBegun from.state → AreRun from lines to
+    → IfSome known (λ script. bytes_of lines ++ rest ≡ script ++ 10 ∷ []) → Puts (output a (script_preamble content)) (output b text) (shown_dump legacies (free_bus content) lines) → GoesLast b c text (Err fault) result → IsWaved legacies content known a c result
+part_out legacies content known a b c text fault result from to lines rest begun run first puts last = go fault last where
+  part : (stop : ScriptFault) → WentOut stop a c (script_dump legacies content lines) → IsWaved legacies content known a c (Err stop)
   part stop out = inr record { from = from; to = to; lines = lines; rest = rest; begun = begun; run = run; first = first; out = out }
 
-  all : Appends b c text → Appends a c (script_dump legacies lines)
-  all out = let (front, one, e) = flush_all (output a script_preamble) (output b text) c (shown_dump legacies free_bus lines) puts out in subst (Appends a c) (sym (e ∙ append-nil front)) one
+  all : Appends b c text → Appends a c (script_dump legacies content lines)
+  all out = let (front, one, e) = flush_all (output a (script_preamble content)) (output b text) c (shown_dump legacies (free_bus content) lines) puts out in subst (Appends a c) (sym (e ∙ append-nil front)) one
 
-  some : AppendsSome b c text → AppendsSome a c (script_dump legacies lines)
-  some out = flush_some (output a script_preamble) (output b text) c (shown_dump legacies free_bus lines) puts out
+  some : AppendsSome b c text → AppendsSome a c (script_dump legacies content lines)
+  some out = flush_some (output a (script_preamble content)) (output b text) c (shown_dump legacies (free_bus content) lines) puts out
 
-  kept : c ≡ b → AppendsSome a c (script_dump legacies lines)
+  kept : c ≡ b → AppendsSome a c (script_dump legacies content lines)
   kept same = subst (AppendsSome a c) (sym puts.2) (subst (λ d. AppendsSome a d (puts.0 ++ text)) (sym same) (front_out a b puts.0 text puts.1))
 
-  go : (stop : ScriptFault) → GoesLast b c text (Err stop) result → IsWaved legacies known a c result
-  go ScriptFault.Write (is, same) = subst (IsWaved legacies known a c) (sym is) (part ScriptFault.Write (kept same))
-  go ScriptFault.Memory (inl (is, out)) = subst (IsWaved legacies known a c) (sym is) (part ScriptFault.Memory (all out))
-  go ScriptFault.Memory (inr (is, out)) = subst (IsWaved legacies known a c) (sym is) (part ScriptFault.Write (some out))
-  go ScriptFault.Read (inl (is, out)) = subst (IsWaved legacies known a c) (sym is) (part ScriptFault.Read (all out))
-  go ScriptFault.Read (inr (is, out)) = subst (IsWaved legacies known a c) (sym is) (part ScriptFault.Write (some out))
-  go ScriptFault.TooLarge (inl (is, out)) = subst (IsWaved legacies known a c) (sym is) (part ScriptFault.TooLarge (all out))
-  go ScriptFault.TooLarge (inr (is, out)) = subst (IsWaved legacies known a c) (sym is) (part ScriptFault.Write (some out))
+  go : (stop : ScriptFault) → GoesLast b c text (Err stop) result → IsWaved legacies content known a c result
+  go ScriptFault.Write (is, same) = subst (IsWaved legacies content known a c) (sym is) (part ScriptFault.Write (kept same))
+  go ScriptFault.Memory (inl (is, out)) = subst (IsWaved legacies content known a c) (sym is) (part ScriptFault.Memory (all out))
+  go ScriptFault.Memory (inr (is, out)) = subst (IsWaved legacies content known a c) (sym is) (part ScriptFault.Write (some out))
+  go ScriptFault.Read (inl (is, out)) = subst (IsWaved legacies content known a c) (sym is) (part ScriptFault.Read (all out))
+  go ScriptFault.Read (inr (is, out)) = subst (IsWaved legacies content known a c) (sym is) (part ScriptFault.Write (some out))
+  go ScriptFault.TooLarge (inl (is, out)) = subst (IsWaved legacies content known a c) (sym is) (part ScriptFault.TooLarge (all out))
+  go ScriptFault.TooLarge (inr (is, out)) = subst (IsWaved legacies content known a c) (sym is) (part ScriptFault.Write (some out))
 
 -- lines that were put behind the beginning of a dump
-from_start : (legacies : ℕ) (a b : Option (List ℕ)) (text : List ℕ) (old new : Dumping) (lines : List Shown) → old ≡ dump_at legacies free_bus a script_preamble → new.output ≡ output b text
-    → Puts old.output new.output (shown_dump old.legacies old.wave lines) → Puts (output a script_preamble) (output b text) (shown_dump legacies free_bus lines)
-from_start legacies a b text old new lines start end puts =
-    subst (λ o. Puts (output a script_preamble) o (shown_dump legacies free_bus lines)) end (subst (λ d. Puts d.output new.output (shown_dump d.legacies d.wave lines)) start puts)
+from_start : (legacies : ℕ) (content : Content) (a b : Option (List ℕ)) (text : List ℕ) (old new : Dumping) (lines : List Shown) → old ≡ dump_at legacies (free_bus content) a (script_preamble content) → new.output ≡ output b text
+    → Puts old.output new.output (shown_dump old.legacies old.wave lines) → Puts (output a (script_preamble content)) (output b text) (shown_dump legacies (free_bus content) lines)
+from_start legacies content a b text old new lines start end puts =
+    subst (λ o. Puts (output a (script_preamble content)) o (shown_dump legacies (free_bus content) lines)) end (subst (λ d. Puts d.output new.output (shown_dump d.legacies d.wave lines)) start puts)
 
 -- the same with a prefix of a line, after which the writer failed
-cut_start : (legacies : ℕ) (a b : Option (List ℕ)) (text : List ℕ) (old mid new : Dumping) (lines : List Shown) (last : Shown) → old ≡ dump_at legacies free_bus a script_preamble → new.output ≡ output b text
-    → Seen old mid lines → PutsOrFails mid.output new.output (seen_dump mid.legacies mid.wave last.line last.printed last.wire) (Err ScriptFault.Write) → AppendsSome a b (script_dump legacies (lines ++ last ∷ []))
-cut_start legacies a b text old mid new lines last start end seen failed =
+cut_start : (legacies : ℕ) (content : Content) (a b : Option (List ℕ)) (text : List ℕ) (old mid new : Dumping) (lines : List Shown) (last : Shown) → old ≡ dump_at legacies (free_bus content) a (script_preamble content) → new.output ≡ output b text
+    → Seen old mid lines → PutsOrFails mid.output new.output (seen_dump mid.legacies mid.wave last.line last.printed last.wire) (Err ScriptFault.Write) → AppendsSome a b (script_dump legacies content (lines ++ last ∷ []))
+cut_start legacies content a b text old mid new lines last start end seen failed =
     let shown = shown_dump old.legacies old.wave lines in
     let line = seen_dump mid.legacies mid.wave last.line last.printed last.wire in
     let both = some_puts old.output mid.output new.output shown line seen.puts failed in
     let same : shown ++ line ≡ shown_dump old.legacies old.wave (lines ++ last ∷ []) =
     ap (λ n. shown ++ seen_dump n mid.wave last.line last.printed last.wire) seen.legacies ∙ ap (λ w. shown ++ seen_dump old.legacies w last.line last.printed last.wire) seen.wave ∙ sym (dump_more old.legacies old.wave lines last) in
     let whole : AppendsSome old.output.out new.output.out (old.output.gathered ++ shown_dump old.legacies old.wave (lines ++ last ∷ [])) = subst (λ t. AppendsSome old.output.out new.output.out (old.output.gathered ++ t)) same both in
-    subst (λ o. AppendsSome a o (script_dump legacies (lines ++ last ∷ []))) (ap (λ o. o.out) end)
+    subst (λ o. AppendsSome a o (script_dump legacies content (lines ++ last ∷ []))) (ap (λ o. o.out) end)
     (subst (λ d. AppendsSome d.output.out new.output.out (d.output.gathered ++ shown_dump d.legacies d.wave (lines ++ last ∷ []))) start whole)
 
 -- what goes out of a script whose lines were shown, from the first one on
-pub waved_by : {V : Type 0} (old new : V) (dumping : V → Dumping) (legacies : ℕ) (known a b c : Option (List ℕ)) (text : List ℕ) (outcome result : Result Tally ScriptFault)
-    → ViewedGoes (gives dumping) (fails dumping) known old new outcome → dumping old ≡ dump_at legacies free_bus a script_preamble → (dumping new).output ≡ output b text
-    → GoesLast b c text outcome result → IsWaved legacies known a c result
-waved_by old new dumping legacies known a b c text (Ok tally) result (from, begun, none, (to, counted, unmet, whole)) start end (inl (is, out)) =
+pub waved_by : {V : Type 0} (old new : V) (dumping : V → Dumping) (legacies : ℕ) (content : Content) (known a b c : Option (List ℕ)) (text : List ℕ) (outcome result : Result Tally ScriptFault)
+    → ViewedGoes (gives dumping) (fails dumping) known old new outcome → dumping old ≡ dump_at legacies (free_bus content) a (script_preamble content) → (dumping new).output ≡ output b text
+    → GoesLast b c text outcome result → IsWaved legacies content known a c result
+waved_by old new dumping legacies content known a b c text (Ok tally) result (from, begun, none, (to, counted, unmet, whole)) start end (inl (is, out)) =
     let lines = whole.lines in
-    let puts = from_start legacies a b text (dumping old) (dumping new) lines start end (seen_puts dumping lines old new whole.seen).puts in
-    let (front, one, e) = flush_all (output a script_preamble) (output b text) c (shown_dump legacies free_bus lines) puts out in
-    subst (IsWaved legacies known a c) (sym is)
+    let puts = from_start legacies content a b text (dumping old) (dumping new) lines start end (seen_puts dumping lines old new whole.seen).puts in
+    let (front, one, e) = flush_all (output a (script_preamble content)) (output b text) c (shown_dump legacies (free_bus content) lines) puts out in
+    subst (IsWaved legacies content known a c) (sym is)
     (record { from = from; to = to; lines = lines; begun = begun; none = none; counted = counted; unmet = unmet; run = whole.run; all = whole.all; out = subst (Appends a c) (sym (e ∙ append-nil front)) one })
-waved_by old new dumping legacies known a b c text (Ok tally) result (from, begun, none, (to, counted, unmet, whole)) start end (inr (is, out)) =
+waved_by old new dumping legacies content known a b c text (Ok tally) result (from, begun, none, (to, counted, unmet, whole)) start end (inr (is, out)) =
     let lines = whole.lines in
-    let puts = from_start legacies a b text (dumping old) (dumping new) lines start end (seen_puts dumping lines old new whole.seen).puts in
-    subst (IsWaved legacies known a c) (sym is)
+    let puts = from_start legacies content a b text (dumping old) (dumping new) lines start end (seen_puts dumping lines old new whole.seen).puts in
+    subst (IsWaved legacies content known a c) (sym is)
     (inr (record {
       from = from;
       to = to;
@@ -132,25 +133,25 @@ waved_by old new dumping legacies known a b c text (Ok tally) result (from, begu
       begun = begun;
       run = whole.run;
       first = subst (λ bytes. IfSome known (λ script. bytes ≡ script ++ 10 ∷ [])) (sym (append-nil (bytes_of lines))) whole.all;
-      out = flush_some (output a script_preamble) (output b text) c (shown_dump legacies free_bus lines) puts out;
+      out = flush_some (output a (script_preamble content)) (output b text) c (shown_dump legacies (free_bus content) lines) puts out;
     }))
-waved_by old new dumping legacies known a b c text (Err fault) result (from, begun, none, inl part) start end last =
-    part_out legacies known a b c text fault result from part.to part.lines part.rest begun part.run part.first
-    (from_start legacies a b text (dumping old) (dumping new) part.lines start end (seen_puts dumping part.lines old new part.seen).puts) last
-waved_by old new dumping legacies known a b c text (Err fault) result (from, begun, none, inr to) start end last = failed_out fault to.failed last where
-  failed_out : (stop : ScriptFault) → FailsLine (dumping to.mid) to.last.line to.last.printed to.last.wire stop (dumping new) → GoesLast b c text (Err stop) result → IsWaved legacies known a c result
+waved_by old new dumping legacies content known a b c text (Err fault) result (from, begun, none, inl part) start end last =
+    part_out legacies content known a b c text fault result from part.to part.lines part.rest begun part.run part.first
+    (from_start legacies content a b text (dumping old) (dumping new) part.lines start end (seen_puts dumping part.lines old new part.seen).puts) last
+waved_by old new dumping legacies content known a b c text (Err fault) result (from, begun, none, inr to) start end last = failed_out fault to.failed last where
+  failed_out : (stop : ScriptFault) → FailsLine (dumping to.mid) to.last.line to.last.printed to.last.wire stop (dumping new) → GoesLast b c text (Err stop) result → IsWaved legacies content known a c result
   failed_out ScriptFault.Memory none last =
       let d = dumping old in
       let seen = seen_puts dumping to.lines old to.mid to.seen in
       let shown = shown_dump d.legacies d.wave to.lines in
       let puts = subst (Puts d.output (dumping new).output) (append-nil shown) (puts_both d.output (dumping to.mid).output (dumping new).output shown [] seen.puts none) in
       let front = run_front to.lines to.last from to.to to.run in
-      part_out legacies known a b c text ScriptFault.Memory result from front.0 to.lines ((to.last.line ++ 10 ∷ []) ++ to.rest) begun front.1 (bytes_front known to.lines to.last to.rest to.first)
-      (from_start legacies a b text d (dumping new) to.lines start end puts) last
+      part_out legacies content known a b c text ScriptFault.Memory result from front.0 to.lines ((to.last.line ++ 10 ∷ []) ++ to.rest) begun front.1 (bytes_front known to.lines to.last to.rest to.first)
+      (from_start legacies content a b text d (dumping new) to.lines start end puts) last
   failed_out ScriptFault.Write cut (is, same) =
       let seen = seen_puts dumping to.lines old to.mid to.seen in
-      let out = cut_start legacies a b text (dumping old) (dumping to.mid) (dumping new) to.lines to.last start end seen cut in
-      subst (IsWaved legacies known a c) (sym is)
+      let out = cut_start legacies content a b text (dumping old) (dumping to.mid) (dumping new) to.lines to.last start end seen cut in
+      subst (IsWaved legacies content known a c) (sym is)
       (inr (record {
         from = from;
         to = to.to;
@@ -159,7 +160,7 @@ waved_by old new dumping legacies known a b c text (Err fault) result (from, beg
         begun = begun;
         run = to.run;
         first = to.first;
-        out = subst (λ d. AppendsSome a d (script_dump legacies (to.lines ++ to.last ∷ []))) (sym same) out;
+        out = subst (λ d. AppendsSome a d (script_dump legacies content (to.lines ++ to.last ∷ []))) (sym same) out;
       }))
   failed_out ScriptFault.Read none last = absurd none
   failed_out ScriptFault.TooLarge none last = absurd none

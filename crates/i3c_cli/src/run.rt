@@ -4,12 +4,11 @@ use crate::fault::Fault;
 use crate::output::Output;
 use crate::standard_error::StandardError;
 use crate::telling::{print_capture, print_trace};
-use crate::waving::wave_script;
-use i3c_base::Addresses;
+use crate::waving::{content_of, wave_script};
 use i3c_drive::run_driven;
 use i3c_runner::{WatchFault, check_script, run_script, run_watched};
 use i3c_streams::{Form, Tally, Watching};
-use i3c_task::{Capturing, STANDARD_INPUT, Telling, Work};
+use i3c_task::{Capturing, STANDARD_INPUT, Telling, Waveform, Work};
 use i3c_wave::{Source, run_wave};
 use std::alloc::Global;
 use std::io::{ErrorKind, Read, Write};
@@ -82,8 +81,8 @@ fn run_from<R: Files + Print + Eprint + AllocGlobal, S: Read>(
         Work::Check => check_from(rt, input),
         Work::Draw => draw_from(rt, input),
         Work::Tell(telling) => trace_from(rt, telling, input),
-        Work::Wave(legacies) => wave_from(rt, legacies, input),
-        Work::WaveScript(legacies) => wave_script_from(rt, legacies, input),
+        Work::Wave(waveform) => wave_from(rt, &waveform, input),
+        Work::WaveScript(waveform) => wave_script_from(rt, &waveform, input),
     }
 }
 
@@ -164,11 +163,18 @@ fn capture_from<R: Files + Print + Eprint + AllocGlobal, S: Read>(
 #[inline(never)]
 fn wave_from<R: Files + Print + AllocGlobal, S: Read>(
     rt: &R,
-    legacies: Addresses,
+    waveform: &Waveform,
     input: &mut S,
 ) -> Result<Tally, Fault> {
     let mut printed = Output::new(rt)?;
-    let outcome = run_wave(rt.alloc(), legacies, &mut Source::new(input), &mut printed);
+    let content = content_of(waveform.plain);
+    let outcome = run_wave(
+        rt.alloc(),
+        waveform.legacies,
+        content,
+        &mut Source::new(input),
+        &mut printed,
+    );
     let flushed = printed.flush().is_ok();
     wave_ending(outcome, flushed)
 }
@@ -177,10 +183,18 @@ fn wave_from<R: Files + Print + AllocGlobal, S: Read>(
 #[inline(never)]
 fn wave_script_from<R: Files + Print + AllocGlobal, S: Read>(
     rt: &R,
-    legacies: Addresses,
+    waveform: &Waveform,
     input: &mut S,
 ) -> Result<Tally, Fault> {
-    let (outcome, mut printed) = wave_script(rt.alloc(), legacies, input, Output::new(rt)?);
+    let content = content_of(waveform.plain);
+    let printed = Output::new(rt)?;
+    let (outcome, mut printed) = wave_script(
+        rt.alloc(),
+        waveform.legacies,
+        content,
+        input,
+        printed,
+    );
     let flushed = printed.flush().is_ok();
     tally_of(outcome, flushed)
 }

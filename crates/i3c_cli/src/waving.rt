@@ -1,35 +1,36 @@
 ghost use Rattle.std.specs.Prelude.{◌≡◌, ◌++◌, OnOk};
 ghost use Rattle.i3c_wave.specs.Dump.{symbols_dump};
 ghost use Rattle.i3c_streams.specs.Outcomes.{PutsOrFails, output};
-ghost use Rattle.i3c_cli.specs.Wavings.{GoesLast, IsWaved, after_wire, line_dump};
+ghost use Rattle.i3c_cli.specs.Wavings.{GoesLast, IsWaved, after_wire, content_of, line_dump};
 
 use i3c_base::Addresses;
 use i3c_frame::Symbol;
 use i3c_runner::{Viewer, run_viewed};
 use i3c_streams::{ScriptFault, Tally, write_gathered, write_out};
 use i3c_text::Text;
-use i3c_wave::{Wave, push_script_line, push_script_preamble, push_served};
+use i3c_wave::{Content, Wave, push_script_line, push_script_preamble, push_served};
 use std::alloc::{AllocError, Global};
 use std::io::{Read, Write};
 
-/// Runs a script, and writes the value change dump (IEEE 1364) of its wire, with its lines and what they printed, to a writer that
-/// it gives back. Legacy targets have these addresses. What lines sent before a fault goes out too.
+/// Runs a script, and writes the value change dump (IEEE 1364) of its wire to a writer that it gives back. A full dump has the
+/// script's lines too, and what they printed. Legacy targets have these addresses. What lines sent before a fault goes out too.
 pub fn wave_script<R: Read, W: Write>(
     alloc: Global,
     legacies: Addresses,
+    content: Content,
     reader: &mut R,
     out: W,
 ) -> (Result<Tally, ScriptFault>, W)
-    ensures { IsWaved legacies.0 (R.remaining reader.old) (W.contents out) (W.contents result.1) result.0 }
+    ensures { IsWaved legacies.0 content (R.remaining reader.old) (W.contents out) (W.contents result.1) result.0 }
 {
     let mut text = Text::new(alloc);
-    match push_script_preamble(&mut text) {
+    match push_script_preamble(content, &mut text) {
         Ok(()) => {}
         Err(_) => return (Err(ScriptFault::Memory), out),
     }
     let mut waving = Waving {
         legacies,
-        wave: Wave::new(),
+        wave: Wave::new(content),
         line: Text::new(alloc),
         text,
         out,
@@ -44,6 +45,13 @@ pub fn wave_script<R: Read, W: Write>(
     } = waving;
     let result = write_last(outcome, text.as_bytes(), &mut out);
     (result, out)
+}
+
+/// What a dump has.
+pub(crate) fn content_of(plain: bool) -> Content
+    ensures { result ≡ content_of plain }
+{
+    if plain { Content::Wires } else { Content::Full }
 }
 
 /// The dump of a script that runs, its last bytes gathered, and its part of the line in hand.
@@ -82,7 +90,7 @@ impl<W: Write> Viewer for Waving<W> {
     }
 }
 
-/// Appends a line with its symbols, and what it printed where the last of them ends.
+/// Appends a line with its symbols, and what it printed where the last of them ends; of a plain dump the symbols alone.
 fn push_line(
     legacies: Addresses,
     wave: &mut Wave,
@@ -94,9 +102,10 @@ fn push_line(
     ensures text { OnOk result (text.new ≡ text.old ++ line_dump legacies.0 wave.old line.now printed.now wire.now) }
     ensures wave { OnOk result (wave.new ≡ after_wire legacies.0 wave.old wire.now) }
 {
-    push_script_line(line, text)?;
+    let content = wave.content;
+    push_script_line(content, line, text)?;
     push_wire(legacies, wave, wire, text)?;
-    push_served(printed, text)
+    push_served(content, printed, text)
 }
 
 /// Appends the dump of symbols, one after another.

@@ -1,11 +1,11 @@
 -- Who asks: the devices that drive the first request of the next frame.
 use Rattle.std.proofs.Common.{◌≡◌, ◌∙◌, ℕ, zero, suc, ◌<◌, ◌≤◌, Bool, true, false, not, ◌&&◌, ◌==◌, inl, inr, length, Option, Some, None, ap, arith, refl, subst, sym, if◌then◌else◌}
-use Rattle.std.proofs.lemmas.Bool.{and_from, and_left, and_parts, and_right, both_ways, cases_Bool, cases_eq, cases_lt, eqb-true, false≢true, le-ltb, lt-ltb, ltb-true, not-true, not_from_false, not_from_true, or_from, or_left, or_right}
+use Rattle.std.proofs.lemmas.Bool.{and_from, and_left, and_parts, and_right, both_ways, cases_Bool, cases_eq, cases_lt, eqb-true, false≢true, le-ltb, lt-ltb, not-true, not_from_false, not_from_true, or_from, or_left, or_right}
 use Rattle.std.proofs.lemmas.List.{get_or_past}
 use Rattle.std.specs.Prelude.{is_none, option_and_then}
 use Rattle.i3c_base.specs.declared.requests.Request.{Request}
 use Rattle.i3c_base.specs.declared.requests.Request.TheVariants.{Join, Role, Interrupt}
-use Rattle.i3c_base.specs.Serve.{IsFirst, NoneAsks, asks, drives, is_empty, rank}
+use Rattle.i3c_base.specs.Serve.{IsFirst, asks, drives, is_empty, rank}
 use Rattle.i3c_base.specs.State.{Device, State, device_at, in_slot, is_the}
 use Rattle.i3c_device.specs.Wishing.{choice_of}
 use Rattle.i3c_step.proofs.Uniqueness.{first_unique}
@@ -101,14 +101,6 @@ asks_not st r slot first silent = not_first st r slot (choice_in st slot) first 
 pub asking_is : (st : State) (r : Request) (slot : ℕ) (result : Bool) → IsFirst st r → result ≡ drives st r slot → result ≡ is_asking st (Some slot)
 asking_is st r slot true first e = sym (asks_so st r slot first (sym e))
 asking_is st r slot false first e = sym (asks_not st r slot first (sym e))
-
-none_first : (st : State) (slot : ℕ) (choice : Option Request) → NoneAsks st → is_first st slot choice ≡ false
-none_first st slot None none = refl
-none_first st slot (Some q) none = and_left _ _ (none slot q)
-
--- where nobody drives a request, nobody asks
-pub nobody_asks : (st : State) (slot : ℕ) → NoneAsks st → is_asking st (Some slot) ≡ false
-nobody_asks st slot none = none_first st slot (choice_in st slot) none
 
 first_of : (st : State) (slot : ℕ) (choice : Option Request) → is_first st slot choice ≡ true → (r : Request) × IsFirst st r × (drives st r slot ≡ true)
 first_of st slot None h = absurd (false≢true h)

@@ -1,5 +1,5 @@
 -- Bytes that a token writes.
-use Rattle.std.proofs.Common.{◌≡◌, ◌∙◌, ℕ, ◌<◌, ◌≤◌, List, [], ◌∷◌, ap, arith, length, min, subst, sym, take}
+use Rattle.std.proofs.Common.{◌≡◌, ◌∙◌, ℕ, ◌<◌, ◌≤◌, List, [], ◌∷◌, ap, arith, length, min, subst, take}
 use Rattle.std.proofs.lemmas.List.{length-take, take_all}
 use Rattle.i3c_lines.specs.Tokens.{AreBytes, pair_values}
 use Rattle.i3c_facts.specs.Forms.{WritesBytes}

@@ -1,7 +1,7 @@
 -- Why a line that begins as a mark isn't one.
 use Rattle.std.specs.Prelude.{⊤, ◌≡◌, ◌⊎◌, List, ◌∷◌, ℕ, codes}
 use Rattle.i3c_lines.specs.declared.form_faults.FormFault.{FormFault}
-use Rattle.i3c_lines.specs.Faults.{IsFactsWord, IsSo, IsTokenFault}
+use Rattle.i3c_lines.specs.Faults.{IsFactsWord, IsTokenFault}
 use Rattle.i3c_lines.specs.Forms.{tokens_of}
 
 -- the first token of a mark without facts

@@ -1,3 +1,4 @@
+mod Calling
 mod Ending
 mod Trying
 mod Turning

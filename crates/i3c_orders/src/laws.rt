@@ -1,9 +1,11 @@
-ghost use Rattle.std.specs.Prelude.{◌≡◌, ◌∷◌, List, None, Option, Contains, ◌↔◌};
+ghost use Rattle.std.specs.Prelude.{◌≡◌, ◌∷◌, List, None, Some, Ok, Err, false, Option, Contains, ◌↔◌};
 ghost use Rattle.i3c_orders.specs.declared.choice.Choice.{Choice as ChoiceValue};
 ghost use Rattle.i3c_orders.specs.declared.choice.Step.{Step as StepValue};
+ghost use Rattle.i3c_orders.specs.declared.orders.SendFault.{SendFault as FaultValue};
+ghost use Rattle.i3c_orders.specs.declared.orders.Unfinished.{Unfinished as UnfinishedValue};
 ghost use Rattle.i3c_orders.specs.Runs.{IsRun};
-ghost use Rattle.i3c_orders.specs.Paths.{IsOver, steps_of, told_on};
-ghost use Rattle.i3c_orders.specs.Sessions.{IsTried, Move};
+ghost use Rattle.i3c_orders.specs.Paths.{Answers, Ends, IsOver, Tree, steps_of, told_on};
+ghost use Rattle.i3c_orders.specs.Sessions.{Call, IsSession, IsTried, Move, told_now};
 
 use crate::responder::Responder;
 
@@ -13,4 +15,20 @@ pub fn all_runs_are_tried<M: Responder>()
     ensures { (program : List M.Answer → Option M.Line) (start : M) (moves : List Move) (tried : List (List (StepValue M M.Answer))) (path : List (ChoiceValue M.Line M M.Answer))
         → IsTried M.leads program start moves tried path → program (told_on path) ≡ None → IsOver path
         → (run : List (StepValue M M.Answer)) → IsRun M.leads program start run ↔ Contains (steps_of path ∷ tried) run }
+{}
+
+/// The same of the calls that the program makes: where `again` says that no run is left, all were tried, and nothing else.
+pub fn calls_try_all_runs<M: Responder>()
+    ensures { (program : List M.Answer → Option M.Line) (start : M) (calls : List Call) (tried : List (List (StepValue M M.Answer))) (old new : Tree M.Line M M.Answer)
+        → IsSession M.leads program start calls tried old → program (told_now old) ≡ None → Ends old (Ok false) new
+        → (run : List (StepValue M M.Answer)) → IsRun M.leads program start run ↔ Contains (steps_of old.path ∷ tried) run }
+{}
+
+/// A program that is determined by its answers is never told that it isn't: none of its lines differs from the one that was
+/// sent there, and none of its runs ends where another one went on.
+pub fn determined_programs_are_served<M: Responder>()
+    ensures lines { (program : List M.Answer → Option M.Line) (start : M) (calls : List Call) (tried : List (List (StepValue M M.Answer))) (old new : Tree M.Line M M.Answer) (line : M.Line)
+        → IsSession M.leads program start calls tried old → program (told_now old) ≡ Some line → Answers M.leads old line (Err FaultValue.Differs) new → ⊥ }
+    ensures ends { (program : List M.Answer → Option M.Line) (start : M) (calls : List Call) (tried : List (List (StepValue M M.Answer))) (old new : Tree M.Line M M.Answer) (unfinished : UnfinishedValue)
+        → IsSession M.leads program start calls tried old → program (told_now old) ≡ None → Ends old (Err unfinished) new → ⊥ }
 {}

@@ -10,10 +10,10 @@
 //! determined by its answers. Memory grows with the lines of a run and the answers that each may have, and not with the
 //! number of runs.
 //!
-//! `laws` says that the runs that were tried are all, for each program that is determined by its answers.
+//! `laws` says, for each program that is determined by its answers: where [`Orders::again`] answers that no run is left, the
+//! runs that were tried are all runs of the program. Such a program never gets [`SendFault::Differs`] or [`Unfinished`].
 //!
-//! Not claimed: that a session of calls is one that the law speaks of, which each call's clause says of that call alone; that
-//! a program has finitely many runs; that there is memory enough; or how much time it takes.
+//! Not claimed: that a program has finitely many runs; that there is memory enough; or how much time it takes.
 #![tactic(auto)]
 
 mod choice;
@@ -22,6 +22,6 @@ mod orders;
 mod responder;
 
 pub use choice::{Choice, Step};
-pub use laws::all_runs_are_tried;
+pub use laws::{all_runs_are_tried, calls_try_all_runs, determined_programs_are_served};
 pub use orders::{Orders, SendFault, Unfinished, send};
 pub use responder::Responder;

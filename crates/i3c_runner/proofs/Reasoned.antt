@@ -1,10 +1,13 @@
 -- What is told of a line, note by note.
-use Rattle.std.proofs.Common.{◌≡◌, ◌∙◌, ℕ, ◌+◌, List, ◌++◌, OnOk, Ok, Err, Result, add-one, ap, append_assoc, append-nil, is_some, sym}
+use Rattle.std.proofs.Common.{◌≡◌, ◌∙◌, ℕ, ◌+◌, List, [], ◌∷◌, ◌++◌, OnOk, Ok, Err, Result, add-one, ap, append_assoc, append-nil, inl, is_some, refl, sym}
 use Rattle.i3c_base.specs.Cutting.{CutList, cut_of}
 use Rattle.i3c_base.specs.State.{State, device_at}
+use Rattle.i3c_lines.specs.declared.form_faults.FormFault.{FormFault}
 use Rattle.i3c_lines.specs.declared.names.Names.{Names}
+use Rattle.i3c_lines.specs.Faults.{IsFaultText, IsSo}
+use Rattle.i3c_lines.specs.Forms.{HasNoForm}
 use Rattle.i3c_runner.specs.Expecting.{name_in_slot}
-use Rattle.i3c_runner.specs.Reasons.{slot_note, slots_told}
+use Rattle.i3c_runner.specs.Reasons.{Adds, IsFormNote, line_start, slot_note, slots_told}
 
 -- the notes of one more slot
 pub one_slot : (number : ℕ) (st : State) (names : Names) (cuts : CutList) (slot : ℕ) (old mid new : List ℕ) → mid ≡ old ++ slots_told number st names cuts slot
@@ -39,3 +42,14 @@ pub six_behind : {E : Type 0} (result : Result (Unit {0}) E) (old t1 t2 t3 t4 t5
     → OnOk result (new ≡ old ++ (a ++ (b ++ (c ++ (d ++ (e ++ f))))))
 six_behind result old t1 t2 t3 t4 t5 new a b c d e f one two three four five six =
     five_behind result old t1 t2 t3 t4 new a b c d (e ++ f) one two three four (behind_ok result t4 t5 new e f five six)
+
+-- a fault of a line's form was told
+pub form_told : {E : Type 0} (result : Result (Unit {0}) E) (number : ℕ) (line : List ℕ) (fault : FormFault) (old begun told new : List ℕ) → HasNoForm line → IsSo line fault → begun ≡ old ++ line_start number
+    → ((reason : List ℕ) × IsFaultText fault reason × (told ≡ begun ++ reason)) → OnOk result (new ≡ told ++ 10 ∷ []) → OnOk result (Adds (IsFormNote number line) old new)
+form_told (Ok done) number line fault old begun told new none so begins (reason, is, tells) ends =
+    let start = line_start number in (
+      start ++ (reason ++ 10 ∷ []),
+      inl (none, (reason, (fault, so, is), refl)),
+      behind old begun new start (reason ++ 10 ∷ []) begins (behind begun told new reason (10 ∷ []) tells ends),
+    )
+form_told (Err why) number line fault old begun told new none so begins tells ends = tt

@@ -1,9 +1,17 @@
 -- A scene that differs little from another one.
-use Rattle.std.specs.Prelude.{◌≡◌, ℕ, Bool, true, false, Option, IfSome, Some, Ok}
+use Rattle.std.specs.Prelude.{◌≡◌, ℕ, Bool, true, false, List, Option, IfSome, Some, Ok}
 use Rattle.i3c_bus.specs.Near.{IsNear}
+use Rattle.i3c_facts.specs.declared.before.Before.{Before}
+use Rattle.i3c_facts.specs.Hearing.{came_to}
 use Rattle.i3c_lines.specs.declared.command.Command.{Command}
 use Rattle.i3c_lines.specs.declared.names.Name.{Name}
+use Rattle.i3c_lines.specs.declared.refusals.Refusal.{Refusal}
 use Rattle.i3c_lines.specs.Naming.{slot_named}
+use Rattle.i3c_script.specs.declared.piece.Piece.{Piece}
+use Rattle.i3c_script.specs.Obeying.{Answers}
+use Rattle.i3c_script.specs.Unkept.{no_past}
+use Rattle.i3c_step.specs.declared.events.Event.{Event}
+use Rattle.i3c_scene.specs.Going.{on_bus}
 use Rattle.i3c_scene.specs.Scenes.{Seen, place_in}
 
 -- the new scene's bus differs from the old one's in this slot at most, and the rest is unchanged
@@ -36,3 +44,8 @@ pub record HasSameSettings (old new : Seen) : Type 0 where
 -- rest is the old one's too
 abbrev pub IsCloseTo : Bool → Option ℕ → Seen → Seen → Type 0
 IsCloseTo set touched old new = (set ≡ false → HasSameSettings old new) × IfSome touched (λ slot. IsBehind slot old new)
+
+-- the device in a slot raises an interrupt, and facts know this of it
+abbrev pub Raises : Seen → ℕ → Option ℕ → Before → Seen → Type 0
+Raises old slot byte before new =
+    (pieces : List Piece) × (refused : Option Refusal) × Answers no_past (on_bus old) (Event.Raise slot byte) pieces refused (on_bus new) × (before ≡ came_to pieces refused) × (new.names ≡ old.names)

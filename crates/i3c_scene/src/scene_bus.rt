@@ -63,7 +63,7 @@ impl Scene {
 
 impl SceneBus {
     ghost use Rattle.std.specs.Prelude.{◌≡◌, ◌<◌, ◌^◌, IfOk, IfSome, IsTrue, OnOk};
-    ghost use Rattle.i3c_scene.specs.Near.{HasSameSettings, IsBehind, RaisesIn};
+    ghost use Rattle.i3c_scene.specs.Near.{HasSameSettings, IsBehind, Raises, RaisesIn};
     ghost use Rattle.i3c_script.specs.Hearing.{Hears};
     ghost use Rattle.i3c_facts.specs.declared.before.Before.{Before as BeforeValue};
     ghost use Rattle.i3c_scene.specs.Trying.{RunsIn, all_hold, cut_as, slot_at_risk};
@@ -122,13 +122,23 @@ impl SceneBus {
         ensures tried { IfOk result (λ held. (before : BeforeValue) × ((ways : WaysValue) → RunsIn self.old line.now.command line.now.risk ways before self.new) × (held ≡ all_hold self.new before line.now.expectations.items)) }
         ensures behind { OnOk result (IsBehind slot self.old self.new) }
     {
+        match self.raise(slot, byte) {
+            Ok(raised) => Ok(self.all_hold(&raised, line.expectations.as_slice())),
+            Err(short) => Err(short),
+        }
+    }
+
+    /// The device in a slot raises an interrupt: what facts know of that.
+    #[inline(always)]
+    fn raise(&mut self, slot: Slot, byte: Option<u8>) -> Result<Before, AllocError>
+        ensures { IfOk result (λ before. Raises self.old slot byte before self.new) }
+    {
         let mut heard = Heard::nothing();
-        let raised = end_of(&self.bus.raise_in(slot, byte, &mut heard))?;
-        let before = Before {
-            result: raised,
+        let ended = end_of(self.bus.raise_in(slot, byte, &mut heard))?;
+        Ok(Before {
+            result: ended,
             heard,
-        };
-        Ok(self.all_hold(&before, line.expectations.as_slice()))
+        })
     }
 
     /// The bus at rest.
@@ -212,7 +222,7 @@ impl SceneBus {
         };
         let sent = self.sends(command);
         self.cut_as(sent, &line.risk, ways);
-        match end_of(&self.obey(command, &mut Deaf)) {
+        match end_of(self.obey(command, &mut Deaf)) {
             Ok(_) => Ok(()),
             Err(short) => Err(short),
         }
@@ -230,7 +240,7 @@ impl SceneBus {
         let sent = self.sends(command);
         self.cut_as(sent, &line.risk, ways);
         let mut heard = Heard::nothing();
-        let ended = end_of(&self.obey(command, &mut heard))?;
+        let ended = end_of(self.obey(command, &mut heard))?;
         Ok(Before {
             result: ended,
             heard,
@@ -349,12 +359,12 @@ impl SceneBus {
 }
 
 /// How a line with this outcome ended.
-fn end_of(outcome: &Result<(), LineError<Refusal>>) -> Result<LineResult, AllocError>
-    ensures { IfOk result (IsEndOf outcome.now) }
+fn end_of(outcome: Result<(), LineError<Refusal>>) -> Result<LineResult, AllocError>
+    ensures { IfOk result (IsEndOf outcome) }
 {
     match outcome {
         Ok(()) => Ok(LineResult::Done),
-        Err(LineError::Refused(why)) => Ok(LineResult::Refused(*why)),
+        Err(LineError::Refused(why)) => Ok(LineResult::Refused(why)),
         Err(LineError::Memory) => Err(AllocError),
     }
 }

@@ -8,7 +8,6 @@ use Rattle.i3c_script.specs.declared.piece.Piece.{Piece}
 use Rattle.i3c_script.specs.Hearing.{Hears, all_heard}
 use Rattle.i3c_script.specs.Pieces.{with_next}
 use Rattle.i3c_script.specs.Printed.{piece_text, pieces_text, with_piece}
-use Rattle.i3c_script.specs.Stops.{Ends}
 use Rattle.i3c_script.specs.Telling.{Prints}
 
 module _ {L : Type 0} (heard : L → Piece → L) where
@@ -36,12 +35,6 @@ module _ {L : Type 0} (heard : L → Piece → L) where
   hears_by Is Of of before after (Ok done) (pieces, heard, is) = (pieces, heard, of pieces None is)
   hears_by Is Of of before after (Err (LineError.Refused why)) (pieces, heard, is) = (pieces, heard, of pieces (Some why) is)
   hears_by Is Of of before after (Err LineError.Memory) h = h
-
--- what holds of pieces, whoever heard them
-pub unheard : {L : Type 0} (heard : L → Piece → L) (Is : List Piece → Option Refusal → Type 0) (before after : L) (result : Result (Unit {0}) (LineError Refusal)) → Hears heard Is before after result → Ends (λ refused. (pieces : List Piece) × Is pieces refused) result
-unheard heard Is before after (Ok done) (pieces, told, is) = (pieces, is)
-unheard heard Is before after (Err (LineError.Refused why)) (pieces, told, is) = (pieces, is)
-unheard heard Is before after (Err LineError.Memory) h = h
 
 -- a text that hears pieces has their texts behind it
 pub text_heard : (before : List ℕ) (pieces : List Piece) → all_heard with_piece before pieces ≡ before ++ pieces_text pieces

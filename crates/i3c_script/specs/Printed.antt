@@ -10,7 +10,6 @@ use Rattle.i3c_base.specs.declared.requests.Served.{Served}
 use Rattle.i3c_base.specs.State.{State}
 use Rattle.i3c_frame.specs.Texts.{text_of}
 use Rattle.i3c_lines.specs.declared.names.Name.{Name}
-use Rattle.i3c_lines.specs.declared.names.Names.{Names}
 use Rattle.i3c_text.specs.Hex.{byte_text, bytes_text, hex_text}
 use Rattle.i3c_lines.specs.Data.{datum_name}
 use Rattle.i3c_lines.specs.Keeping.{NamesKept}

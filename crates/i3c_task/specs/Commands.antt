@@ -52,7 +52,7 @@ arguments_of Verb.Explore = number most_lines ∷ text (codes "part") ∷ number
 arguments_of Verb.Trace =
     flag (codes "all") ∷ flag (codes "lint") ∷ flag (codes "explain") ∷ texts (codes "legacy") ∷ flag (codes "vcd") ∷ text (codes "scl")
     ∷ text (codes "sda") ∷ flag (codes "numbers") ∷ file ∷ []
-arguments_of Verb.Wave = flag (codes "trace") ∷ texts (codes "legacy") ∷ file ∷ []
+arguments_of Verb.Wave = flag (codes "trace") ∷ flag (codes "plain") ∷ texts (codes "legacy") ∷ file ∷ []
 arguments_of Verb.Stress = needed devices ∷ needed posts ∷ flag (codes "totals") ∷ []
 
 -- all commands

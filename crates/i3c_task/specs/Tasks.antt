@@ -11,6 +11,7 @@ use Rattle.i3c_task.specs.declared.task.Capturing.{Capturing}
 use Rattle.i3c_task.specs.declared.task.Stress.{Stress}
 use Rattle.i3c_task.specs.declared.task.Task.{Task}
 use Rattle.i3c_task.specs.declared.task.Telling.{Telling}
+use Rattle.i3c_task.specs.declared.task.Waveform.{Waveform}
 use Rattle.i3c_task.specs.declared.task.Work.{Work}
 use Rattle.i3c_task.specs.declared.verb.Verb.{Verb}
 use Rattle.i3c_task.specs.Commands.{name_of, program}
@@ -70,12 +71,14 @@ IsTraceWith found set task = ⊥
 abbrev pub IsTrace : Found → Task → Type 0
 IsTrace found task = (set : ℕ) × AreLegacies (legacy_texts found) set × IsTraceWith found set task
 
+-- how a waveform is printed
+abbrev pub IsWaveform : Found → Waveform → Type 0
+IsWaveform found waveform = AreLegacies (legacy_texts found) waveform.legacies.0 × IsFlag found (codes "plain") waveform.plain
+
 -- the waveform of a trace with `--trace`, and otherwise of a script
 abbrev pub IsWave : Found → Task → Type 0
-IsWave found (Task.File (Work.Wave legacies) file) =
-    IsFlag found (codes "trace") true × AreLegacies (legacy_texts found) legacies.0 × (file.now ≡ file_of found)
-IsWave found (Task.File (Work.WaveScript legacies) file) =
-    IsFlag found (codes "trace") false × AreLegacies (legacy_texts found) legacies.0 × (file.now ≡ file_of found)
+IsWave found (Task.File (Work.Wave waveform) file) = IsFlag found (codes "trace") true × IsWaveform found waveform × (file.now ≡ file_of found)
+IsWave found (Task.File (Work.WaveScript waveform) file) = IsFlag found (codes "trace") false × IsWaveform found waveform × (file.now ≡ file_of found)
 IsWave found task = ⊥
 
 -- the task of `explore`

@@ -39,6 +39,7 @@ commands.
 'trace --vcd' reads the symbols of a capture first, a value change dump with the signals 'scl' and 'sda'.
 'explore' tries every order of tracks that may interleave, and tells one in which something doesn't hold.
 'wave' runs a script, and prints SCL and SDA with their times, a value change dump. 'wave --trace' does so with such symbols.
+With --plain the dump has these two alone, for a reader that takes no texts.
 
 Exit status:
   0  each line was done

@@ -11,6 +11,8 @@ mod task;
 mod verb;
 mod words_fault;
 
-pub use task::{Capturing, Exploring, STANDARD_INPUT, Stress, Task, Telling, Work, task_named};
+pub use task::{
+    Capturing, Exploring, STANDARD_INPUT, Stress, Task, Telling, Waveform, Work, task_named,
+};
 pub use verb::{MOST_DEVICES, MOST_POSTS};
 pub use words_fault::WordsFault;

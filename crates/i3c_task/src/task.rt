@@ -1,7 +1,7 @@
 ghost use Rattle.std.specs.Prelude.{◌≡◌, ◌∷◌, ◌↔◌, [], IfOk, IsOkAnd, IsTrue, MatchOption, codes, length, map};
 ghost use Rattle.std.specs.String.{string_bytes};
 ghost use Rattle.clap.specs.Words.{found_of};
-ghost use Rattle.i3c_task.specs.Tasks.{HasCodes, IsAskedFor, IsCapturing, IsDrive, IsExplore, IsNamed, IsRun, IsStress, IsTaskOf, IsTelling, IsTrace, IsWave, file_of};
+ghost use Rattle.i3c_task.specs.Tasks.{HasCodes, IsAskedFor, IsCapturing, IsDrive, IsExplore, IsNamed, IsRun, IsStress, IsTaskOf, IsTelling, IsTrace, IsWave, IsWaveform, file_of};
 ghost use Rattle.i3c_task.specs.Parsed.{IsGiven, IsReadFrom, NamesNone};
 ghost use Rattle.i3c_task.specs.Words.{RunsInput};
 
@@ -9,8 +9,8 @@ use crate::argument::Bonds;
 use crate::options::{flag_given, legacies_given, number_given, part_given, text_given};
 use crate::verb::{
     ALL, DEVICES, ECHO, EXPLAIN, FILE, FROM_TRACE, JOBS, JSON, LEGACY, LINT, MOST, MOST_DEVICES,
-    MOST_JOBS, MOST_POSTS, NUMBERS, PART, POSTS, QUIET, SCL, SDA, STRICT, TEST, TOTALS, VCD, Verb,
-    parser, usages,
+    MOST_JOBS, MOST_POSTS, NUMBERS, PART, PLAIN, POSTS, QUIET, SCL, SDA, STRICT, TEST, TOTALS, VCD,
+    Verb, parser, usages,
 };
 use crate::words_fault::WordsFault;
 use clap::ArgMatches;
@@ -62,10 +62,10 @@ pub enum Work {
     Draw,
     /// Tells it as a trace.
     Tell(Telling),
-    /// Runs it as a script, and prints its wire as a value change dump. Legacy targets have these addresses.
-    WaveScript(Addresses),
-    /// Prints it, as a trace, as a value change dump. Legacy targets have these addresses.
-    Wave(Addresses),
+    /// Runs it as a script, and prints its wire as a value change dump.
+    WaveScript(Waveform),
+    /// Prints it, as a trace, as a value change dump.
+    Wave(Waveform),
 }
 
 /// How a trace is told.
@@ -90,6 +90,15 @@ pub struct Capturing<'a> {
     pub legacies: Addresses,
     /// Whether each frame has its time.
     pub numbers: bool,
+}
+
+/// How a wire is printed as a value change dump.
+#[derive(Clone, Copy)]
+pub struct Waveform {
+    /// Legacy targets have these addresses.
+    pub legacies: Addresses,
+    /// Whether it has SCL and SDA alone.
+    pub plain: bool,
 }
 
 /// How the orders of a file's tracks are tried.
@@ -289,13 +298,22 @@ fn codes_given(given: &ArgMatches<'_>) -> CodeSet
 fn wave_given<'a>(given: &ArgMatches<'a>) -> Result<Task<'a>, WordsFault>
     ensures { IfOk result (IsWave (found_of given.now)) }
 {
-    let legacies = legacies_given(given)?;
+    let waveform = waveform_given(given)?;
     let work = if flag_given(given, FROM_TRACE) {
-        Work::Wave(legacies)
+        Work::Wave(waveform)
     } else {
-        Work::WaveScript(legacies)
+        Work::WaveScript(waveform)
     };
     Ok(Task::File(work, file_given(given)))
+}
+
+/// How the waveform is to be printed.
+fn waveform_given(given: &ArgMatches<'_>) -> Result<Waveform, WordsFault>
+    ensures { IfOk result (IsWaveform (found_of given.now)) }
+{
+    let legacies = legacies_given(given)?;
+    let plain = flag_given(given, PLAIN);
+    Ok(Waveform { legacies, plain })
 }
 
 /// The file that was given to be explored, and how.

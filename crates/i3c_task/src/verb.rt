@@ -60,8 +60,10 @@ pub(crate) const LEGACY: &str = "legacy";
 /// The flags with which `trace` takes the addresses of legacy targets.
 const WITH_LEGACIES: &str = "with-legacies";
 
-/// The flag of `wave` for a file that is a trace.
+/// The flag of `wave` for a file that is a trace, and the one for the two lines alone.
 pub(crate) const FROM_TRACE: &str = "trace";
+
+pub(crate) const PLAIN: &str = "plain";
 
 /// The options of `stress` for the number of devices, and of posts of each; and the one that prints the totals of the posts
 /// too.
@@ -272,6 +274,12 @@ const OF_WAVE: &[Argument] = &[
         takes: Takes::Nothing,
         bond: Bond::Free,
         help: "The file is a trace, and no script",
+    },
+    Argument {
+        name: PLAIN,
+        takes: Takes::Nothing,
+        bond: Bond::Free,
+        help: "Prints SCL and SDA alone, without symbols, frames and lines",
     },
     LEGACIES,
     Argument {

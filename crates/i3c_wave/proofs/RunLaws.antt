@@ -10,6 +10,7 @@ use Rattle.i3c_streams.specs.Faults.{IsLineFault}
 use Rattle.i3c_streams.specs.Outcomes.{AppendsSome}
 use Rattle.i3c_streams.proofs.Written.{appends_both}
 use Rattle.i3c_streams.proofs.WrittenOn.{some_out}
+use Rattle.i3c_wave.specs.declared.content.Content.{Content}
 use Rattle.i3c_wave.specs.Runs.{GoesOut, fault_line}
 
 -- a prefix of no text is none
@@ -19,11 +20,11 @@ none_grown (Some xs) None some = absurd some.2
 none_grown (Some xs) (Some ys) some = some.2 ∙ ap (λ more. xs ++ more) (take_all some.0 [] (omega arith)) ∙ append-nil xs
 
 -- a prefix of the line of the first fault went out
-pub prefix_out : (legacies : ℕ) (known old new : Option (List ℕ)) (text : List ℕ) (fault : TraceFault) (stop : ScriptFault) → IfSome known (λ bytes. text ≡ bytes)
+pub prefix_out : (legacies : ℕ) (content : Content) (known old new : Option (List ℕ)) (text : List ℕ) (fault : TraceFault) (stop : ScriptFault) → IfSome known (λ bytes. text ≡ bytes)
     → (fault ≡ TraceFault.OutOfMemory) ⊎ IsFirstFault (parts text) fault → AppendsSome old new (fault_line fault)
-    → GoesOut legacies known old new (Err stop)
-prefix_out legacies known old new text fault stop read (inl lacks) out = inl (none_grown old new (subst (λ fault. AppendsSome old new (fault_line fault)) lacks out))
-prefix_out legacies known old new text fault stop read (inr first) out = inr (fault_line fault, Some fault, record { text = text; read = read; comes = (first, refl) }, out)
+    → GoesOut legacies content known old new (Err stop)
+prefix_out legacies content known old new text fault stop read (inl lacks) out = inl (none_grown old new (subst (λ fault. AppendsSome old new (fault_line fault)) lacks out))
+prefix_out legacies content known old new text fault stop read (inr first) out = inr (fault_line fault, Some fault, record { text = text; read = read; comes = (first, refl) }, out)
 
 -- the last of a text goes out
 pub last_out : (a b c : Option (List ℕ)) (first last all : List ℕ) (result : Result (Unit {0}) ScriptFault) → all ≡ first ++ (last ++ []) → Appends a b first

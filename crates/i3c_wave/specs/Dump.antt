@@ -5,6 +5,7 @@ use Rattle.i3c_frame.specs.declared.symbols.Symbol.TheVariants.{Start}
 use Rattle.i3c_frame.specs.Texts.{text_of}
 use Rattle.i3c_wave.specs.declared.levels.Level.{Level}
 use Rattle.i3c_wave.specs.declared.timing.Timing.{Timing}
+use Rattle.i3c_wave.specs.declared.content.Content.{Content}
 use Rattle.i3c_wave.specs.declared.wave.Wave.{Wave}
 use Rattle.i3c_wave.specs.Levels.{high, levels_of}
 use Rattle.i3c_wave.specs.Timing.{lasting, timing_of}
@@ -66,11 +67,16 @@ abbrev pub frame_text : Wave → Symbol → List ℕ
 frame_text wave Start = codes "r" ++ (decimal wave.frame ++ line (codes " f"))
 frame_text wave symbol = []
 
+-- a text that only a full dump has
+abbrev pub in_full : Content → List ℕ → List ℕ
+in_full Content.Full text = text
+in_full Content.Wires text = []
+
 -- the number of a frame that a symbol begins, and the symbol's text
 abbrev pub mark_text : Wave → Symbol → List ℕ
-mark_text wave symbol = frame_text wave symbol ++ (codes "s" ++ (text_of symbol ++ line (codes " s")))
+mark_text wave symbol = in_full wave.content (frame_text wave symbol ++ (codes "s" ++ (text_of symbol ++ line (codes " s"))))
 
--- what a dump has for a symbol: its text, and its levels
+-- what a dump has for a symbol: its text, unless it is plain, and its levels
 abbrev pub symbol_dump : ℕ → Wave → Symbol → List ℕ
 symbol_dump legacies wave symbol = mark_text (begun wave symbol) symbol ++ levels_text (timing_of legacies symbol) (begun wave symbol) (levels_of symbol)
 
@@ -84,12 +90,28 @@ symbols_dump legacies wave [] = []
 symbols_dump legacies wave (symbol ∷ rest) = symbol_dump legacies wave symbol ++ symbols_dump legacies (after_symbol legacies wave symbol) rest
 
 -- a free bus, before its first frame
-abbrev pub free_bus : Wave
-free_bus = record { time = 1000; level = high true; frame = 0 }
+abbrev pub free_bus : Content → Wave
+free_bus content = record { time = 1000; level = high true; frame = 0; content = content }
+
+-- what a plain dump has before its first symbol: the two wires, and the free bus
+abbrev pub plain_preamble : List ℕ
+plain_preamble =
+    line (codes "$version i3cbus wave $end")
+    ++ (line (codes "$timescale 1 ns $end")
+    ++ (line (codes "$scope module i3c $end")
+    ++ (line (codes "$var wire 1 c scl $end")
+    ++ (line (codes "$var wire 1 d sda $end")
+    ++ (line (codes "$upscope $end")
+    ++ (line (codes "$enddefinitions $end")
+    ++ (line (codes "#0")
+    ++ (line (codes "1c")
+    ++ (line (codes "1d")
+    ++ line (codes "#1000"))))))))))
 
 -- what a dump has before its first symbol: its signals, and the free bus
-abbrev pub preamble : List ℕ
-preamble =
+abbrev pub preamble : Content → List ℕ
+preamble Content.Wires = plain_preamble
+preamble Content.Full =
     line (codes "$version i3cbus wave $end")
     ++ (line (codes "$timescale 1 ns $end")
     ++ (line (codes "$scope module i3c $end")
@@ -106,5 +128,5 @@ preamble =
     ++ line (codes "#1000")))))))))))))
 
 -- the dump of a wire, with these addresses of legacy targets
-abbrev pub dump_text : ℕ → List Symbol → List ℕ
-dump_text legacies symbols = preamble ++ symbols_dump legacies free_bus symbols
+abbrev pub dump_text : ℕ → Content → List Symbol → List ℕ
+dump_text legacies content symbols = preamble content ++ symbols_dump legacies (free_bus content) symbols

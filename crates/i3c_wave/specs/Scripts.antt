@@ -1,6 +1,7 @@
 -- What a dump of a script has beside the wire: its lines, and what they print.
 use Rattle.std.specs.Prelude.{ℕ, ◌/◌, ◌%◌, ◌+◌, ◌==◌, ◌||◌, nat_lt, List, [], ◌∷◌, ◌++◌, codes, flat_map, if◌then◌else◌}
-use Rattle.i3c_wave.specs.Dump.{line}
+use Rattle.i3c_wave.specs.declared.content.Content.{Content}
+use Rattle.i3c_wave.specs.Dump.{line, plain_preamble}
 
 -- a byte by its three octal digits, behind a backslash
 abbrev pub octal_text : ℕ → List ℕ
@@ -15,8 +16,9 @@ abbrev pub string_text : ℕ → List ℕ → List ℕ
 string_text name value = codes "s" ++ (flat_map string_byte value ++ (codes " " ++ name ∷ 10 ∷ []))
 
 -- what a script's dump has before its first symbol: its signals, and the free bus
-abbrev pub script_preamble : List ℕ
-script_preamble =
+abbrev pub script_preamble : Content → List ℕ
+script_preamble Content.Wires = plain_preamble
+script_preamble Content.Full =
     line (codes "$version i3cbus wave $end")
     ++ (line (codes "$timescale 1 ns $end")
     ++ (line (codes "$scope module i3c $end")

@@ -1,7 +1,7 @@
 //! The wire as a waveform: what each symbol is on SCL and SDA, with times, and the text of a value change dump.
 //!
 //! `levels` is what the two lines are at, symbol by symbol. `timing` says for how long, and `wave` is the dump (IEEE 1364)
-//! of one symbol after another. `script_wave` has the lines of a script and what they print. `run` writes the dump of a
+//! of one symbol after another; `content` is what a dump has. `script_wave` has the lines of a script and what they print. `run` writes the dump of a
 //! trace as a stream. `source` is a reader that knows whether it failed. `edges` is a watcher of
 //! the two lines. `laws` says that SDA has a symbol's bits where SCL rises, and what is heard of a trace's levels;
 //! `clock_laws` says the same of whole frames, bit by bit.
@@ -18,6 +18,7 @@ mod capture_run;
 mod capture_text;
 mod captured;
 mod clock_laws;
+mod content;
 mod dump;
 mod dump_word;
 mod edges;
@@ -40,6 +41,7 @@ pub use captured::{Captured, FrameMark, Loss, Unread, without_times};
 pub use clock_laws::{
     bits_have_their_numbers, frames_have_the_bits_in_order, rising_edges_are_in_order,
 };
+pub use content::Content;
 pub use edges::{Edges, Mark};
 pub use laws::{edges_give_the_marks, rising_edges_have_the_bits, symbols_are_read_back};
 pub use levels::{Level, Levels, Line};

@@ -6,6 +6,7 @@ ghost use Rattle.i3c_streams.specs.Outcomes.{AppendsSome, WritesFront};
 ghost use Rattle.i3c_streams.specs.Reading.{TellsRead};
 ghost use Rattle.i3c_wave.specs.Runs.{GoesOut, fault_line};
 
+use crate::content::Content;
 use crate::source::Source;
 use crate::wave::Wave;
 use i3c_base::Addresses;
@@ -15,24 +16,25 @@ use i3c_text::Text;
 use std::alloc::{AllocError, Global};
 use std::io::{Read, Write};
 
-/// Writes the value change dump (IEEE 1364) of a trace, on a bus with legacy targets at these addresses; or the line of the
-/// trace's first fault, which it gives. A trace is read whole, and has at most 1,048,576 bytes. `Read` is told exactly where a
+/// Writes the value change dump (IEEE 1364) of a trace, with this content, on a bus with legacy targets at these addresses; or
+/// the line of the trace's first fault, which it gives. A trace is read whole, and has at most 1,048,576 bytes. `Read` is told exactly where a
 /// read failed.
 pub fn run_wave<R: Read, W: Write>(
     alloc: Global,
     legacies: Addresses,
+    content: Content,
     source: &mut Source<R>,
     writer: &mut W,
 ) -> Result<Option<TraceFault>, ScriptFault>
     ensures fits { OnOk result (IfSome (R.remaining source.old.reader) (λ bytes. length bytes ≤ MOST_BYTES)) }
     ensures large { result ≡ Err ScriptFault.TooLarge → IfSome (R.remaining source.old.reader) (λ bytes. MOST_BYTES < length bytes) }
-    ensures lines { GoesOut legacies.0 (R.remaining source.old.reader) (W.contents writer.old) (W.contents writer.new) result }
+    ensures lines { GoesOut legacies.0 content (R.remaining source.old.reader) (W.contents writer.old) (W.contents writer.new) result }
     ensures read { TellsRead source.old.has_failed source.new.has_failed result }
 {
     let text = source.read_text(alloc)?;
     match read_trace_bytes(alloc, &text) {
         Ok(trace) => {
-            write_dump(alloc, legacies, &trace, writer)?;
+            write_dump(alloc, legacies, content, &trace, writer)?;
             Ok(None)
         }
         Err(fault) => match write_fault(alloc, fault, writer) {
@@ -46,16 +48,17 @@ pub fn run_wave<R: Read, W: Write>(
 fn write_dump<W: Write>(
     alloc: Global,
     legacies: Addresses,
+    content: Content,
     trace: &[Symbol],
     out: &mut W,
 ) -> Result<(), ScriptFault>
     ensures { MatchResult result
-        (λ _. Appends (W.contents out.old) (W.contents out.new) (dump_text legacies.0 trace.now))
-        (λ fault. IsLineFault fault × AppendsSome (W.contents out.old) (W.contents out.new) (dump_text legacies.0 trace.now)) }
+        (λ _. Appends (W.contents out.old) (W.contents out.new) (dump_text legacies.0 content trace.now))
+        (λ fault. IsLineFault fault × AppendsSome (W.contents out.old) (W.contents out.new) (dump_text legacies.0 content trace.now)) }
 {
     let mut text = Text::new(alloc);
-    push_preamble(&mut text)?;
-    let mut wave = Wave::new();
+    push_preamble(content, &mut text)?;
+    let mut wave = Wave::new(content);
     for symbol in trace {
         write_symbol(&mut wave, legacies, *symbol, &mut text, out)?;
     }
@@ -63,10 +66,10 @@ fn write_dump<W: Write>(
 }
 
 /// Appends what a dump has before its first symbol.
-fn push_preamble(text: &mut Text) -> Result<(), ScriptFault>
-    ensures { MatchResult result (λ _. text.new ≡ text.old ++ preamble) (λ fault. fault ≡ ScriptFault.Memory) }
+fn push_preamble(content: Content, text: &mut Text) -> Result<(), ScriptFault>
+    ensures { MatchResult result (λ _. text.new ≡ text.old ++ preamble content) (λ fault. fault ≡ ScriptFault.Memory) }
 {
-    match Wave::push_preamble(text) {
+    match Wave::push_preamble(content, text) {
         Ok(()) => Ok(()),
         Err(_) => Err(ScriptFault::Memory),
     }

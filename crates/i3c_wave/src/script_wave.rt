@@ -1,7 +1,10 @@
 ghost use Rattle.std.specs.Prelude.{◌≡◌, ◌++◌, OnOk};
 ghost use Rattle.std.specs.List.{flat_map};
+ghost use Rattle.i3c_wave.specs.Dump.{in_full};
 ghost use Rattle.i3c_wave.specs.Scripts.{octal_text, script_preamble, string_byte, string_text};
 
+use crate::content::Content;
+use crate::wave::PLAIN_PREAMBLE;
 use i3c_text::Text;
 use std::alloc::AllocError;
 
@@ -30,24 +33,33 @@ r0 f
 ";
 
 /// Appends what a script's dump has before its first symbol.
-pub fn push_script_preamble(text: &mut Text) -> Result<(), AllocError>
-    ensures { OnOk result (text.new ≡ text.old ++ script_preamble) }
+pub fn push_script_preamble(content: Content, text: &mut Text) -> Result<(), AllocError>
+    ensures { OnOk result (text.new ≡ text.old ++ script_preamble content) }
 {
-    text.push(PREAMBLE)
+    match content {
+        Content::Full => text.push(PREAMBLE),
+        Content::Wires => text.push(PLAIN_PREAMBLE),
+    }
 }
 
-/// Appends that a script's line is this from now on.
-pub fn push_script_line(line: &[u8], text: &mut Text) -> Result<(), AllocError>
-    ensures { OnOk result (text.new ≡ text.old ++ string_text 108 line.now) }
+/// Appends that a script's line is this from now on, unless the dump is plain.
+pub fn push_script_line(content: Content, line: &[u8], text: &mut Text) -> Result<(), AllocError>
+    ensures { OnOk result (text.new ≡ text.old ++ in_full content (string_text 108 line.now)) }
 {
-    push_string(LINE, line, text)
+    match content {
+        Content::Full => push_string(LINE, line, text),
+        Content::Wires => Ok(()),
+    }
 }
 
-/// Appends that a line printed this.
-pub fn push_served(printed: &[u8], text: &mut Text) -> Result<(), AllocError>
-    ensures { OnOk result (text.new ≡ text.old ++ string_text 112 printed.now) }
+/// Appends that a line printed this, unless the dump is plain.
+pub fn push_served(content: Content, printed: &[u8], text: &mut Text) -> Result<(), AllocError>
+    ensures { OnOk result (text.new ≡ text.old ++ in_full content (string_text 112 printed.now)) }
 {
-    push_string(SERVED, printed, text)
+    match content {
+        Content::Full => push_string(SERVED, printed, text),
+        Content::Wires => Ok(()),
+    }
 }
 
 /// Appends that a string variable has this value from now on.

@@ -1,6 +1,7 @@
 ghost use Rattle.std.specs.Prelude.{◌≡◌, ◌++◌, OnOk};
 ghost use Rattle.i3c_wave.specs.Dump.{change_text, delayed_text, stamp_text};
 
+use crate::content::Content;
 use crate::levels::{Level, Levels};
 use crate::timing::Timing;
 use i3c_base::Addresses;
@@ -36,12 +37,27 @@ r0 f
 #1000
 ";
 
-/// A dump that is being written: the time in ns, the level of the lines, and the number of the frame.
+/// What a plain dump has before its first symbol.
+pub(crate) const PLAIN_PREAMBLE: &[u8] = b"$version i3cbus wave $end
+$timescale 1 ns $end
+$scope module i3c $end
+$var wire 1 c scl $end
+$var wire 1 d sda $end
+$upscope $end
+$enddefinitions $end
+#0
+1c
+1d
+#1000
+";
+
+/// A dump that is being written: the time in ns, the level of the lines, the number of the frame, and what the dump has.
 #[derive(Clone, Copy, Drop)]
 pub struct Wave {
     pub time: u64,
     pub level: Level,
     pub frame: u64,
+    pub content: Content,
 }
 
 impl Wave {
@@ -49,8 +65,8 @@ impl Wave {
     ghost use Rattle.i3c_wave.specs.Dump.{after_symbol, begun, free_bus, level_text, mark_text, moved, preamble, symbol_dump};
 
     /// A free bus, before its first frame.
-    pub fn new() -> Wave
-        ensures { result ≡ free_bus }
+    pub fn new(content: Content) -> Wave
+        ensures { result ≡ free_bus content }
     {
         let level = Level {
             scl: true,
@@ -60,14 +76,18 @@ impl Wave {
             time: IDLE,
             level,
             frame: 0,
+            content,
         }
     }
 
     /// Appends what a dump has before its first symbol.
-    pub fn push_preamble(text: &mut Text) -> Result<(), AllocError>
-        ensures { OnOk result (text.new ≡ text.old ++ preamble) }
+    pub fn push_preamble(content: Content, text: &mut Text) -> Result<(), AllocError>
+        ensures { OnOk result (text.new ≡ text.old ++ preamble content) }
     {
-        text.push(PREAMBLE)
+        match content {
+            Content::Full => text.push(PREAMBLE),
+            Content::Wires => text.push(PLAIN_PREAMBLE),
+        }
     }
 
     /// Appends what a dump has for the next symbol, on a bus with legacy targets at these addresses.
@@ -99,10 +119,13 @@ impl Wave {
         }
     }
 
-    /// Appends the text of a symbol, and the number of the frame that it begins.
+    /// Appends the text of a symbol, and the number of the frame that it begins, unless the dump is plain.
     fn push_mark(&self, symbol: Symbol, text: &mut Text) -> Result<(), AllocError>
         ensures { OnOk result (text.new ≡ text.old ++ mark_text self.now symbol) }
     {
+        if let Content::Wires = self.content {
+            return Ok(());
+        }
         if let Symbol::Start = symbol {
             text.push(b"r")?;
             text.push_decimal(self.frame)?;

@@ -21,7 +21,7 @@ returns-in-Ok-outcome-clause-lines g c =
     let after = c.run_all-outcome.new.witness in
     let counts = c.retire-tally.ensures ∙ ap (λ w. counts_of w to) (c.run_all-outcome.ensures.watching ∙ c.new-run.ensures.watching) in
     let whole = subst (λ w. WatchedWhole g.T.Witness.hears w known old new before after from to) c.new-run.ensures.watching c.in-Ok-outcome.ensures.runs in
-    (from, c.new-run.ensures.begun, c.new-run.ensures.refused, to, counts, whole)
+    (from, c.new-run.ensures.begun, c.new-run.ensures.refused, (to, counts, whole))
 
 pub returns-clause-lines : goal.returns-clause-lines
 returns-clause-lines g c =

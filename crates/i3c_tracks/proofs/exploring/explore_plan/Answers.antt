@@ -73,7 +73,8 @@ returns-in_ok-push_broken-in-Err-Breaks-clause-printed g c is =
     let shortest = subst (λ (s : Seen). IsShortestInPart LineSteps LineBreaks c.args.part plan.blocks.items s order.items) c.in_ok-start.ensures
     (subst (λ (bs : List (Vec (Vec Line))). IsShortestInPart LineSteps LineBreaks c.args.part bs c.in_ok-start.start order.items) c.deref.ensures.value (shortest_of c.args.part c.deref.result.now c.in_ok-start.start c.in-Some.left c.in-Err-Breaks.field-0 order c.in-Err-Breaks.field-0-is c.in-Err-Breaks.ensures)) in
     let (runs, number, there, found, broken, put) = c.in_ok-push_broken-in-Err-Breaks.ensures in
-    let are = subst (λ (turns : List Turn). AreRunsOf plan.blocks.items plan.opened.items turns runs) c.deref-in-Err-Breaks.ensures.value found in
+    let turns = rw c.in-Err-Breaks.field-0-is at c.deref-in-Err-Breaks.ensures.value in
+    let are = subst (λ (turns : List Turn). AreRunsOf plan.blocks.items plan.opened.items turns runs) turns found in
     (script_text c.args.lines.now plan.before.items runs number there, record { plan = plan; is = is; order = order.items; shortest = shortest; runs = runs; are = are; number = number; there = there; broken = broken; script = refl }, put)
 
 -- a file with a plan, where a limit was reached

@@ -17,9 +17,9 @@ returns-in_err-write_symbol g c =
     let new = g.W.Write.contents c.write_symbol.new.out in
     let trace = c.args.trace.now in
     let inv = c.loop-symbol.invariant in
-    let all = next_symbol c.args.legacies.0 c.loop-symbol.wave trace c.loop-symbol.symbol-index c.symbol-item.result inv.0 c.loop-symbol.text (dump_text c.args.legacies.0 trace) c.loop-symbol-test.true c.symbol-item.is inv.2 in
+    let all = next_symbol c.args.legacies.0 c.loop-symbol.wave trace c.loop-symbol.symbol-index c.symbol-item.result inv.0 c.loop-symbol.text (dump_text c.args.legacies.0 c.args.content trace) c.loop-symbol-test.true c.symbol-item.is inv.2 in
     let fault = c.in_err-write_symbol.ensures.out in
-    let out : AppendsSome old new (dump_text c.args.legacies.0 trace) =
+    let out : AppendsSome old new (dump_text c.args.legacies.0 c.args.content trace) =
     subst (AppendsSome old new) (sym all)
     (some_out old mid new inv.0 (c.loop-symbol.text ++ symbol_dump c.args.legacies.0 c.loop-symbol.wave c.symbol-item.result) _ inv.1 fault.1) in
     search rules
@@ -35,11 +35,11 @@ loop-symbol-preserved g c =
     let wave = c.loop-symbol.wave in
     let left = drop (c.loop-symbol.symbol-index + 1) trace in
     let inv = c.loop-symbol.invariant in
-    let all = next_symbol legacies wave trace c.loop-symbol.symbol-index symbol inv.0 c.loop-symbol.text (dump_text legacies trace) c.loop-symbol-test.true c.symbol-item.is inv.2 in
+    let all = next_symbol legacies wave trace c.loop-symbol.symbol-index symbol inv.0 c.loop-symbol.text (dump_text legacies c.args.content trace) c.loop-symbol-test.true c.symbol-item.is inv.2 in
     let wrote = c.in_ok-write_symbol.ensures.out in (
       inv.0 ++ wrote.0,
       appends_both old mid new inv.0 wrote.0 inv.1 wrote.1,
-      written_on (dump_text legacies trace) inv.0 (c.loop-symbol.text ++ symbol_dump legacies wave symbol) wrote.0 c.write_symbol.new.text (symbols_dump legacies (after_symbol legacies wave symbol) left) all wrote.2
+      written_on (dump_text legacies c.args.content trace) inv.0 (c.loop-symbol.text ++ symbol_dump legacies wave symbol) wrote.0 c.write_symbol.new.text (symbols_dump legacies (after_symbol legacies wave symbol) left) all wrote.2
           ∙ ap (λ next. (inv.0 ++ wrote.0) ++ (c.write_symbol.new.text ++ symbols_dump legacies next left)) (sym c.in_ok-write_symbol.ensures.wave),
     )
 
@@ -54,4 +54,4 @@ returns g c =
     let mid = g.W.Write.contents c.loop-symbol.out in
     let new = g.W.Write.contents c.write_out.new.out in
     let goes = subst (λ text. MatchResult c.write_out.result (λ _. Appends mid new text) (λ fault. (fault ≡ ScriptFault.Write) × AppendsSome mid new text)) c.as_bytes.ensures c.write_out.ensures in
-    last_out old mid new inv.0 c.loop-symbol.text (dump_text legacies trace) c.write_out.result all inv.1 goes
+    last_out old mid new inv.0 c.loop-symbol.text (dump_text legacies c.args.content trace) c.write_out.result all inv.1 goes

@@ -7,4 +7,4 @@ use Rattle.i3c_wave.proofs.run.write_dump.Given as goal
 abbrev pub invariant-loop-symbol : goal.invariant-loop-symbol
 invariant-loop-symbol g l =
     (first : List ℕ) × Appends (g.W.Write.contents l.initial.out) (g.W.Write.contents l.out) first
-    × (dump_text l.fn.legacies.0 l.fn.trace ≡ first ++ (l.text ++ symbols_dump l.fn.legacies.0 l.wave (drop l.symbol-index l.fn.trace)))
+    × (dump_text l.fn.legacies.0 l.fn.content l.fn.trace ≡ first ++ (l.text ++ symbols_dump l.fn.legacies.0 l.wave (drop l.symbol-index l.fn.trace)))

@@ -1,5 +1,5 @@
 -- The tenures are those that the reply leaves.
-use Rattle.std.proofs.Common.{◌≡◌, ◌∙◌, ◌+◌, ap, length, subst, sym}
+use Rattle.std.proofs.Common.{◌≡◌, ◌∙◌, ◌+◌, length, subst, sym}
 use Rattle.i3c_script.specs.Assigning.{Moves, cuts_left, ended_by}
 use Rattle.i3c_script.specs.Situations.{Situation, situation}
 use Rattle.i3c_script.proofs.Moving.{moved, sent_by}
