@@ -6,7 +6,8 @@ use Rattle.i3c_base.specs.declared.requests.Fixed.{Fixed}
 use Rattle.i3c_base.specs.declared.requests.Verdict.TheVariants.{Refuse}
 use Rattle.i3c_lines.specs.declared.fields.Field.{Field}
 use Rattle.i3c_lines.specs.declared.form_faults.FormFault.{FormFault}
-use Rattle.i3c_lines.specs.Forms.{BeginsSent, tokens_of}
+use Rattle.i3c_lines.specs.Forms.{tokens_of}
+use Rattle.i3c_lines.specs.Sending.{is_sent_word}
 use Rattle.i3c_lines.specs.Policies.{Accepts, IsAlone, each_kind}
 use Rattle.i3c_lines.specs.Tokens.{AreBytes, IsDecimal, IsDecimalDigit, IsHex, IsName}
 
@@ -30,7 +31,7 @@ IsField Field.Policy token = (policy : Fixed) × (IsAlone token policy ⊎ Accep
 IsField Field.Kind token = (policy : Fixed) × Accepts token (each_kind Refuse) policy
 IsField Field.Decline token = token ≡ codes "decline"
 IsField Field.Shown token = (token ≡ codes "all") ⊎ (IsDecimal token × (digits_value 10 token < 2 ^ 64) × (0 < digits_value 10 token))
-IsField Field.Sent token = BeginsSent token
+IsField Field.Sent token = is_sent_word token ≡ true
 
 -- a token is one of these
 abbrev pub IsAmong : List ℕ → List (List ℕ) → Type 0

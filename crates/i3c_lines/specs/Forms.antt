@@ -153,10 +153,6 @@ IsSentForm tokens Sent.Round = tokens ≡ codes "round" ∷ []
 IsSentForm tokens Sent.End = tokens ≡ codes "end" ∷ []
 IsSentForm tokens Sent.Daa = tokens ≡ codes "daa" ∷ []
 
--- a line that a controller sends begins with this token
-abbrev pub BeginsSent : List ℕ → Type 0
-BeginsSent token = (sent : Sent) × (rest : List (List ℕ)) × IsSentForm (token ∷ rest) sent
-
 -- these tokens are this command's line
 abbrev pub IsForm : List (List ℕ) → Command → Type 0
 IsForm tokens (Command.Legacy name address lvr) =

@@ -48,3 +48,7 @@ is_question_word token =
 abbrev pub is_role_word : List ℕ → Bool
 is_role_word token =
     bytes_eq token (codes "handover") || (bytes_eq token (codes "open") || (bytes_eq token (codes "round") || (bytes_eq token (codes "end") || bytes_eq token (codes "daa"))))
+
+-- whether a line that a controller sends begins with this token
+abbrev pub is_sent_word : List ℕ → Bool
+is_sent_word token = is_frame_word token || (is_setting_word token || (is_question_word token || is_role_word token))

@@ -376,6 +376,7 @@ impl Command {
     }
 
     /// Becomes the command of a line that a controller sends, if the line is one. It may become another command too.
+    #[tactic(auto, using(crate::proofs::SentLaws::sent_becomes, crate::proofs::SentLaws::other_becomes))]
     fn read_sent(&mut self, line: &[u8]) -> Option<()>
         ensures { BecomesSent (tokens_of line.now) result self.new }
     {

@@ -1,6 +1,5 @@
-ghost use Rattle.std.specs.Prelude.{◌≡◌, ◌↔◌, IsTrue};
-ghost use Rattle.i3c_lines.specs.Forms.{BeginsSent};
-ghost use Rattle.i3c_lines.specs.Sending.{is_frame_word, is_question_word, is_role_word, is_setting_word, sent_of};
+ghost use Rattle.std.specs.Prelude.{◌≡◌};
+ghost use Rattle.i3c_lines.specs.Sending.{is_frame_word, is_question_word, is_role_word, is_sent_word, is_setting_word, sent_of};
 
 use crate::capitals::is;
 use crate::command::Command;
@@ -52,7 +51,7 @@ pub(crate) fn sent_of(command: Command) -> Option<Sent>
 
 /// Whether a line that a controller sends begins with this token.
 pub(crate) fn begins_sent(token: &[u8]) -> bool
-    ensures { IsTrue result ↔ BeginsSent token.now }
+    ensures { result ≡ is_sent_word token.now }
 {
     is_frame_word(token) || is_setting_word(token) || is_question_word(token) || is_role_word(token)
 }
