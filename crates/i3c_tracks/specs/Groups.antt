@@ -42,10 +42,14 @@ abbrev pub size_of : List ℕ → ℕ → ℕ
 size_of [] start = 0
 size_of (one ∷ rest) start = if one == start then suc (size_of rest start) else size_of rest start
 
--- how many orders lead to them, all together
+-- the orders of one more end count if it is of the group
+abbrev pub WithOrders : Bool → Option ℕ → Option ℕ → Option ℕ → Type 0
+WithOrders true own others orders = IsSum own others orders
+WithOrders false own others orders = orders ≡ others
+
+-- how many orders lead to its ends, all together
 abbrev pub LeadTo : List ℕ → List (Node Seen) → ℕ → Option ℕ → Type 0
-LeadTo (one ∷ rest) (end ∷ ends) start orders =
-    (others : Option ℕ) × LeadTo rest ends start others × (if one == start then IsSum end.orders others orders else (orders ≡ others))
+LeadTo (one ∷ rest) (end ∷ ends) start orders = (others : Option ℕ) × LeadTo rest ends start others × WithOrders (one == start) end.orders others orders
 LeadTo starts ends start orders = orders ≡ Some 0
 
 -- the line of a question: whether it holds at the group's ends
@@ -74,14 +78,18 @@ IsGroupText showing lines plan questions ends counted number start end text =
     × IsExample showing lines plan (start + 1) end counted example
     × (text ≡ group_head number (size_of (starts_of questions ends) start) orders counted ++ (answers_text questions (key_of questions end) ++ example))
 
--- the texts of the groups that begin at the first `count` ends, and how many these are: a group begins at the first of its ends
+-- what one more end adds, behind so many groups: the text of its group, if it is the first of one
+abbrev pub Adds : Bool → Showing → List (Vec ℕ) → Plan → List Question → List (Node Seen) → Bool → ℕ → ℕ → ℕ → Node Seen → List ℕ → Type 0
+Adds true showing lines plan questions ends counted before number k end own = (number ≡ suc before) × IsGroupText showing lines plan questions ends counted number k end own
+Adds false showing lines plan questions ends counted before number k end own = (number ≡ before) × (own ≡ [])
+
+-- the texts of the groups that begin at the first `count` ends, and how many these are
 abbrev pub AreGroupTexts : Showing → List (Vec ℕ) → Plan → List Question → List (Node Seen) → Bool → ℕ → ℕ → List ℕ → Type 0
 AreGroupTexts showing lines plan questions ends counted zero number text = (number ≡ 0) × (text ≡ [])
 AreGroupTexts showing lines plan questions ends counted (suc k) number text =
-    (before : ℕ) × (earlier : List ℕ) × (end : Node Seen) × AreGroupTexts showing lines plan questions ends counted k before earlier × (slice_get ends k ≡ Some end)
-    × (if first_with (map (key_of questions) ends) (key_of questions end) == k then
-    ((own : List ℕ) × (number ≡ suc before) × IsGroupText showing lines plan questions ends counted number k end own × (text ≡ earlier ++ own))
-    else ((number ≡ before) × (text ≡ earlier)))
+    (before : ℕ) × (earlier : List ℕ) × (own : List ℕ) × (end : Node Seen) × AreGroupTexts showing lines plan questions ends counted k before earlier
+    × (slice_get ends k ≡ Some end) × Adds (first_with (map (key_of questions) ends) (key_of questions end) == k) showing lines plan questions ends counted before number k end own
+    × (text ≡ earlier ++ own)
 
 -- the number of groups, and each group
 abbrev pub AreGroups : Showing → List (Vec ℕ) → Plan → List Question → List (Node Seen) → Bool → List ℕ → Type 0

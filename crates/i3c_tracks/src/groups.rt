@@ -66,7 +66,7 @@ fn keys_of(
     let mut runner = first.state.runner(alloc)?;
     let asked = asked_of(alloc, questions)?;
     for index in 0..ends.len() {
-        keys.push(key_of(alloc, questions, &ends[index].state, &mut runner)?)?;
+        keys.push(key_of(alloc, &asked, &ends[index].state, &mut runner)?)?;
     }
     Ok(keys)
 }
