@@ -249,13 +249,7 @@ fn facts_of_a_refused_line(rt: HostRuntime) -> Result<(), Fail> {
 fn facts_of_the_pieces_of_a_line(rt: HostRuntime) -> Result<(), Fail> {
     let names = names(&rt, rt.alloc());
     let (bus, role) = interrupted(rt.alloc())?;
-    let mut seen = NamedBus {
-        bus: &bus,
-        names: &names,
-        before: ended(LineResult::Done),
-        alloc: rt.alloc(),
-    };
-    let heard = &mut seen.before.heard;
+    let mut heard = Heard::nothing();
     heard
         .hear(Piece::Served(Served::Recorded(7)))
         .expect(&rt, "memory");
@@ -263,6 +257,15 @@ fn facts_of_the_pieces_of_a_line(rt: HostRuntime) -> Result<(), Fail> {
         .hear(Piece::Bytes(Bytes::new(&[0x0A, 0x0B])))
         .expect(&rt, "memory");
     heard.hear(Piece::Done).expect(&rt, "memory");
+    let seen = NamedBus {
+        bus: &bus,
+        names: &names,
+        before: Before {
+            result: LineResult::Done,
+            heard,
+        },
+        alloc: rt.alloc(),
+    };
     seen.is_met(&rt, "expect served recorded");
     seen.is_met(&rt, "expect bytes 0A");
     seen.is_met(&rt, "expect bytes 0A0B");
