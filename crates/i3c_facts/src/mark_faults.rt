@@ -7,7 +7,8 @@ use crate::fact_forms::{is_begun, is_whole};
 use i3c_lines::tokens::{Tokens, is_token};
 use i3c_lines::{Field, FormFault, misfit_behind};
 
-/// Why a line that begins as a mark isn't one: its first word that is wrong. A mark that is whole is told as an unknown line.
+/// Why a line that begins as a mark isn't one: its first word that is wrong, or that a word is missing. It is meant for lines
+/// that aren't marks; of a whole mark it says that a word is missing, or that the line is unknown.
 pub fn mark_fault(line: &[u8]) -> Option<FormFault<'_>>
     ensures { MatchOption result (BeginsMark line.now → ⊥) (λ fault. IsMarkFault line.now fault) }
 {
