@@ -19,6 +19,7 @@ enum {
     LINE_ROOM = 320, /* the engine refuses lines of more than 256 bytes */
     FIRST_ROOM = 4096,
     ASKING_ROOM = 64 * (DASKREYF_NAME + 1) + 1,
+    AS_ROOM = LINE_ROOM,
     END_ROOM = 48, /* the begin of an answer's last line, with its number */
     FIRST_FREE_DESCRIPTOR = 3,
     NOT_RUN = 127
@@ -29,6 +30,8 @@ struct daskreyf {
     int to, from;
     bool gone;
     uint64_t number; /* of the last line that was sent */
+    char as[AS_ROOM]; /* what is put in front of the next line, or nothing */
+    bool as_too_long;
 
     char *answer; /* what has come of the answer, with a NUL behind it */
     size_t length, room;
@@ -67,6 +70,7 @@ static const char *const result_names[] = {
     [DASKREYF_NO_END] = "NoEnd",
     [DASKREYF_TOO_LONG] = "TooLong",
     [DASKREYF_LIST_STALE] = "ListStale",
+    [DASKREYF_NOT_ACTIVE] = "NotActive",
     [DASKREYF_REFUSED] = "Refused",
     [DASKREYF_BAD_ARGUMENT] = "BadArgument",
     [DASKREYF_GONE] = "Gone",
@@ -404,8 +408,42 @@ static enum daskreyf_result exchange(struct daskreyf *bus, const char *line)
     return result;
 }
 
+/* Nothing is sent, also of what daskreyf_as has put in front of it. */
+static enum daskreyf_result bad_argument(struct daskreyf *bus)
+{
+    bus->as[0] = '\0';
+    return DASKREYF_BAD_ARGUMENT;
+}
+
+struct daskreyf *daskreyf_as(struct daskreyf *bus, const char *name)
+{
+    int length = snprintf(bus->as, sizeof bus->as, "as %s ", name);
+
+    bus->as_too_long = length < 0 || (size_t)length >= sizeof bus->as;
+    return bus;
+}
+
+/* Sends a line behind what daskreyf_as has put in front of it. */
+static enum daskreyf_result exchange_as(struct daskreyf *bus, const char *line)
+{
+    size_t front = strlen(bus->as), length = strlen(line);
+    char *whole = malloc(front + length + 1);
+    enum daskreyf_result result;
+
+    if (!whole)
+        return DASKREYF_NO_MEMORY;
+    memcpy(whole, bus->as, front);
+    memcpy(whole + front, line, length + 1);
+    result = bus->as_too_long || strchr(whole, '\n') ? bad_argument(bus) : exchange(bus, whole);
+    bus->as[0] = '\0';
+    free(whole);
+    return result;
+}
+
 enum daskreyf_result daskreyf_line(struct daskreyf *bus, const char *line)
 {
+    if (bus->as[0])
+        return exchange_as(bus, line);
     return strchr(line, '\n') ? DASKREYF_BAD_ARGUMENT : exchange(bus, line);
 }
 
@@ -419,7 +457,7 @@ static enum daskreyf_result send_line(struct daskreyf *bus, const char *format, 
     length = vsnprintf(line, sizeof line, format, words);
     va_end(words);
     if (length < 0 || length >= LINE_ROOM)
-        return DASKREYF_BAD_ARGUMENT;
+        return bad_argument(bus);
     return daskreyf_line(bus, line);
 }
 
@@ -543,14 +581,14 @@ enum daskreyf_result daskreyf_policy(struct daskreyf *bus, enum daskreyf_policy 
     };
 
     if ((size_t)policy >= sizeof words / sizeof words[0])
-        return DASKREYF_BAD_ARGUMENT;
+        return bad_argument(bus);
     return send_line(bus, "policy %s", words[policy]);
 }
 
 enum daskreyf_result daskreyf_policy_of(struct daskreyf *bus, uint8_t kinds)
 {
     if (kinds & ~(DASKREYF_INTERRUPTS | DASKREYF_ROLES | DASKREYF_JOINS))
-        return DASKREYF_BAD_ARGUMENT;
+        return bad_argument(bus);
     if (!kinds)
         return daskreyf_policy(bus, DASKREYF_ACCEPT_NONE);
     return send_line(bus, "policy%s%s%s", kinds & DASKREYF_JOINS ? " joins" : "", kinds & DASKREYF_ROLES ? " roles" : "",
@@ -564,10 +602,10 @@ enum daskreyf_result daskreyf_policy_but(
     size_t length = 0, at;
 
     if (!kinds || kinds & ~(DASKREYF_INTERRUPTS | DASKREYF_ROLES | DASKREYF_JOINS) || !count || count > DASKREYF_EXCEPTED)
-        return DASKREYF_BAD_ARGUMENT;
+        return bad_argument(bus);
     for (at = 0; at < count; at++) {
         if (length + 1 + strlen(names[at]) >= sizeof behind)
-            return DASKREYF_BAD_ARGUMENT;
+            return bad_argument(bus);
         length += (size_t)sprintf(behind + length, " %s", names[at]);
     }
     return send_line(bus, "policy%s%s%s but%s", kinds & DASKREYF_JOINS ? " joins" : "",

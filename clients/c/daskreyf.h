@@ -62,6 +62,7 @@ enum daskreyf_result {
     DASKREYF_NO_END,           /* the last T of what was read said that more bytes would come */
     DASKREYF_TOO_LONG,         /* a write has sixteen bytes at most, or the device's maximum length */
     DASKREYF_LIST_STALE,       /* addresses have changed since the last `list` [5.1.9.3.7] */
+    DASKREYF_NOT_ACTIVE,       /* the controller that the line is of isn't the active one: daskreyf_as */
     DASKREYF_REFUSED,          /* for a reason that isn't known here: daskreyf_why has it */
 
     /* nothing was sent: */
@@ -213,6 +214,13 @@ enum daskreyf_result daskreyf_ask_join(struct daskreyf *bus, const char *name); 
 enum daskreyf_result daskreyf_ask_role(struct daskreyf *bus, const char *name); /* [5.1.7] */
 
 /* What the controller does. All but the policies are frames: daskreyf_served has what came up in their first header. */
+
+/*
+ * The same bus, whose next line is sent as the controller with this name: daskreyf_serve(daskreyf_as(bus, "hub")). It is
+ * DASKREYF_NOT_ACTIVE while another controller is active, and nothing was sent then. Without daskreyf_as a line is the active
+ * controller's, whichever that is. A line that no controller sends is DASKREYF_BAD_LINE so.
+ */
+struct daskreyf *daskreyf_as(struct daskreyf *bus, const char *name);
 
 enum daskreyf_result daskreyf_policy(struct daskreyf *bus, enum daskreyf_policy policy);
 

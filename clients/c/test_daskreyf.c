@@ -308,6 +308,47 @@ static void test_all_slots(const char *program)
     CHECK(daskreyf_close(bus) == 1);
 }
 
+/* Each line that a controller sends, as one that isn't active and as the active one; and names that nobody has. */
+static void test_two_controllers(const char *program)
+{
+    struct daskreyf *bus = daskreyf_start(program);
+    const struct daskreyf_served *served = daskreyf_served(bus);
+    uint8_t registers[DASKREYF_REGISTERS], byte = 0x2A;
+    struct daskreyf_assigned assigned[2];
+    size_t count = 0;
+    char longest[400];
+
+    CHECK(daskreyf_serve(daskreyf_as(bus, "hub")) == DASKREYF_NO_BUS);
+    CHECK(daskreyf_main(bus, "hub", &hub) == DASKREYF_OK);
+    CHECK(daskreyf_attach(bus, "second", &second, NULL) == DASKREYF_OK);
+    CHECK(daskreyf_attach(bus, "t", &target, NULL) == DASKREYF_OK);
+    CHECK(daskreyf_daa(daskreyf_as(bus, "hub"), assigned, 2, &count) == DASKREYF_OK && count == 2);
+    CHECK(assigned[0].address == 0x09 && assigned[0].pid == target.pid && assigned[1].address == 0x0A);
+    CHECK(daskreyf_list(daskreyf_as(bus, "second")) == DASKREYF_NOT_ACTIVE);
+    CHECK(!strcmp(daskreyf_why(bus), "NotActive"));
+    CHECK(daskreyf_list(daskreyf_as(bus, "hub")) == DASKREYF_OK);
+    CHECK(daskreyf_handover(daskreyf_as(bus, "hub"), 0x0A) == DASKREYF_OK);
+    CHECK(daskreyf_raise(bus, "t", 0x2B, NULL) == DASKREYF_OK);
+    CHECK(daskreyf_write(daskreyf_as(bus, "hub"), 0x09, &byte, 1) == DASKREYF_NOT_ACTIVE);
+    CHECK(!strcmp(daskreyf_asking(bus), "t"));
+    CHECK(daskreyf_write(daskreyf_as(bus, "second"), 0x09, &byte, 1) == DASKREYF_OK);
+    CHECK(served->request == DASKREYF_RECORDED && served->record.byte == 0x2B);
+    CHECK(daskreyf_read(daskreyf_as(bus, "hub"), 0x09, registers, NULL) == DASKREYF_NOT_ACTIVE);
+    /* the name is for one line alone */
+    CHECK(daskreyf_read(bus, 0x09, registers, &count) == DASKREYF_OK && registers[0] == 0x2A && registers[1] == 0);
+    CHECK(daskreyf_serve(daskreyf_as(bus, "nobody")) == DASKREYF_NO_NAME);
+    CHECK(daskreyf_raise(daskreyf_as(bus, "second"), "t", 0x2C, NULL) == DASKREYF_BAD_LINE);
+    CHECK(daskreyf_serve(daskreyf_as(bus, "a\nb")) == DASKREYF_BAD_ARGUMENT);
+    CHECK(daskreyf_policy_of(daskreyf_as(bus, "hub"), 4) == DASKREYF_BAD_ARGUMENT);
+    memset(longest, 'a', sizeof longest - 1);
+    longest[sizeof longest - 1] = '\0';
+    CHECK(daskreyf_serve(daskreyf_as(bus, longest)) == DASKREYF_BAD_ARGUMENT);
+    CHECK(daskreyf_serve(bus) == DASKREYF_OK && served->request == DASKREYF_QUIET);
+    CHECK(daskreyf_drop(bus, "hub") == DASKREYF_OK);
+    CHECK(daskreyf_serve(daskreyf_as(bus, "hub")) == DASKREYF_NO_DEVICE);
+    CHECK(daskreyf_close(bus) == 1);
+}
+
 static void test_the_end(const char *program)
 {
     struct daskreyf *bus = daskreyf_start(program);
@@ -339,6 +380,7 @@ int main(int count, char **words)
     test_data(program);
     test_lengths(program);
     test_all_slots(program);
+    test_two_controllers(program);
     test_the_end(program);
     puts(failures ? "test_daskreyf: FAILED" : "test_daskreyf: ok");
     return failures > 0;

@@ -15,6 +15,7 @@ docs/DRIVING.md has the protocol, and docs/FORMATS.md each line with its refusal
 
 from __future__ import annotations
 
+import abc
 import enum
 import functools
 import operator
@@ -339,6 +340,10 @@ class ListStale(Refused):
     """Addresses have changed since the last `list`. [5.1.9.3.7]"""
 
 
+class NotActive(Refused):
+    """The controller that the line is of isn't the active one. Nothing was sent."""
+
+
 _REFUSALS = {refusal.__name__: refusal for refusal in Refused.__subclasses__()}
 
 
@@ -396,7 +401,145 @@ class Device:
         return None
 
 
-class Bus:
+class Sender(abc.ABC):
+    """Who sends a controller's lines: `Bus` as the active controller, whichever that is, and `Controller` as one by its name."""
+
+    @abc.abstractmethod
+    def _sent(self, text: str) -> Answer:
+        """Sends a line of a controller, and gives its answer."""
+
+    @abc.abstractmethod
+    def _own(self, answer: Answer) -> str:
+        """The line of the frame itself, which comes behind what it served."""
+
+    def serve(self) -> Served | None:
+        """`serve`: a frame that serves the first request. None if nobody asks."""
+        return self._sent("serve").served
+
+    def enec(self, kinds: int, address: int | None = None) -> Served | None:
+        """`enec`: enables kinds of events, of all or of one. [5.1.9.3.1]"""
+        return self._events("enec", kinds, address)
+
+    def disec(self, kinds: int, address: int | None = None) -> Served | None:
+        """`disec`: disables kinds of events, of all or of one. [5.1.9.3.1]"""
+        return self._events("disec", kinds, address)
+
+    def _events(self, word: str, kinds: int, address: int | None) -> Served | None:
+        to = "" if address is None else f" {_hex(address, 2)}"
+        return self._sent(f"{word} {_hex(kinds, 2)}{to}").served
+
+    def reset(self) -> Served | None:
+        """`reset`: takes all addresses back but the active controller's, by RSTDAA. [5.1.9.3.3]"""
+        return self._sent("reset").served
+
+    def send_list(self) -> Served | None:
+        """`list`: tells all devices who has which address, by DEFTGTS. [5.1.9.3.7]"""
+        return self._sent("list").served
+
+    def read(self, address: int) -> bytes:
+        """`read`: the registers of a device or a legacy target, all sixteen or as many as `set_mrl` allows. [5.1.2.3]"""
+        return bytes.fromhex(self._own(self._sent(f"read {_hex(address, 2)}")).split()[1])
+
+    def write(self, address: int, data: bytes) -> Served | None:
+        """`write`: replaces the first registers, by sixteen bytes at most, or as `set_mwl` allows. [5.1.2.3]"""
+        return self._sent(f"write {_hex(address, 2)} {data.hex().upper()}".rstrip()).served
+
+    def setdasa(self, fixed: int, address: int) -> Served | None:
+        """`setdasa`: gives a dynamic address to the device at a static one, while it has none. [5.1.9.3.10]"""
+        return self._sent(f"setdasa {_hex(fixed, 2)} {_hex(address, 2)}").served
+
+    def setnewda(self, old: int, address: int) -> Served | None:
+        """`setnewda`: gives another dynamic address to the device at this one. [5.1.9.3.11]"""
+        return self._sent(f"setnewda {_hex(old, 2)} {_hex(address, 2)}").served
+
+    def get_pid(self, address: int) -> int:
+        """`getpid`: the provisioned ID of the device at this address. [5.1.9.3.12]"""
+        return int.from_bytes(self._told("getpid", address), "big")
+
+    def get_bcr(self, address: int) -> int:
+        """`getbcr`: its bus characteristics. [5.1.9.3.13]"""
+        return int.from_bytes(self._told("getbcr", address), "big")
+
+    def get_dcr(self, address: int) -> int:
+        """`getdcr`: its device characteristics. [5.1.9.3.14]"""
+        return int.from_bytes(self._told("getdcr", address), "big")
+
+    def get_status(self, address: int) -> bool:
+        """`getstatus`: whether an interrupt of the device waits, disabled or not. [5.1.9.3.15]"""
+        return self._told("getstatus", address)[1] != 0
+
+    def get_mwl(self, address: int) -> int:
+        """`getmwl`: the most bytes that it takes in a write. [5.1.9.3.5]"""
+        return int.from_bytes(self._told("getmwl", address), "big")
+
+    def get_mrl(self, address: int) -> ReadLength:
+        """`getmrl`: the most bytes that it gives to a read, and in an interrupt. [5.1.9.3.6]"""
+        told = self._told("getmrl", address)
+        return ReadLength(int.from_bytes(told[:2], "big"), told[2] if len(told) > 2 else None)
+
+    def get_mxds(self, address: int) -> bytes:
+        """`getmxds`: the limits of its speed, for writes and for reads; 00 is none. [5.1.9.3.18]"""
+        return self._told("getmxds", address)
+
+    def get_caps(self, address: int) -> bytes:
+        """`getcaps`: its capabilities, as the two bytes of GETCAPS. [5.1.9.3.19]"""
+        return self._told("getcaps", address)
+
+    def set_mwl(self, length: int, address: int | None = None) -> Served | None:
+        """`setmwl`: the device at the address, or everybody, takes this number of bytes in a write at most. [5.1.9.3.5]"""
+        return self._length("setmwl", length, address)
+
+    def set_mrl(self, length: int, address: int | None = None) -> Served | None:
+        """`setmrl`: the device at the address, or everybody, gives this number of bytes to a read at most. [5.1.9.3.6]"""
+        return self._length("setmrl", length, address)
+
+    def _length(self, word: str, length: int, address: int | None) -> Served | None:
+        to = "" if address is None else f" {_hex(address, 2)}"
+        return self._sent(f"{word} {_most(length)}{to}").served
+
+    def _told(self, word: str, address: int) -> bytes:
+        """What a device tells, where it is asked by this word."""
+        return bytes.fromhex(self._own(self._sent(f"{word} {_hex(address, 2)}")).split()[1])
+
+    def handover(self, address: int) -> int:
+        """`handover`: offers the role to the device at the address, by GETACCCR. Gives the new controller's. [5.1.7]"""
+        return int(self._own(self._sent(f"handover {_hex(address, 2)}")).split()[1], 16)
+
+    def daa(self) -> tuple[Assigned, ...]:
+        """`daa`: a whole assignment by ENTDAA. Gives who got an address; `NoAddress` has that in `answer`. [5.1.4.2]"""
+        return self._sent("daa").assigned
+
+    def open_daa(self) -> Served | None:
+        """`open`: opens an assignment, whose rounds are sent one by one."""
+        return self._sent("open").served
+
+    def round(self) -> Assigned | Nobody | None:
+        """`round`: one round of the open assignment. None if no device is left."""
+        line = self._own(self._sent("round"))
+        if line == "done":
+            return None
+        return Nobody() if line == "nobody" else _assigned(line)
+
+    def end_daa(self) -> None:
+        """`end`: ends the open assignment."""
+        self._sent("end")
+
+
+@dataclass(frozen=True)
+class Controller(Sender):
+    """A controller by its name. Each of its lines is refused as `NotActive` while another one is active."""
+
+    bus: Bus = field(repr=False, compare=False)
+    name: str
+
+    def _sent(self, text: str) -> Answer:
+        return self.bus.line(f"as {self.name} {text}")
+
+    def _own(self, answer: Answer) -> str:
+        return self.bus._own(answer)
+
+
+class Bus(Sender):
     """A bus of its own, in a program of its own, which lives until `close`."""
 
     def __init__(self, program: str | Sequence[str] = "i3cbus") -> None:
@@ -462,7 +605,11 @@ class Bus:
         answer = self.line(f"{word} {name} {_identity(pid, bcr, dcr)}{' decline' if decline else ''}")
         return Device(self, name, int(answer.lines[0].split()[2]), pid, bcr, dcr)
 
-    # What the controller does
+    # What the controller does, beside the lines of `Sender`
+
+    def of(self, name: str) -> Controller:
+        """`as`: this bus for the program of the controller with this name, whose lines are sent as that one."""
+        return Controller(self, name)
 
     def policy(self, policy: Policy, *more: Policy, but: Sequence[Device] = ()) -> None:
         """
@@ -472,118 +619,6 @@ class Bus:
         kinds = [Policy(word).value for word in (policy, *more)]
         names = ["but", *(device.name for device in but)] if but else []
         self.line(" ".join(("policy", *kinds, *names)))
-
-    def serve(self) -> Served | None:
-        """`serve`: a frame that serves the first request. None if nobody asks."""
-        return self.line("serve").served
-
-    def enec(self, kinds: int, address: int | None = None) -> Served | None:
-        """`enec`: enables kinds of events, of all or of one. [5.1.9.3.1]"""
-        return self._events("enec", kinds, address)
-
-    def disec(self, kinds: int, address: int | None = None) -> Served | None:
-        """`disec`: disables kinds of events, of all or of one. [5.1.9.3.1]"""
-        return self._events("disec", kinds, address)
-
-    def _events(self, word: str, kinds: int, address: int | None) -> Served | None:
-        to = "" if address is None else f" {_hex(address, 2)}"
-        return self.line(f"{word} {_hex(kinds, 2)}{to}").served
-
-    def reset(self) -> Served | None:
-        """`reset`: takes all addresses back but the active controller's, by RSTDAA. [5.1.9.3.3]"""
-        return self.line("reset").served
-
-    def send_list(self) -> Served | None:
-        """`list`: tells all devices who has which address, by DEFTGTS. [5.1.9.3.7]"""
-        return self.line("list").served
-
-    def read(self, address: int) -> bytes:
-        """`read`: the registers of a device or a legacy target, all sixteen or as many as `set_mrl` allows. [5.1.2.3]"""
-        return bytes.fromhex(self._own(self.line(f"read {_hex(address, 2)}")).split()[1])
-
-    def write(self, address: int, data: bytes) -> Served | None:
-        """`write`: replaces the first registers, by sixteen bytes at most, or as `set_mwl` allows. [5.1.2.3]"""
-        return self.line(f"write {_hex(address, 2)} {data.hex().upper()}".rstrip()).served
-
-    def setdasa(self, fixed: int, address: int) -> Served | None:
-        """`setdasa`: gives a dynamic address to the device at a static one, while it has none. [5.1.9.3.10]"""
-        return self.line(f"setdasa {_hex(fixed, 2)} {_hex(address, 2)}").served
-
-    def setnewda(self, old: int, address: int) -> Served | None:
-        """`setnewda`: gives another dynamic address to the device at this one. [5.1.9.3.11]"""
-        return self.line(f"setnewda {_hex(old, 2)} {_hex(address, 2)}").served
-
-    def get_pid(self, address: int) -> int:
-        """`getpid`: the provisioned ID of the device at this address. [5.1.9.3.12]"""
-        return int.from_bytes(self._told("getpid", address), "big")
-
-    def get_bcr(self, address: int) -> int:
-        """`getbcr`: its bus characteristics. [5.1.9.3.13]"""
-        return int.from_bytes(self._told("getbcr", address), "big")
-
-    def get_dcr(self, address: int) -> int:
-        """`getdcr`: its device characteristics. [5.1.9.3.14]"""
-        return int.from_bytes(self._told("getdcr", address), "big")
-
-    def get_status(self, address: int) -> bool:
-        """`getstatus`: whether an interrupt of the device waits, disabled or not. [5.1.9.3.15]"""
-        return self._told("getstatus", address)[1] != 0
-
-    def get_mwl(self, address: int) -> int:
-        """`getmwl`: the most bytes that it takes in a write. [5.1.9.3.5]"""
-        return int.from_bytes(self._told("getmwl", address), "big")
-
-    def get_mrl(self, address: int) -> ReadLength:
-        """`getmrl`: the most bytes that it gives to a read, and in an interrupt. [5.1.9.3.6]"""
-        told = self._told("getmrl", address)
-        return ReadLength(int.from_bytes(told[:2], "big"), told[2] if len(told) > 2 else None)
-
-    def get_mxds(self, address: int) -> bytes:
-        """`getmxds`: the limits of its speed, for writes and for reads; 00 is none. [5.1.9.3.18]"""
-        return self._told("getmxds", address)
-
-    def get_caps(self, address: int) -> bytes:
-        """`getcaps`: its capabilities, as the two bytes of GETCAPS. [5.1.9.3.19]"""
-        return self._told("getcaps", address)
-
-    def set_mwl(self, length: int, address: int | None = None) -> Served | None:
-        """`setmwl`: the device at the address, or everybody, takes this number of bytes in a write at most. [5.1.9.3.5]"""
-        return self._length("setmwl", length, address)
-
-    def set_mrl(self, length: int, address: int | None = None) -> Served | None:
-        """`setmrl`: the device at the address, or everybody, gives this number of bytes to a read at most. [5.1.9.3.6]"""
-        return self._length("setmrl", length, address)
-
-    def _length(self, word: str, length: int, address: int | None) -> Served | None:
-        to = "" if address is None else f" {_hex(address, 2)}"
-        return self.line(f"{word} {_most(length)}{to}").served
-
-    def _told(self, word: str, address: int) -> bytes:
-        """What a device tells, where it is asked by this word."""
-        return bytes.fromhex(self._own(self.line(f"{word} {_hex(address, 2)}")).split()[1])
-
-    def handover(self, address: int) -> int:
-        """`handover`: offers the role to the device at the address, by GETACCCR. Gives the new controller's. [5.1.7]"""
-        return int(self._own(self.line(f"handover {_hex(address, 2)}")).split()[1], 16)
-
-    def daa(self) -> tuple[Assigned, ...]:
-        """`daa`: a whole assignment by ENTDAA. Gives who got an address; `NoAddress` has that in `answer`. [5.1.4.2]"""
-        return self.line("daa").assigned
-
-    def open_daa(self) -> Served | None:
-        """`open`: opens an assignment, whose rounds are sent one by one."""
-        return self.line("open").served
-
-    def round(self) -> Assigned | Nobody | None:
-        """`round`: one round of the open assignment. None if no device is left."""
-        line = self._own(self.line("round"))
-        if line == "done":
-            return None
-        return Nobody() if line == "nobody" else _assigned(line)
-
-    def end_daa(self) -> None:
-        """`end`: ends the open assignment."""
-        self.line("end")
 
     # What is looked at
 
@@ -617,6 +652,9 @@ class Bus:
 
     # Lines and answers
 
+    def _sent(self, text: str) -> Answer:
+        return self.line(text)
+
     def line(self, text: str) -> Answer:
         """Sends a line, without its line feed, and gives its answer. Raises the `Refused` of the reason if it is refused."""
         if "\n" in text:
@@ -644,7 +682,6 @@ class Bus:
         return Answer(self._number, tuple(lines[:-1] if record else lines), record, asking)
 
     def _own(self, answer: Answer) -> str:
-        """The line of the frame itself, which comes behind what it served."""
         if not answer.lines:
             self._fail("i3cbus answered a frame without a line of its own")
         return answer.lines[-1]

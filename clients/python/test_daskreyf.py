@@ -208,6 +208,36 @@ class LinesTest(unittest.TestCase):
         with self.assertRaises(daskreyf.NoEnd):
             self.bus.read(0x09)
 
+    def test_two_controllers(self) -> None:
+        hub, second = self.bus.of("hub"), self.bus.of("second")
+        with self.assertRaises(daskreyf.NoBus):
+            hub.serve()
+        with_hub(self.bus)
+        self.bus.attach("second", pid=0x020400000030, bcr=0x46, dcr=0xC1)
+        target = with_target(self.bus)
+        self.assertEqual([given.address for given in hub.daa()], [0x09, 0x0A])
+        with self.assertRaises(daskreyf.NotActive):
+            second.send_list()
+        self.assertIsNone(hub.send_list())
+        self.assertEqual(hub.handover(0x0A), 0x0A)
+        target.raise_interrupt(0x2B)
+        with self.assertRaises(daskreyf.NotActive) as refused:
+            hub.write(0x09, b"\x2a")
+        self.assertIsNone(refused.exception.about)
+        self.assertEqual(self.bus.asking, ("t",))
+        self.assertEqual(second.write(0x09, b"\x2a"), Record(1, 2, 1, 0x09, 0x2B))
+        self.assertEqual(second.read(0x09)[:2], b"\x2a\x00")
+        self.assertEqual(self.bus.read(0x09)[:2], b"\x2a\x00")
+        self.assertIsNone(second.open_daa())
+        with self.assertRaises(daskreyf.NotActive):
+            hub.end_daa()
+        self.assertIsNone(second.round())
+        second.end_daa()
+        with self.assertRaises(daskreyf.NoName):
+            self.bus.of("nobody").serve()
+        with self.assertRaises(daskreyf.BadLine):
+            self.bus.line("as second raise t 2C")
+
     def test_sixteen_identities_are_declared(self) -> None:
         for number in range(16):
             self.bus.declare(0x20 + number, number, 0x06, 0x44)

@@ -113,6 +113,7 @@ refused_is rest Refusal.BusMade e = ap refused e
 refused_is rest Refusal.NameTaken e = ap refused e
 refused_is rest Refusal.NoName e = ap refused e
 refused_is rest Refusal.NoEnd e = ap refused e
+refused_is rest Refusal.NotActive e = ap refused e
 refused_is rest (Refusal.Legacy LegacyFault.LegacyAddress) e = ap refused e
 refused_is rest (Refusal.Legacy LegacyFault.LegacyTwice) e = ap refused e
 refused_is rest (Refusal.Legacy LegacyFault.TooManyLegacy) e = ap refused e

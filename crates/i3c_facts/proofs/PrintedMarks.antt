@@ -119,6 +119,7 @@ reason_fits Refusal.BusMade h = (refl, (refusal_token Refusal.BusMade ∷ [], re
 reason_fits Refusal.NameTaken h = (refl, (refusal_token Refusal.NameTaken ∷ [], refl, refl), (plain (codes "refused") tt, (plain (refusal_token Refusal.NameTaken) tt, tt)), (refl, (refl, tt)))
 reason_fits Refusal.NoName h = (refl, (refusal_token Refusal.NoName ∷ [], refl, refl), (plain (codes "refused") tt, (plain (refusal_token Refusal.NoName) tt, tt)), (refl, (refl, tt)))
 reason_fits Refusal.NoEnd h = (refl, (refusal_token Refusal.NoEnd ∷ [], refl, refl), (plain (codes "refused") tt, (plain (refusal_token Refusal.NoEnd) tt, tt)), (refl, (refl, tt)))
+reason_fits Refusal.NotActive h = (refl, (refusal_token Refusal.NotActive ∷ [], refl, refl), (plain (codes "refused") tt, (plain (refusal_token Refusal.NotActive) tt, tt)), (refl, (refl, tt)))
 reason_fits (Refusal.Legacy LegacyFault.LegacyAddress) h = (refl, (refusal_token (Refusal.Legacy LegacyFault.LegacyAddress) ∷ [], refl, refl), (plain (codes "refused") tt, (plain (refusal_token (Refusal.Legacy LegacyFault.LegacyAddress)) tt, tt)), (refl, (refl, tt)))
 reason_fits (Refusal.Legacy LegacyFault.LegacyTwice) h = (refl, (refusal_token (Refusal.Legacy LegacyFault.LegacyTwice) ∷ [], refl, refl), (plain (codes "refused") tt, (plain (refusal_token (Refusal.Legacy LegacyFault.LegacyTwice)) tt, tt)), (refl, (refl, tt)))
 reason_fits (Refusal.Legacy LegacyFault.TooManyLegacy) h = (refl, (refusal_token (Refusal.Legacy LegacyFault.TooManyLegacy) ∷ [], refl, refl), (plain (codes "refused") tt, (plain (refusal_token (Refusal.Legacy LegacyFault.TooManyLegacy)) tt, tt)), (refl, (refl, tt)))

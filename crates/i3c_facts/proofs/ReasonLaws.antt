@@ -34,13 +34,14 @@ none_here token reasons k here same within is unlike why at e =
     let one : here ≡ why = cc in
     unlike (e ∙ ap refusal_token (sym one))
 
-pub no_reason : (token : List ℕ) → IsNoneBelow 25 token → (why : Refusal) → IsReason (token ∷ []) why → ⊥
+pub no_reason : (token : List ℕ) → IsNoneBelow 26 token → (why : Refusal) → IsReason (token ∷ []) why → ⊥
 no_reason token none Refusal.BadLine e = none 0 (omega arith) Refusal.BadLine refl (ap first_of e)
 no_reason token none Refusal.NoBus e = none 1 (omega arith) Refusal.NoBus refl (ap first_of e)
 no_reason token none Refusal.BusMade e = none 2 (omega arith) Refusal.BusMade refl (ap first_of e)
 no_reason token none Refusal.NameTaken e = none 3 (omega arith) Refusal.NameTaken refl (ap first_of e)
 no_reason token none Refusal.NoName e = none 4 (omega arith) Refusal.NoName refl (ap first_of e)
 no_reason token none Refusal.NoEnd e = none 5 (omega arith) Refusal.NoEnd refl (ap first_of e)
+no_reason token none Refusal.NotActive e = none 25 (omega arith) Refusal.NotActive refl (ap first_of e)
 no_reason token none (Refusal.Legacy LegacyFault.LegacyAddress) e = none 6 (omega arith) (Refusal.Legacy LegacyFault.LegacyAddress) refl (ap first_of e)
 no_reason token none (Refusal.Legacy LegacyFault.LegacyTwice) e = none 7 (omega arith) (Refusal.Legacy LegacyFault.LegacyTwice) refl (ap first_of e)
 no_reason token none (Refusal.Legacy LegacyFault.TooManyLegacy) e = none 8 (omega arith) (Refusal.Legacy LegacyFault.TooManyLegacy) refl (ap first_of e)

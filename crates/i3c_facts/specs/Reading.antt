@@ -15,4 +15,4 @@ Extends parts old new read =
 -- the refusals that are printed as one token: of two that are printed as the same, one
 abbrev pub plain_reasons : List Refusal
 plain_reasons =
-    Refusal.BadLine ∷ Refusal.NoBus ∷ Refusal.BusMade ∷ Refusal.NameTaken ∷ Refusal.NoName ∷ Refusal.NoEnd ∷ Refusal.Legacy LegacyFault.LegacyAddress ∷ Refusal.Legacy LegacyFault.LegacyTwice ∷ Refusal.Legacy LegacyFault.TooManyLegacy ∷ Refusal.Declare DeclareFault.IdentityTwice ∷ Refusal.Declare DeclareFault.TooManyDeclared ∷ Refusal.Bus BusRefusal.SessionOpen ∷ Refusal.Bus BusRefusal.NoSession ∷ Refusal.Bus BusRefusal.ActiveStays ∷ Refusal.Bus BusRefusal.SlotTaken ∷ Refusal.Bus BusRefusal.NoDevice ∷ Refusal.Bus BusRefusal.IsActive ∷ Refusal.Bus BusRefusal.NoAddress ∷ Refusal.Bus BusRefusal.HasAddress ∷ Refusal.Bus BusRefusal.NotCapable ∷ Refusal.Bus BusRefusal.ByteMismatch ∷ Refusal.Bus BusRefusal.Masked ∷ Refusal.Bus BusRefusal.Full ∷ Refusal.Bus BusRefusal.ListStale ∷ Refusal.Bus BusRefusal.TooLong ∷ []
+    Refusal.BadLine ∷ Refusal.NoBus ∷ Refusal.BusMade ∷ Refusal.NameTaken ∷ Refusal.NoName ∷ Refusal.NoEnd ∷ Refusal.Legacy LegacyFault.LegacyAddress ∷ Refusal.Legacy LegacyFault.LegacyTwice ∷ Refusal.Legacy LegacyFault.TooManyLegacy ∷ Refusal.Declare DeclareFault.IdentityTwice ∷ Refusal.Declare DeclareFault.TooManyDeclared ∷ Refusal.Bus BusRefusal.SessionOpen ∷ Refusal.Bus BusRefusal.NoSession ∷ Refusal.Bus BusRefusal.ActiveStays ∷ Refusal.Bus BusRefusal.SlotTaken ∷ Refusal.Bus BusRefusal.NoDevice ∷ Refusal.Bus BusRefusal.IsActive ∷ Refusal.Bus BusRefusal.NoAddress ∷ Refusal.Bus BusRefusal.HasAddress ∷ Refusal.Bus BusRefusal.NotCapable ∷ Refusal.Bus BusRefusal.ByteMismatch ∷ Refusal.Bus BusRefusal.Masked ∷ Refusal.Bus BusRefusal.Full ∷ Refusal.Bus BusRefusal.ListStale ∷ Refusal.Bus BusRefusal.TooLong ∷ Refusal.NotActive ∷ []

@@ -13,7 +13,7 @@ const NO_ANSWER: &[u8] = b"NoAnswer";
 const BAD_ADDRESS: &[u8] = b"BadAddress";
 
 /// How many tokens say a refusal by themselves.
-const REASONS: usize = 25;
+const REASONS: usize = 26;
 
 /// The refusals whose text is one token. Of two with the same token only the first is here.
 fn plain_reasons() -> [Refusal; REASONS]
@@ -45,6 +45,7 @@ fn plain_reasons() -> [Refusal; REASONS]
         Refusal::Bus(BusRefusal::Full),
         Refusal::Bus(BusRefusal::ListStale),
         Refusal::Bus(BusRefusal::TooLong),
+        Refusal::NotActive,
     ]
 }
 

@@ -45,6 +45,7 @@ refusal_address Refusal.NoName = None
 refusal_address (Refusal.Legacy fault) = None
 refusal_address (Refusal.Declare fault) = None
 refusal_address Refusal.NoEnd = None
+refusal_address Refusal.NotActive = None
 
 abbrev pub put_address : Option ℕ → Members → Members
 put_address None members = members

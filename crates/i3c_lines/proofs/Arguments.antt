@@ -11,13 +11,14 @@ use Rattle.i3c_base.specs.declared.kinds.Kinds.{Kinds}
 use Rattle.i3c_base.specs.declared.requests.Fixed.{Fixed}
 use Rattle.i3c_lines.specs.declared.command.Command.{Command}
 use Rattle.i3c_lines.specs.declared.names.Name.{Name}
+use Rattle.i3c_lines.specs.declared.sent.Sent.{Sent}
 use Rattle.i3c_lines.specs.Data.{length_token}
-use Rattle.i3c_lines.specs.Forms.{AreAddress, AreAddresses, AreByte, AreCount, AreDeclared, AreDevice, AreKinds, AreLength, ArePlace, AreWritten, IsForm, IsNamed, IsPolicyBut, WritesAddress, tokens_of}
+use Rattle.i3c_lines.specs.Forms.{AreAddress, AreAddresses, AreByte, AreCount, AreDeclared, AreDevice, AreKinds, AreLength, ArePlace, AreWritten, IsForm, IsNamed, IsPolicyBut, IsSentForm, WritesAddress, tokens_of}
 use Rattle.i3c_lines.specs.Policies.{IsPolicy}
 use Rattle.i3c_lines.specs.Parsing.{AreKept, AreNamed, Reads, joined}
 use Rattle.i3c_lines.specs.Tokens.{AreBytes, IsHex, pair_values}
 use Rattle.i3c_lines.proofs.LineLaws.{line_is, one_token, token_left}
-use Rattle.i3c_lines.proofs.Meanings.{as_meant, before_but, behind_but, either, first_of, has_but, hex, identity_of, kinds_of, lengths_meant, named, number_of, policy_of, rest_of, setup_of, written_of}
+use Rattle.i3c_lines.proofs.Meanings.{as_meant, before_but, behind_but, either, first_of, has_but, hex, identity_of, kinds_of, lengths_meant, named, number_of, own, policy_of, rest_of, sent_in, sent_is, setup_of, written_of}
 use Rattle.i3c_lines.proofs.SplitLaws.{pairs_no_space, take_joined}
 
 pub drop_args : (rest : List (List ℕ)) (command : Command) → IsForm (codes "drop" ∷ rest) command → (name : Name) × AreNamed rest name
@@ -88,6 +89,19 @@ forget_args rest command form =
 pub raise_args : (rest : List (List ℕ)) (command : Command) → IsForm (codes "raise" ∷ rest) command
     → (name : Name) × (byte : Option ℕ) × (token : List ℕ) × (more : List (List ℕ)) × (rest ≡ token ∷ more) × IsNamed token name × AreByte more byte
 raise_args rest command form = let f = as_meant (codes "raise" ∷ rest) command form in (named (first_of rest), number_of (rest_of rest), f.0, f.1, ap rest_of f.2, f.3, f.4)
+
+pub as_args : (rest : List (List ℕ)) (command : Command) → IsForm (codes "as" ∷ rest) command
+    → (name : Name) × (sent : Sent) × (token : List ℕ) × (more : List (List ℕ)) × (rest ≡ token ∷ more) × IsNamed token name × IsSentForm more sent
+as_args rest command form = let f = as_meant (codes "as" ∷ rest) command form in (named (first_of rest), sent_in (own (rest_of rest)), f.0, f.1, ap rest_of f.2, f.3, f.4)
+
+-- no tokens are no line of a controller
+pub no_sent : (sent : Sent) → IsSentForm [] sent → ⊥
+no_sent (Sent.Frame frame) form = let e : Command.Show ≡ Command.Frame frame = sent_is [] (Sent.Frame frame) form in absurd cc
+no_sent (Sent.HandOver to) form = let e : Command.Show ≡ Command.HandOver to = sent_is [] (Sent.HandOver to) form in absurd cc
+no_sent Sent.Open form = let e : Command.Show ≡ Command.Open = sent_is [] Sent.Open form in absurd cc
+no_sent Sent.Round form = let e : Command.Show ≡ Command.Round = sent_is [] Sent.Round form in absurd cc
+no_sent Sent.End form = let e : Command.Show ≡ Command.End = sent_is [] Sent.End form in absurd cc
+no_sent Sent.Daa form = let e : Command.Show ≡ Command.Daa = sent_is [] Sent.Daa form in absurd cc
 
 pub read_args : (rest : List (List ℕ)) (command : Command) → IsForm (codes "read" ∷ rest) command → (at : ℕ) × (token : List ℕ) × (rest ≡ token ∷ []) × WritesAddress token at
 read_args rest command form = let f = as_meant (codes "read" ∷ rest) command form in (hex (first_of rest), f.0, ap rest_of f.1, f.2)

@@ -10,7 +10,7 @@ use Rattle.i3c_lines.specs.Data.{datum_token, datum_name}
 use Rattle.i3c_lines.specs.Forms.{AreAsked, ArePlace, IsForm, WritesAddress, WritesPlace, tokens_of, with_first}
 use Rattle.i3c_lines.specs.Parsing.{Becomes, BecomesOther, IsOther}
 use Rattle.i3c_lines.proofs.LineLaws.{line_is, line_of, some_token, token_left}
-use Rattle.i3c_lines.proofs.Meanings.{are_same, as_meant, first_of, hex, datum_of, either, identity_of, kinds_of, length_of, letter_of, meant, meant_is, named, number_of, rest_of, shown_by, written_of}
+use Rattle.i3c_lines.proofs.Meanings.{are_same, as_by, as_meant, first_of, hex, datum_of, either, identity_of, kinds_of, length_of, letter_of, meant, meant_is, named, number_of, rest_of, setup_of, shown_by, written_of}
 
 abbrev tail_of : List ℕ → List ℕ
 tail_of [] = []
@@ -225,6 +225,28 @@ only_l tail command form =
           elim (either_is (are_same token (codes "egacy")) (Command.Legacy (named (first_of tokens)) (hex (first_of (rest_of tokens))) (record { 0 = hex (first_of (rest_of (rest_of tokens))) })) Command.Show command _ second.0 second.1) [
             | inl legacy ↦ inr (subst IsOther legacy.0 tt)
             | inr show ↦ absurd (omega (arith, ap first_letter show.1))
+          ]
+    ]
+
+-- the commands of a line that begins with `a`
+pub only_a : (tail : List ℕ) (command : Command) → IsForm (tokens_of (97 ∷ tail)) command → GoesOn tail (codes "s") ⊎ IsOther command
+only_a tail command form =
+    let (token, tokens, e, here) = begun 97 tail command refl form in
+    let is : meant ((97 ∷ token) ∷ tokens) ≡ command = ap meant (sym e) ∙ meant_is (tokens_of (97 ∷ tail)) command form in
+    elim (either_is (are_same token (codes "s")) (as_by tokens) _ command _ is here) [
+      | inl acts ↦ inl (goes_on 97 tail (codes "s") acts.1.0 acts.1.1 (e ∙ acts.1.2))
+      | inr second ↦
+          elim (either_is (are_same token (codes "ttach")) (Command.Attach (named (first_of tokens)) (setup_of (rest_of tokens))) _ command _ second.0 second.1) [
+            | inl attaches ↦ inr (subst IsOther attaches.0 tt)
+            | inr third ↦
+                elim (either_is (are_same token (codes "sk-join")) (Command.AskJoin (named (first_of tokens))) _ command _ third.0 third.1) [
+                  | inl joins ↦ inr (subst IsOther joins.0 tt)
+                  | inr fourth ↦
+                      elim (either_is (are_same token (codes "sk-role")) (Command.AskRole (named (first_of tokens))) Command.Show command _ fourth.0 fourth.1) [
+                        | inl roles ↦ inr (subst IsOther roles.0 tt)
+                        | inr show ↦ absurd (omega (arith, ap first_letter show.1))
+                      ]
+                ]
           ]
     ]
 

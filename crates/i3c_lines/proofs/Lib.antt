@@ -7,6 +7,7 @@ pub mod Exceptions
 pub mod LineLaws
 pub mod Beginnings
 pub mod SplitLaws
+pub mod SentLaws
 pub mod Arguments
 pub mod PrintedLines
 pub mod PrintedForms

@@ -20,10 +20,13 @@ use Rattle.i3c_base.specs.declared.requests.Verdict.TheVariants.{Accept, Refuse}
 use Rattle.i3c_step.specs.declared.events.Command.{Command as Frame}
 use Rattle.i3c_lines.specs.declared.command.Command.{Command}
 use Rattle.i3c_lines.specs.declared.names.Name.{Name}
-use Rattle.i3c_lines.specs.Forms.{AreAddress, AreByte, AreWritten, IsForm, IsFrameForm, IsNamed, IsPolicyBut, NameEach, WritesIdentity, WritesKinds, willing_tokens}
+use Rattle.i3c_lines.specs.declared.sent.Sent.{Sent}
+use Rattle.i3c_lines.specs.Forms.{AreAddress, AreByte, AreWritten, IsForm, IsFrameForm, IsNamed, IsPolicyBut, IsSentForm, NameEach, WritesIdentity, WritesKinds, willing_tokens}
 use Rattle.i3c_lines.specs.Data.{length_token, datum_name}
 use Rattle.i3c_lines.specs.Naming.{letters}
 use Rattle.i3c_lines.specs.Policies.{AcceptEach, Accepts, IsPolicy, each_kind}
+use Rattle.i3c_lines.specs.Sending.{bare, sent_of}
+use Rattle.i3c_lines.specs.Parsing.{Reads}
 use Rattle.i3c_lines.specs.Tokens.{IsDecimal, IsDecimalDigit, pair_values}
 
 -- a name is known by its letters
@@ -144,9 +147,9 @@ datum_of token = cond (are_same token (codes "pid")) Datum.Pid
 abbrev pub length_of : Direction → List (List ℕ) → Command
 length_of way args = Command.Frame (Frame.SetLength way (digits_value 10 (first_of args)) (number_of (rest_of args)))
 
--- the command that begins with this token, if it begins with one's
-abbrev pub meant_by : List ℕ → List (List ℕ) → Command
-meant_by token args =
+-- the command that begins with this token, if it begins with one's that isn't `as`
+abbrev pub own_by : List ℕ → List (List ℕ) → Command
+own_by token args =
     cond (are_same token (codes "raise")) (Command.Raise (named (first_of args)) (number_of (rest_of args)))
     (cond (are_same token (codes "read")) (Command.Frame (Frame.ReadFrom (hex (first_of args))))
     (cond (are_same token (codes "reset")) (Command.Frame Frame.Reset)
@@ -178,6 +181,27 @@ meant_by token args =
     (cond (are_same (take 3 token) (codes "get")) (Command.Frame (Frame.Get (datum_of (drop 3 token)) (hex (first_of args))))
     (cond (are_same token (codes "setmwl")) (length_of Direction.Write args)
     (cond (are_same token (codes "setmrl")) (length_of Direction.Read args) Command.Show))))))))))))))))))))))))))))))
+
+-- the same of these tokens
+abbrev pub own : List (List ℕ) → Command
+own tokens = own_by (first_of tokens) (rest_of tokens)
+
+-- the line that a controller sends with a command, if it is such a line's
+abbrev pub sent_in : Command → Sent
+sent_in (Command.Frame frame) = Sent.Frame frame
+sent_in (Command.HandOver to) = Sent.HandOver to
+sent_in Command.Open = Sent.Open
+sent_in Command.Round = Sent.Round
+sent_in Command.Daa = Sent.Daa
+sent_in _ = Sent.End
+
+-- the line of a controller, by its name and its own tokens
+abbrev pub as_by : List (List ℕ) → Command
+as_by args = Command.As (named (first_of args)) (sent_in (own (rest_of args)))
+
+-- the command that begins with this token, if it begins with one's
+abbrev pub meant_by : List ℕ → List (List ℕ) → Command
+meant_by token args = cond (are_same token (codes "as")) (as_by args) (own_by token args)
 
 -- the command that these tokens can be at most
 abbrev pub meant : List (List ℕ) → Command
@@ -325,6 +349,39 @@ is_number : (token : List ℕ) → IsDecimal token → eqb (letter_of token) 97 
 is_number [] is = absurd (omega (arith, is.0))
 is_number (byte ∷ token) is = let digit : IsDecimalDigit byte = is.1 0 0 (omega arith) in ne_eqb byte 97 (λ a. omega (arith, digit.1, a))
 
+-- tokens of a line that a controller sends mean no other one
+pub sent_is : (tokens : List (List ℕ)) (sent : Sent) → IsSentForm tokens sent → meant tokens ≡ bare sent
+sent_is tokens (Sent.Frame frame) form = frame_is tokens frame form
+sent_is tokens (Sent.HandOver to) (token, e, is) = ap meant e ∙ ap Command.HandOver (sym is.0.1)
+sent_is tokens Sent.Open e = ap meant e
+sent_is tokens Sent.Round e = ap meant e
+sent_is tokens Sent.End e = ap meant e
+sent_is tokens Sent.Daa e = ap meant e
+
+not_as : (b : Bool) (name : Name) (one sent : Sent) (plain : Command) → cond b (Command.As name one) plain ≡ bare sent → plain ≡ bare sent
+not_as false name one sent plain e = e
+not_as true name one (Sent.Frame frame) plain e = absurd cc
+not_as true name one (Sent.HandOver to) plain e = absurd cc
+not_as true name one Sent.Open plain e = absurd cc
+not_as true name one Sent.Round plain e = absurd cc
+not_as true name one Sent.End plain e = absurd cc
+not_as true name one Sent.Daa plain e = absurd cc
+
+sent_back : (sent : Sent) → sent_in (bare sent) ≡ sent
+sent_back (Sent.Frame frame) = refl
+sent_back (Sent.HandOver to) = refl
+sent_back Sent.Open = refl
+sent_back Sent.Round = refl
+sent_back Sent.End = refl
+sent_back Sent.Daa = refl
+
+-- so the tokens behind `as NAME` mean it
+sent_by : (tokens : List (List ℕ)) (sent : Sent) → IsSentForm tokens sent → sent_in (own tokens) ≡ sent
+sent_by tokens sent form =
+    let args : List (List ℕ) = rest_of tokens in
+    let plain = not_as (are_same (first_of tokens) (codes "as")) (named (first_of args)) (sent_in (own (rest_of args))) sent (own tokens) (sent_is tokens sent form) in
+    ap sent_in plain ∙ sent_back sent
+
 -- tokens are no other command's than the one that they mean
 pub meant_is : (tokens : List (List ℕ)) (command : Command) → IsForm tokens command → meant tokens ≡ command
 meant_is tokens (Command.Legacy name address lvr) (token, at, byte, e, is, a, b) = ap meant e ∙ (λ i. Command.Legacy (named_is token name is i) (sym a.0.1 i) (record { 0 = sym b.1 i }))
@@ -338,12 +395,13 @@ meant_is tokens (Command.DropOff name) (token, e, is) = ap meant e ∙ ap Comman
 meant_is tokens (Command.Raise name byte) (token, rest, e, is, are) = ap meant e ∙ (λ i. Command.Raise (named_is token name is i) (byte_is rest byte are i))
 meant_is tokens (Command.AskJoin name) (token, e, is) = ap meant e ∙ ap Command.AskJoin (named_is token name is)
 meant_is tokens (Command.AskRole name) (token, e, is) = ap meant e ∙ ap Command.AskRole (named_is token name is)
-meant_is tokens (Command.Frame frame) form = frame_is tokens frame form
-meant_is tokens (Command.HandOver to) (token, e, is) = ap meant e ∙ ap Command.HandOver (sym is.0.1)
-meant_is tokens Command.Open e = ap meant e
-meant_is tokens Command.Round e = ap meant e
-meant_is tokens Command.End e = ap meant e
-meant_is tokens Command.Daa e = ap meant e
+meant_is tokens (Command.Frame frame) form = sent_is tokens (Sent.Frame frame) form
+meant_is tokens (Command.HandOver to) form = sent_is tokens (Sent.HandOver to) form
+meant_is tokens Command.Open form = sent_is tokens Sent.Open form
+meant_is tokens Command.Round form = sent_is tokens Sent.Round form
+meant_is tokens Command.End form = sent_is tokens Sent.End form
+meant_is tokens Command.Daa form = sent_is tokens Sent.Daa form
+meant_is tokens (Command.As name sent) (token, rest, e, is, form) = ap meant e ∙ (λ i. Command.As (named_is token name is i) (sent_by rest sent form i))
 meant_is tokens (Command.Policy policy) (rest, e, is) = ap meant e ∙ policy_is_by rest policy is
 meant_is tokens (Command.PolicyBut kinds but) (rest, e, is) = ap meant e ∙ policy_but_is rest kinds but is
 meant_is tokens (Command.Cut name bit) (token, digits, e, is, b) = ap meant e ∙ (λ i. Command.Cut (named_is token name is i) (sym b.1 i))
@@ -363,3 +421,42 @@ as_meant tokens command form = subst (λ c. IsForm tokens c) (sym (meant_is toke
 pub either : (b : Bool) (one other : Command) (tokens : List (List ℕ)) → IsForm tokens (cond b one other) → IsForm tokens one ⊎ IsForm tokens other
 either true one other tokens form = inl form
 either false one other tokens form = inr form
+
+some_sent : (sent : Sent) → sent_of (bare sent) ≡ None → ⊥
+some_sent (Sent.Frame frame) e = absurd cc
+some_sent (Sent.HandOver to) e = absurd cc
+some_sent Sent.Open e = absurd cc
+some_sent Sent.Round e = absurd cc
+some_sent Sent.End e = absurd cc
+some_sent Sent.Daa e = absurd cc
+
+-- tokens of a command that no controller sends are no controller's line
+none_sent : (tokens : List (List ℕ)) (command : Command) → IsForm tokens command → sent_of command ≡ None → (sent : Sent) → IsSentForm tokens sent → ⊥
+none_sent tokens command form none sent is = some_sent sent (ap sent_of (sym (sent_is tokens sent is) ∙ meant_is tokens command form) ∙ none)
+
+-- a controller's line is read by the command of its tokens
+pub sent_read : (tokens : List (List ℕ)) (command : Command) → IsForm tokens command → Reads IsSentForm tokens (sent_of command)
+sent_read tokens (Command.Frame frame) form = form
+sent_read tokens (Command.HandOver to) form = form
+sent_read tokens Command.Open form = form
+sent_read tokens Command.Round form = form
+sent_read tokens Command.End form = form
+sent_read tokens Command.Daa form = form
+sent_read tokens (Command.As name sent) form = none_sent tokens (Command.As name sent) form refl
+sent_read tokens (Command.Legacy name address lvr) form = none_sent tokens (Command.Legacy name address lvr) form refl
+sent_read tokens (Command.Declare address identity) form = none_sent tokens (Command.Declare address identity) form refl
+sent_read tokens (Command.Main name setup) form = none_sent tokens (Command.Main name setup) form refl
+sent_read tokens (Command.Attach name setup) form = none_sent tokens (Command.Attach name setup) form refl
+sent_read tokens (Command.DropOff name) form = none_sent tokens (Command.DropOff name) form refl
+sent_read tokens (Command.Raise name byte) form = none_sent tokens (Command.Raise name byte) form refl
+sent_read tokens (Command.AskJoin name) form = none_sent tokens (Command.AskJoin name) form refl
+sent_read tokens (Command.AskRole name) form = none_sent tokens (Command.AskRole name) form refl
+sent_read tokens (Command.Policy policy) form = none_sent tokens (Command.Policy policy) form refl
+sent_read tokens (Command.PolicyBut kinds but) form = none_sent tokens (Command.PolicyBut kinds but) form refl
+sent_read tokens (Command.Cut name bit) form = none_sent tokens (Command.Cut name bit) form refl
+sent_read tokens Command.Show form = none_sent tokens Command.Show form refl
+sent_read tokens Command.ShowAll form = none_sent tokens Command.ShowAll form refl
+sent_read tokens (Command.ShowFrom first) form = none_sent tokens (Command.ShowFrom first) form refl
+sent_read tokens (Command.Forget last) form = none_sent tokens (Command.Forget last) form refl
+sent_read tokens Command.Symbols form = none_sent tokens Command.Symbols form refl
+sent_read tokens (Command.Frames count) form = none_sent tokens (Command.Frames count) form refl

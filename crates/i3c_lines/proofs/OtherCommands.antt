@@ -49,6 +49,7 @@ no_other token tokens drops attaches joins roles offers cuts accepts adds declar
 no_other token tokens drops attaches joins roles offers cuts accepts adds declares begins tells forgets Command.Round form = form.1
 no_other token tokens drops attaches joins roles offers cuts accepts adds declares begins tells forgets Command.End form = form.1
 no_other token tokens drops attaches joins roles offers cuts accepts adds declares begins tells forgets Command.Daa form = form.1
+no_other token tokens drops attaches joins roles offers cuts accepts adds declares begins tells forgets (Command.As name sent) form = form.1
 no_other token tokens drops attaches joins roles offers cuts accepts adds declares begins tells forgets (Command.Policy policy) form = accepts (ap first_of form.0.1)
 no_other token tokens drops attaches joins roles offers cuts accepts adds declares begins tells forgets (Command.PolicyBut kinds but) form = accepts (ap first_of form.0.1)
 no_other token tokens drops attaches joins roles offers cuts accepts adds declares begins tells forgets (Command.Cut name bit) form = cuts (ap first_of form.0.2)

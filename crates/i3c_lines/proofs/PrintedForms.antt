@@ -15,12 +15,13 @@ use Rattle.i3c_base.specs.Numbers.{IsInRange}
 use Rattle.i3c_step.specs.declared.events.Command.{Command as Frame}
 use Rattle.i3c_lines.specs.declared.command.Command.{Command}
 use Rattle.i3c_lines.specs.declared.names.Name.{Name}
-use Rattle.i3c_lines.specs.Forms.{AreAddress, AreAddresses, AreByte, AreCount, AreDeclared, AreDevice, AreKinds, AreLength, ArePlace, AreWritten, IsCommand, IsForm, NameEach, tokens_of, willing_tokens}
+use Rattle.i3c_lines.specs.declared.sent.Sent.{Sent}
+use Rattle.i3c_lines.specs.Forms.{AreAddress, AreAddresses, AreByte, AreCount, AreDeclared, AreDevice, AreKinds, AreLength, ArePlace, AreWritten, IsCommand, IsForm, IsFrameForm, IsSentForm, NameEach, tokens_of, willing_tokens}
 use Rattle.i3c_lines.specs.Policies.{IsAlone, IsPolicy, each_kind}
 use Rattle.i3c_text.specs.Hex.{byte_text, bytes_text, hex_text}
 use Rattle.i3c_lines.specs.Data.{datum_token, length_token}
 use Rattle.i3c_lines.specs.Naming.{letters}
-use Rattle.i3c_lines.specs.Printing.{AreKnown, HasLine, IsWithin, IsNamable, but_tokens, byte_tokens, command_text, command_tokens, device_tokens, identity_tokens, spaced, verdicts_tokens, written_tokens}
+use Rattle.i3c_lines.specs.Printing.{AreKnown, FrameHasLine, HasLine, IsWithin, IsNamable, SentHasLine, but_tokens, byte_tokens, command_text, command_tokens, device_tokens, frame_tokens, identity_tokens, sent_tokens, spaced, verdicts_tokens, written_tokens}
 use Rattle.i3c_lines.proofs.Meanings.{as_meant}
 use Rattle.i3c_lines.proofs.PrintedLines.{Apart, byte_writes, decimal_writes, pairs_are, pairs_length, pid_writes, plain, spaced_length, tokens_spaced, total, place_writes}
 use Rattle.i3c_lines.proofs.SplitLaws.{HasNoSpace, hex_no_space, name_no_space, pairs_no_space}
@@ -155,7 +156,8 @@ both_apart (token ∷ tokens) more first then = (first.0, both_apart tokens more
 abbrev Prints : Command → Type 0
 Prints command = Fit (IsForm (command_tokens command) command) (command_tokens command) 257
 
-frame_prints : (frame : Frame) → HasLine (Command.Frame frame) → Prints (Command.Frame frame)
+-- a frame's line is shorter, so that `as NAME` has room in front of it
+frame_prints : (frame : Frame) → FrameHasLine frame → Fit (IsFrameForm (frame_tokens frame) frame) (frame_tokens frame) 64
 frame_prints Frame.Serve h = (refl, (plain (codes "serve") tt, tt), omega arith)
 frame_prints (Frame.Enec to kinds) h = let fit = kinds_fit to kinds h.0 h.1 in ((byte_text kinds.0 ∷ byte_tokens to, refl, fit.0), (plain (codes "enec") tt, fit.1), omega (arith, fit.2))
 frame_prints (Frame.Disec to kinds) h = let fit = kinds_fit to kinds h.0 h.1 in ((byte_text kinds.0 ∷ byte_tokens to, refl, fit.0), (plain (codes "disec") tt, fit.1), omega (arith, fit.2))
@@ -177,6 +179,17 @@ frame_prints (Frame.SetLength way most to) h =
     let fit = length_fits most to h.0 h.1 h.2 in
     ((decimal most ∷ byte_tokens to, refl, fit.0), (token.0, fit.1), omega (arith, token.1, fit.2))
 
+pub sent_prints : (sent : Sent) → SentHasLine sent → Fit (IsSentForm (sent_tokens sent) sent) (sent_tokens sent) 64
+sent_prints (Sent.Frame frame) h = frame_prints frame h
+sent_prints (Sent.HandOver to) h = let small : to < 256 = omega (arith, h) in ((byte_text to, refl, (byte_writes to small, h)), (plain (codes "handover") tt, (byte_apart to small, tt)), omega arith)
+sent_prints Sent.Open h = (refl, (plain (codes "open") tt, tt), omega arith)
+sent_prints Sent.Round h = (refl, (plain (codes "round") tt, tt), omega arith)
+sent_prints Sent.End h = (refl, (plain (codes "end") tt, tt), omega arith)
+sent_prints Sent.Daa h = (refl, (plain (codes "daa") tt, tt), omega arith)
+
+alone_prints : (sent : Sent) → SentHasLine sent → Fit (IsSentForm (sent_tokens sent) sent) (sent_tokens sent) 257
+alone_prints sent h = let fit = sent_prints sent h in (fit.0, fit.1, omega (arith, fit.2))
+
 prints : (command : Command) → HasLine command → Prints command
 prints (Command.Legacy name address lvr) h =
     let small : address < 256 = omega (arith, h.1) in
@@ -196,12 +209,16 @@ prints (Command.Raise name byte) h =
     ((letters name, byte_tokens byte, refl, (h.0, refl), rest.0), (plain (codes "raise") tt, (fit.0.0, rest.1)), omega (arith, fit.1, rest.2))
 prints (Command.AskJoin name) h = let fit = named_fits name h in ((letters name, refl, (h, refl)), (plain (codes "ask-join") tt, fit.0), omega (arith, fit.1))
 prints (Command.AskRole name) h = let fit = named_fits name h in ((letters name, refl, (h, refl)), (plain (codes "ask-role") tt, fit.0), omega (arith, fit.1))
-prints (Command.Frame frame) h = frame_prints frame h
-prints (Command.HandOver to) h = let small : to < 256 = omega (arith, h) in ((byte_text to, refl, (byte_writes to small, h)), (plain (codes "handover") tt, (byte_apart to small, tt)), omega arith)
-prints Command.Open h = (refl, (plain (codes "open") tt, tt), omega arith)
-prints Command.Round h = (refl, (plain (codes "round") tt, tt), omega arith)
-prints Command.End h = (refl, (plain (codes "end") tt, tt), omega arith)
-prints Command.Daa h = (refl, (plain (codes "daa") tt, tt), omega arith)
+prints (Command.Frame frame) h = alone_prints (Sent.Frame frame) h
+prints (Command.HandOver to) h = alone_prints (Sent.HandOver to) h
+prints Command.Open h = alone_prints Sent.Open h
+prints Command.Round h = alone_prints Sent.Round h
+prints Command.End h = alone_prints Sent.End h
+prints Command.Daa h = alone_prints Sent.Daa h
+prints (Command.As name sent) h =
+    let named = named_fits name h.0 in
+    let fit = sent_prints sent h.1 in
+    ((letters name, sent_tokens sent, refl, (h.0, refl), fit.0), (plain (codes "as") tt, (named.0.0, fit.1)), omega (arith, named.1, fit.2))
 prints (Command.Policy policy) h =
     let fit = verdicts_fit policy.join policy.role policy.interrupt in ((verdicts_tokens policy.join policy.role policy.interrupt, refl, fit.0), (plain (codes "policy") tt, fit.1), omega (arith, fit.2))
 prints (Command.PolicyBut kinds but) h =

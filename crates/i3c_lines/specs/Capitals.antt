@@ -13,7 +13,7 @@ capital_token token = if list_all is_ascii_hexdigit token then map to_ascii_uppe
 abbrev pub has_name : List ℕ → Bool
 has_name token =
     bytes_eq token (codes "legacy") || (bytes_eq token (codes "main") || (bytes_eq token (codes "attach") || (bytes_eq token (codes "drop")
-    || (bytes_eq token (codes "raise") || (bytes_eq token (codes "ask-join") || (bytes_eq token (codes "ask-role") || bytes_eq token (codes "cut")))))))
+    || (bytes_eq token (codes "raise") || (bytes_eq token (codes "ask-join") || (bytes_eq token (codes "ask-role") || (bytes_eq token (codes "cut") || bytes_eq token (codes "as"))))))))
 
 -- the tokens behind a first one in capitals, except for a name
 abbrev pub capital_args : Bool → List (List ℕ) → List (List ℕ)

@@ -7,6 +7,7 @@ use Rattle.i3c_base.specs.declared.requests.Verdict.TheVariants.{Refuse}
 use Rattle.i3c_lines.specs.declared.fields.Field.{Field}
 use Rattle.i3c_lines.specs.declared.form_faults.FormFault.{FormFault}
 use Rattle.i3c_lines.specs.Forms.{tokens_of}
+use Rattle.i3c_lines.specs.Sending.{is_sent_word}
 use Rattle.i3c_lines.specs.Policies.{Accepts, IsAlone, each_kind}
 use Rattle.i3c_lines.specs.Tokens.{AreBytes, IsDecimal, IsDecimalDigit, IsHex, IsName}
 
@@ -30,6 +31,7 @@ IsField Field.Policy token = (policy : Fixed) × (IsAlone token policy ⊎ Accep
 IsField Field.Kind token = (policy : Fixed) × Accepts token (each_kind Refuse) policy
 IsField Field.Decline token = token ≡ codes "decline"
 IsField Field.Shown token = (token ≡ codes "all") ⊎ (IsDecimal token × (digits_value 10 token < 2 ^ 64) × (0 < digits_value 10 token))
+IsField Field.Sent token = is_sent_word token ≡ true
 
 -- a token is one of these
 abbrev pub IsAmong : List ℕ → List (List ℕ) → Type 0
@@ -88,6 +90,7 @@ label Field.Length = codes "N"
 label Field.Place = codes "N"
 label Field.Policy = codes "POLICY"
 label Field.Kind = codes "KIND"
+label Field.Sent = codes "LINE"
 label Field.Decline = []
 label Field.Shown = []
 
@@ -111,6 +114,7 @@ expected Field.Policy = codes "all, none, joins, roles or interrupts"
 expected Field.Kind = codes "joins, roles, interrupts or but"
 expected Field.Decline = codes "'decline' or nothing"
 expected Field.Shown = codes "'all', a record's number from 1 on, or nothing"
+expected Field.Sent = codes "a line that a controller sends, such as serve, write or daa"
 
 -- a field whose numbers are hexadecimal
 abbrev pub is_hexadecimal : Field → Bool

@@ -10,6 +10,7 @@ use Rattle.i3c_base.specs.declared.requests.Fixed.{Fixed}
 use Rattle.i3c_step.specs.declared.events.Command.{Command as Frame}
 use Rattle.i3c_lines.specs.declared.command.Command.{Command}
 use Rattle.i3c_lines.specs.declared.names.Name.{Name}
+use Rattle.i3c_lines.specs.declared.sent.Sent.{Sent}
 use Rattle.i3c_lines.specs.Data.{datum_token, length_token, datum_name}
 use Rattle.i3c_lines.specs.Naming.{is_same, letters}
 use Rattle.i3c_lines.specs.Policies.{AcceptsSome, IsPolicy}
@@ -143,6 +144,15 @@ IsFrameForm tokens (Frame.SetNew at to) = (rest : List (List ℕ)) × (tokens �
 IsFrameForm tokens (Frame.Get what at) = (token : List ℕ) × (tokens ≡ datum_token what ∷ token ∷ []) × WritesAddress token at
 IsFrameForm tokens (Frame.SetLength way most to) = (rest : List (List ℕ)) × (tokens ≡ length_token way ∷ rest) × AreLength rest most to
 
+-- these tokens are a line that a controller sends
+abbrev pub IsSentForm : List (List ℕ) → Sent → Type 0
+IsSentForm tokens (Sent.Frame frame) = IsFrameForm tokens frame
+IsSentForm tokens (Sent.HandOver to) = (token : List ℕ) × (tokens ≡ codes "handover" ∷ token ∷ []) × WritesAddress token to
+IsSentForm tokens Sent.Open = tokens ≡ codes "open" ∷ []
+IsSentForm tokens Sent.Round = tokens ≡ codes "round" ∷ []
+IsSentForm tokens Sent.End = tokens ≡ codes "end" ∷ []
+IsSentForm tokens Sent.Daa = tokens ≡ codes "daa" ∷ []
+
 -- these tokens are this command's line
 abbrev pub IsForm : List (List ℕ) → Command → Type 0
 IsForm tokens (Command.Legacy name address lvr) =
@@ -154,12 +164,13 @@ IsForm tokens (Command.DropOff name) = (token : List ℕ) × (tokens ≡ codes "
 IsForm tokens (Command.Raise name byte) = (token : List ℕ) × (rest : List (List ℕ)) × (tokens ≡ codes "raise" ∷ token ∷ rest) × IsNamed token name × AreByte rest byte
 IsForm tokens (Command.AskJoin name) = (token : List ℕ) × (tokens ≡ codes "ask-join" ∷ token ∷ []) × IsNamed token name
 IsForm tokens (Command.AskRole name) = (token : List ℕ) × (tokens ≡ codes "ask-role" ∷ token ∷ []) × IsNamed token name
-IsForm tokens (Command.Frame frame) = IsFrameForm tokens frame
-IsForm tokens (Command.HandOver to) = (token : List ℕ) × (tokens ≡ codes "handover" ∷ token ∷ []) × WritesAddress token to
-IsForm tokens Command.Open = tokens ≡ codes "open" ∷ []
-IsForm tokens Command.Round = tokens ≡ codes "round" ∷ []
-IsForm tokens Command.End = tokens ≡ codes "end" ∷ []
-IsForm tokens Command.Daa = tokens ≡ codes "daa" ∷ []
+IsForm tokens (Command.Frame frame) = IsSentForm tokens (Sent.Frame frame)
+IsForm tokens (Command.HandOver to) = IsSentForm tokens (Sent.HandOver to)
+IsForm tokens Command.Open = IsSentForm tokens Sent.Open
+IsForm tokens Command.Round = IsSentForm tokens Sent.Round
+IsForm tokens Command.End = IsSentForm tokens Sent.End
+IsForm tokens Command.Daa = IsSentForm tokens Sent.Daa
+IsForm tokens (Command.As name sent) = (token : List ℕ) × (rest : List (List ℕ)) × (tokens ≡ codes "as" ∷ token ∷ rest) × IsNamed token name × IsSentForm rest sent
 IsForm tokens (Command.Policy policy) = (rest : List (List ℕ)) × (tokens ≡ codes "policy" ∷ rest) × IsPolicy rest policy
 IsForm tokens (Command.PolicyBut kinds but) = (rest : List (List ℕ)) × (tokens ≡ codes "policy" ∷ rest) × IsPolicyBut rest kinds but.items
 IsForm tokens (Command.Cut name bit) = (token digits : List ℕ) × (tokens ≡ codes "cut" ∷ token ∷ digits ∷ []) × IsNamed token name × WritesBit digits bit

@@ -6,6 +6,7 @@ pub mod Data
 pub mod Refusing
 pub mod Gathering
 pub mod Forms
+pub mod Sending
 pub mod Parsing
 pub mod Faults
 pub mod Namings

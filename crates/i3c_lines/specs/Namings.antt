@@ -17,5 +17,6 @@ names_meant (Command.Raise name byte) = name ∷ []
 names_meant (Command.AskJoin name) = name ∷ []
 names_meant (Command.AskRole name) = name ∷ []
 names_meant (Command.Cut name bit) = name ∷ []
+names_meant (Command.As name sent) = name ∷ []
 names_meant (Command.PolicyBut kinds but) = but.items
 names_meant _ = []

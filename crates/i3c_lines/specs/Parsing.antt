@@ -6,8 +6,9 @@ use Rattle.i3c_base.specs.declared.identity.Identity.{Identity}
 use Rattle.i3c_base.specs.declared.requests.Fixed.{Fixed}
 use Rattle.i3c_lines.specs.declared.command.Command.{Command}
 use Rattle.i3c_lines.specs.declared.names.Name.{Name}
+use Rattle.i3c_lines.specs.declared.sent.Sent.{Sent}
 use Rattle.i3c_lines.specs.declared.tokens.Tokens.{Tokens}
-use Rattle.i3c_lines.specs.Forms.{AreWritten, IsForm, IsNamed, NameEach, WritesIdentity, tokens_of, willing_tokens}
+use Rattle.i3c_lines.specs.Forms.{AreWritten, IsForm, IsNamed, IsSentForm, NameEach, WritesIdentity, tokens_of, willing_tokens}
 use Rattle.i3c_lines.specs.Policies.{AcceptEach, AcceptsSome, IsPolicy}
 
 -- the tokens of some bytes, or no tokens
@@ -72,6 +73,10 @@ GoOn tokens old new result = MatchOption result ((all : List Name) → NameEach 
 abbrev pub Becomes : List (List ℕ) → Option (Unit {0}) → Command → Command → Type 0
 Becomes tokens result old new = MatchOption result (((command : Command) → IsForm tokens command → ⊥) × (new ≡ old)) (λ _. IsForm tokens new)
 
+-- a command becomes that of some tokens if they are a line that a controller sends
+abbrev pub BecomesSent : List (List ℕ) → Option (Unit {0}) → Command → Type 0
+BecomesSent tokens result new = MatchOption result ((sent : Sent) → IsSentForm tokens sent → ⊥) (λ _. IsForm tokens new)
+
 -- a command whose line is read token by token
 abbrev pub IsOther : Command → Type 0
 IsOther (Command.Legacy name address lvr) = ⊤
@@ -88,6 +93,7 @@ IsOther Command.Open = ⊥
 IsOther Command.Round = ⊥
 IsOther Command.End = ⊥
 IsOther Command.Daa = ⊥
+IsOther (Command.As name sent) = ⊥
 IsOther (Command.Policy policy) = ⊤
 IsOther (Command.PolicyBut kinds but) = ⊤
 IsOther (Command.Cut name bit) = ⊤

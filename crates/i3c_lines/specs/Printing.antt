@@ -11,6 +11,7 @@ use Rattle.i3c_base.specs.declared.requests.Verdict.TheVariants.{Accept, Refuse}
 use Rattle.i3c_step.specs.declared.events.Command.{Command as Frame}
 use Rattle.i3c_lines.specs.declared.command.Command.{Command}
 use Rattle.i3c_lines.specs.declared.names.Name.{Name}
+use Rattle.i3c_lines.specs.declared.sent.Sent.{Sent}
 use Rattle.i3c_lines.specs.Forms.{AreExcepted, willing_tokens}
 use Rattle.i3c_lines.specs.Policies.{AcceptsSome}
 use Rattle.i3c_text.specs.Hex.{byte_text, bytes_text, hex_text}
@@ -75,6 +76,15 @@ frame_tokens (Frame.SetNew at to) = codes "setnewda" ∷ byte_text at ∷ byte_t
 frame_tokens (Frame.Get what at) = datum_token what ∷ byte_text at ∷ []
 frame_tokens (Frame.SetLength way most to) = length_token way ∷ decimal most ∷ byte_tokens to
 
+-- the tokens of a line that a controller sends
+abbrev pub sent_tokens : Sent → List (List ℕ)
+sent_tokens (Sent.Frame frame) = frame_tokens frame
+sent_tokens (Sent.HandOver to) = codes "handover" ∷ byte_text to ∷ []
+sent_tokens Sent.Open = codes "open" ∷ []
+sent_tokens Sent.Round = codes "round" ∷ []
+sent_tokens Sent.End = codes "end" ∷ []
+sent_tokens Sent.Daa = codes "daa" ∷ []
+
 -- the tokens of a command's line
 abbrev pub command_tokens : Command → List (List ℕ)
 command_tokens (Command.Legacy name address lvr) = codes "legacy" ∷ letters name ∷ byte_text address ∷ byte_text lvr.0 ∷ []
@@ -85,12 +95,13 @@ command_tokens (Command.DropOff name) = codes "drop" ∷ letters name ∷ []
 command_tokens (Command.Raise name byte) = codes "raise" ∷ letters name ∷ byte_tokens byte
 command_tokens (Command.AskJoin name) = codes "ask-join" ∷ letters name ∷ []
 command_tokens (Command.AskRole name) = codes "ask-role" ∷ letters name ∷ []
-command_tokens (Command.Frame frame) = frame_tokens frame
-command_tokens (Command.HandOver to) = codes "handover" ∷ byte_text to ∷ []
-command_tokens Command.Open = codes "open" ∷ []
-command_tokens Command.Round = codes "round" ∷ []
-command_tokens Command.End = codes "end" ∷ []
-command_tokens Command.Daa = codes "daa" ∷ []
+command_tokens (Command.Frame frame) = sent_tokens (Sent.Frame frame)
+command_tokens (Command.HandOver to) = sent_tokens (Sent.HandOver to)
+command_tokens Command.Open = sent_tokens Sent.Open
+command_tokens Command.Round = sent_tokens Sent.Round
+command_tokens Command.End = sent_tokens Sent.End
+command_tokens Command.Daa = sent_tokens Sent.Daa
+command_tokens (Command.As name sent) = codes "as" ∷ letters name ∷ sent_tokens sent
 command_tokens (Command.Policy policy) = codes "policy" ∷ verdicts_tokens policy.join policy.role policy.interrupt
 command_tokens (Command.PolicyBut kinds but) = codes "policy" ∷ but_tokens kinds but.items
 command_tokens (Command.Cut name bit) = codes "cut" ∷ letters name ∷ decimal bit ∷ []
@@ -132,6 +143,15 @@ FrameHasLine (Frame.SetNew at to) = (at < 128) × (to < 128)
 FrameHasLine (Frame.Get what at) = at < 128
 FrameHasLine (Frame.SetLength way most to) = (0 < most) × (most ≤ 16) × IsWithin 128 to
 
+-- a line that a controller can send: its numbers are in range
+abbrev pub SentHasLine : Sent → Type 0
+SentHasLine (Sent.Frame frame) = FrameHasLine frame
+SentHasLine (Sent.HandOver to) = to < 128
+SentHasLine Sent.Open = ⊤
+SentHasLine Sent.Round = ⊤
+SentHasLine Sent.End = ⊤
+SentHasLine Sent.Daa = ⊤
+
 -- a command that a line can ask for: its names have letters, its numbers are in range, and the names behind `but` fit into a line
 abbrev pub HasLine : Command → Type 0
 HasLine (Command.Legacy name address lvr) = IsNamable name × (address < 128) × (lvr.0 < 256)
@@ -142,12 +162,13 @@ HasLine (Command.DropOff name) = IsNamable name
 HasLine (Command.Raise name byte) = IsNamable name × IsWithin 256 byte
 HasLine (Command.AskJoin name) = IsNamable name
 HasLine (Command.AskRole name) = IsNamable name
-HasLine (Command.Frame frame) = FrameHasLine frame
-HasLine (Command.HandOver to) = to < 128
-HasLine Command.Open = ⊤
-HasLine Command.Round = ⊤
-HasLine Command.End = ⊤
-HasLine Command.Daa = ⊤
+HasLine (Command.Frame frame) = SentHasLine (Sent.Frame frame)
+HasLine (Command.HandOver to) = SentHasLine (Sent.HandOver to)
+HasLine Command.Open = SentHasLine Sent.Open
+HasLine Command.Round = SentHasLine Sent.Round
+HasLine Command.End = SentHasLine Sent.End
+HasLine Command.Daa = SentHasLine Sent.Daa
+HasLine (Command.As name sent) = IsNamable name × SentHasLine sent
 HasLine (Command.Policy policy) = ⊤
 HasLine (Command.PolicyBut kinds but) = AcceptsSome kinds × AreExcepted (map letters but.items) but.items × (length (spaced (codes "policy" ∷ but_tokens kinds but.items)) ≤ 256)
 HasLine (Command.Cut name bit) = IsNamable name × (bit < 2 ^ 16)

@@ -49,6 +49,7 @@ refusal_token (Refusal.Legacy fault) = legacy_token fault
 refusal_token (Refusal.Declare fault) = declare_token fault
 refusal_token (Refusal.Bus why) = bus_token why
 refusal_token Refusal.NoEnd = codes "NoEnd"
+refusal_token Refusal.NotActive = codes "NotActive"
 
 -- the address that a refusal of the bus is about
 abbrev pub bus_tail : BusRefusal → List ℕ
@@ -80,6 +81,7 @@ refusal_tail Refusal.NoName = []
 refusal_tail (Refusal.Legacy fault) = []
 refusal_tail (Refusal.Declare fault) = []
 refusal_tail Refusal.NoEnd = []
+refusal_tail Refusal.NotActive = []
 
 -- a refusal as it is printed
 abbrev pub refusal_text : Refusal → List ℕ

@@ -90,10 +90,11 @@ fn has_name(token: &[u8]) -> bool
         || is(token, b"ask-join")
         || is(token, b"ask-role")
         || is(token, b"cut")
+        || is(token, b"as")
 }
 
 /// Whether a token is this one.
-fn is(token: &[u8], other: &[u8]) -> bool
+pub(crate) fn is(token: &[u8], other: &[u8]) -> bool
     ensures { result ≡ bytes_eq token.now other.now }
 {
     token == other

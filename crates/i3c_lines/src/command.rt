@@ -1,11 +1,12 @@
 ghost use Rattle.std.specs.Prelude.{◌≡◌, ◌++◌, ◌∷◌, ℕ, List, Some, codes, option_copied};
-ghost use Rattle.i3c_lines.specs.Forms.{AreAddress, AreAddresses, AreAsked, AreByte, AreCount, AreDeclared, AreDevice, AreKinds, AreLength, ArePlace, IsForm, IsNamed, Writes, tokens_of};
+ghost use Rattle.i3c_lines.specs.Forms.{AreAddress, AreAddresses, AreAsked, AreByte, AreCount, AreDeclared, AreDevice, AreKinds, AreLength, ArePlace, IsForm, IsNamed, IsSentForm, Writes, tokens_of};
 ghost use Rattle.i3c_lines.specs.Data.{length_token};
-ghost use Rattle.i3c_lines.specs.Parsing.{AreKept, AreNamed, AreWilling, Becomes, BecomesOther, IsOtherForm, Reads, TakesIdentity, TakesToken, left_tokens, tokens_in};
+ghost use Rattle.i3c_lines.specs.Parsing.{AreKept, AreNamed, AreWilling, Becomes, BecomesOther, BecomesSent, IsOtherForm, Reads, TakesIdentity, TakesToken, left_tokens, tokens_in};
 
 use crate::data::datum;
 use crate::names::Name;
 use crate::policies::{EXCEPTED, policy, policy_but};
+use crate::sent::{Sent, sent_of};
 use crate::tokens::{self, Tokens, after, is_token};
 use arrayvec::ArrayVec;
 use i3c_base::{Addr7, Bcr, Datum, Dcr, Direction, Fixed, Identity, Kinds, Length, Lvr, Setup};
@@ -53,6 +54,8 @@ const OPEN: &[u8] = b"pen";
 const WRITE: &[u8] = b"rite ";
 
 const GET: &[u8] = b"et";
+
+const AS: &[u8] = b"s ";
 
 // Whole tokens.
 const DROP: &[u8] = b"drop";
@@ -137,6 +140,11 @@ pub enum Command {
     End,
     /// `daa`: a whole session of dynamic address assignment.
     Daa,
+    /// `as NAME LINE`: a line of the controller with this name, which is refused unless that is the active controller.
+    As {
+        name: Name,
+        sent: Sent,
+    },
     /// `policy all`, `policy none` or `policy KIND..`: which requests the frames from now on accept. A KIND is `joins`,
     /// `roles` or `interrupts`, and no other kind is accepted.
     Policy(Fixed),
@@ -168,6 +176,9 @@ pub enum Command {
 /// Names the reading of a line for a command of its own.
 struct Parsing;
 
+/// Names the reading of a line behind `as NAME`.
+struct Acting;
+
 impl Command {
     /// The command of a line, if the line has a form. Its tokens are parted by exactly one space.
     pub fn parse(line: &[u8]) -> Option<Command>
@@ -193,6 +204,7 @@ impl Command {
             b'o' => self.read_o::<K>(tail),
             b'w' => self.read_w::<K>(tail),
             b'g' => self.read_g(tail),
+            b'a' => self.read_a::<K>(tail, line),
             _ => self.read_tokens_of(line),
         }
     }
@@ -337,6 +349,50 @@ impl Command {
         let (what, at) = parse_asked(&mut Tokens::of(line))?;
         *self = Command::Frame(Frame::Get(what, at));
         Some(())
+    }
+
+    /// Becomes a command whose first letter is an `a`, by the line behind that, or by the line.
+    fn read_a<K>(&mut self, tail: &[u8], line: &[u8]) -> Option<()>
+        requires { line.now ≡ 97 ∷ tail.now }
+        ensures { Becomes (tokens_of line.now) result self.old self.new }
+    {
+        if let Some(line) = after(tail, AS) {
+            return self.read_as(line);
+        }
+        self.read_tokens_of(line)
+    }
+
+    /// Becomes `as NAME LINE`, by the tokens behind its first.
+    // kept apart, so that no other line pays for the room that a line of its own takes on the stack
+    #[inline(never)]
+    fn read_as(&mut self, line: &[u8]) -> Option<()>
+        ensures { Becomes (codes "as" ∷ tokens_of line.now) result self.old self.new }
+    {
+        let (name, rest) = Name::split_from(line)?;
+        let behind = rest?;
+        let sent = parse_sent(behind)?;
+        *self = Command::As { name, sent };
+        Some(())
+    }
+
+    /// Becomes the command of a line that a controller sends, if the line is one. It may become another command too.
+    #[tactic(auto, using(crate::proofs::SentLaws::sent_becomes, crate::proofs::SentLaws::other_becomes))]
+    fn read_sent(&mut self, line: &[u8]) -> Option<()>
+        ensures { BecomesSent (tokens_of line.now) result self.new }
+    {
+        let (first, tail) = line.split_first()?;
+        match *first {
+            b'r' => self.read_r::<Acting>(tail),
+            b's' => self.read_s::<Acting>(tail),
+            b'e' => self.read_e::<Acting>(tail),
+            b'd' => self.read_d::<Acting>(tail, line),
+            b'l' => self.read_l::<Acting>(tail, line),
+            b'o' => self.read_o::<Acting>(tail),
+            b'w' => self.read_w::<Acting>(tail),
+            b'g' => self.read_g(tail),
+            b'h' => self.read_tokens_of(line),
+            _ => None,
+        }
     }
 
     /// Becomes a raise by the tokens behind its first: a name, and a byte if one is given.
@@ -615,6 +671,15 @@ impl Command {
         *self = Command::Forget(last);
         Some(())
     }
+}
+
+/// A line that a controller sends, if the tokens have the form of one.
+fn parse_sent(line: &[u8]) -> Option<Sent>
+    ensures { Reads IsSentForm (tokens_of line.now) result }
+{
+    let mut command = Command::Show;
+    command.read_sent(line)?;
+    sent_of(command)
 }
 
 /// A static address and the identity that is declared at it.

@@ -2,6 +2,7 @@ ghost use Rattle.std.specs.Prelude.{◌≡◌, ◌↔◌, IsTrue};
 
 use crate::names::Name;
 use crate::policies::{is_first, is_kind};
+use crate::sent::begins_sent;
 use crate::tokens::{self, is_token};
 
 /// The last token of a device that doesn't take the controller role.
@@ -49,6 +50,8 @@ pub enum Field {
     Kind,
     /// The token of a device that doesn't take the controller role.
     Decline,
+    /// The first token of a line that a controller sends.
+    Sent,
 }
 
 impl Field {
@@ -72,6 +75,7 @@ impl Field {
             Field::Kind => is_kind(token),
             Field::Decline => is_token(token, DECLINE),
             Field::Shown => is_token(token, ALL) || tokens::place(token).is_some(),
+            Field::Sent => begins_sent(token),
         }
     }
 
@@ -94,6 +98,7 @@ impl Field {
             Field::Count | Field::Length | Field::Place => "N",
             Field::Policy => "POLICY",
             Field::Kind => "KIND",
+            Field::Sent => "LINE",
             Field::Decline | Field::Shown => "",
         }
     }
@@ -118,6 +123,7 @@ impl Field {
             Field::Kind => "joins, roles, interrupts or but",
             Field::Decline => "'decline' or nothing",
             Field::Shown => "'all', a record's number from 1 on, or nothing",
+            Field::Sent => "a line that a controller sends, such as serve, write or daa",
         }
     }
 
@@ -143,7 +149,8 @@ impl Field {
             | Field::Policy
             | Field::Kind
             | Field::Decline
-            | Field::Shown => false,
+            | Field::Shown
+            | Field::Sent => false,
         }
     }
 }

@@ -24,6 +24,9 @@ const RETURN: u8 = b'\r';
 /// A tab, which parts no tokens.
 const TAB: u8 = b'\t';
 
+/// What stands before the name of a controller, and its line.
+const AS: &[u8] = b"as";
+
 /// What stands for a byte that doesn't print.
 const UNKNOWN: u8 = b'?';
 
@@ -85,8 +88,40 @@ fn diagnose(line: &[u8]) -> FormFault<'_>
     let Some(first) = tokens.next() else {
         unreachable!()
     };
+    if is_token(first, AS) {
+        return as_misfit(first, &mut tokens);
+    }
     match shape_of(first) {
         Some(shape) => misfit(first, shape, &mut tokens),
+        None => FormFault::Unknown(first),
+    }
+}
+
+/// The first of the tokens behind `as` that isn't as its line has it: a name, and a line that a controller sends.
+fn as_misfit<'a>(first: &'a [u8], tokens: &mut Tokens<'a>) -> FormFault<'a>
+    ensures { IsTokenFault first.now (left_tokens tokens.old) result }
+{
+    let Some(name) = tokens.next() else {
+        return FormFault::Missing(Field::Name);
+    };
+    if let Some(fault) = misfit_at(Field::Name, name) {
+        return fault;
+    }
+    sent_misfit(first, tokens)
+}
+
+/// The first of these tokens that isn't as a line has it that a controller sends.
+fn sent_misfit<'a>(first: &'a [u8], tokens: &mut Tokens<'a>) -> FormFault<'a>
+    ensures { IsTokenFault first.now (left_tokens tokens.old) result }
+{
+    let Some(token) = tokens.next() else {
+        return FormFault::Missing(Field::Sent);
+    };
+    if let Some(fault) = misfit_at(Field::Sent, token) {
+        return fault;
+    }
+    match shape_of(token) {
+        Some(shape) => misfit(first, shape, tokens),
         None => FormFault::Unknown(first),
     }
 }
@@ -381,7 +416,8 @@ fn own_lesson(field: Field, token: &[u8]) -> &'static str
         | Field::Place
         | Field::Policy
         | Field::Kind
-        | Field::Decline => field.expected(),
+        | Field::Decline
+        | Field::Sent => field.expected(),
     }
 }
 

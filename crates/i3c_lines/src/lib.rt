@@ -1,6 +1,6 @@
 //! What a script's line says by itself: its tokens, its command, the names that it gives, and why it is refused.
 //!
-//! `tokens` reads one token, `command` a line of text, `line` a line of bytes, which may come in pieces. `names` keeps the
+//! `tokens` reads one token, `command` a line of text, `line` a line of bytes, which may come in pieces. `sent` is a line that a controller sends. `names` keeps the
 //! places of a script's names, `naming` says what such a keeper promises, and `namings` has the names that a command gives and means. `policies` are the tokens that
 //! name a policy, and `data` those of data that a controller asks for, and of lengths that it sets. `capitals` writes a
 //! line's hexadecimal digits in capitals. `form_faults` says why a line has no form, by the `fields` and the `shapes` of the
@@ -20,6 +20,7 @@ mod namings;
 mod policies;
 mod printing;
 mod refusals;
+mod sent;
 mod shapes;
 pub mod tokens;
 
@@ -36,3 +37,4 @@ pub use names::{Name, Names, Place};
 pub use naming::{Naming, slot_meant};
 pub use policies::{ACCEPT_ALL, EXCEPTED};
 pub use refusals::Refusal;
+pub use sent::Sent;

@@ -28,6 +28,7 @@ impl Command {
             Command::AskJoin { name } => slice::from_ref(name),
             Command::AskRole { name } => slice::from_ref(name),
             Command::Cut { name, .. } => slice::from_ref(name),
+            Command::As { name, .. } => slice::from_ref(name),
             Command::PolicyBut { but, .. } => but.as_slice(),
             _ => &[],
         }

@@ -4,11 +4,12 @@ ghost use Rattle.i3c_lines.specs.Forms.{willing_tokens};
 ghost use Rattle.i3c_text.specs.Hex.{byte_text, hex_text};
 ghost use Rattle.i3c_lines.specs.Data.{datum_token, length_token};
 ghost use Rattle.i3c_lines.specs.Naming.{letters};
-ghost use Rattle.i3c_lines.specs.Printing.{behind, but_tokens, byte_tokens, command_text, device_tokens, frame_tokens, identity_tokens, spaced, verdicts_tokens, written_tokens};
+ghost use Rattle.i3c_lines.specs.Printing.{behind, but_tokens, byte_tokens, command_text, device_tokens, frame_tokens, identity_tokens, sent_tokens, spaced, verdicts_tokens, written_tokens};
 
 use crate::command::Command;
 use crate::data::{datum_name, length_token};
 use crate::names::Name;
+use crate::sent::Sent;
 use bitflags::Flags;
 use i3c_base::{Addr7, Datum, Direction, Fixed, Identity, Kinds, Length, Lvr, Pid, Setup, Verdict};
 use i3c_step::Command as Frame;
@@ -35,6 +36,7 @@ impl Command {
             Command::Round => text.push(b"round"),
             Command::End => text.push(b"end"),
             Command::Daa => text.push(b"daa"),
+            Command::As { name, sent } => push_as(text, name, sent),
             Command::Policy(policy) => push_policy(text, policy),
             Command::PolicyBut { kinds, but } => push_policy_but(text, kinds, but.as_slice()),
             Command::Cut { name, bit } => push_cut(text, name, *bit),
@@ -142,6 +144,29 @@ fn push_raise(text: &mut Text, name: &Name, byte: Option<u8>) -> Result<(), Allo
     match byte {
         None => Ok(()),
         Some(byte) => push_byte(text, byte),
+    }
+}
+
+/// Appends a line of a controller with this name.
+fn push_as(text: &mut Text, name: &Name, sent: &Sent) -> Result<(), AllocError>
+    ensures { OnOk result (text.new ≡ text.old ++ spaced (codes "as" ∷ letters name.now ∷ sent_tokens sent.now)) }
+{
+    push_named(text, b"as", name)?;
+    text.push(b" ")?;
+    push_sent(text, sent)
+}
+
+/// Appends a line that a controller sends.
+fn push_sent(text: &mut Text, sent: &Sent) -> Result<(), AllocError>
+    ensures { OnOk result (text.new ≡ text.old ++ spaced (sent_tokens sent.now)) }
+{
+    match sent {
+        Sent::Frame(frame) => push_frame(text, frame),
+        Sent::HandOver { to } => push_addressed(text, b"handover", *to),
+        Sent::Open => text.push(b"open"),
+        Sent::Round => text.push(b"round"),
+        Sent::End => text.push(b"end"),
+        Sent::Daa => text.push(b"daa"),
     }
 }
 

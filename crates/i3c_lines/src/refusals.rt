@@ -30,6 +30,8 @@ pub enum Refusal {
     Bus(BusRefusal),
     /// The data that was read did not end.
     NoEnd,
+    /// The controller that a line is of isn't the active one.
+    NotActive,
 }
 
 impl From<Refusal> for LineError<Refusal> {
@@ -57,6 +59,7 @@ impl Refusal {
             Refusal::Declare(fault) => declare_token(fault),
             Refusal::Bus(why) => bus_token(why),
             Refusal::NoEnd => "NoEnd",
+            Refusal::NotActive => "NotActive",
         }
     }
 

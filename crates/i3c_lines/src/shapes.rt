@@ -24,7 +24,7 @@ impl Shape {
 }
 
 /// The commands, in the order of docs/FORMATS.md.
-static SHAPES: [Shape; 38] = [
+static SHAPES: [Shape; 39] = [
     Shape {
         token: "legacy",
         required: &[Field::Name, Field::Addr, Field::Lvr],
@@ -193,6 +193,11 @@ static SHAPES: [Shape; 38] = [
     Shape {
         token: "daa",
         required: &[],
+        optional: None,
+    },
+    Shape {
+        token: "as",
+        required: &[Field::Name, Field::Sent],
         optional: None,
     },
     Shape {

@@ -14,6 +14,7 @@ use Rattle.i3c_lines.specs.declared.command.Command.{Command}
 use Rattle.i3c_lines.specs.declared.names.Name.{Name}
 use Rattle.i3c_lines.specs.declared.names.Names.{Names}
 use Rattle.i3c_lines.specs.declared.refusals.Refusal.{Refusal}
+use Rattle.i3c_lines.specs.declared.sent.Sent.{Sent}
 use Rattle.i3c_lines.specs.Faults.{IsEither, IsReason}
 use Rattle.i3c_lines.specs.Forms.{HasNoForm, IsCommand, IsSkipped}
 use Rattle.i3c_lines.specs.Naming.{letters, place_named, slot_named}
@@ -44,24 +45,29 @@ active_stays_reason _ = codes "the active controller is cut, and doesn't lose po
 -- why the active controller isn't meant
 abbrev pub is_active_reason : Command → List ℕ
 is_active_reason (Command.HandOver to) = codes "the address is the active controller's"
+is_active_reason (Command.As name (Sent.HandOver to)) = codes "the address is the active controller's"
 is_active_reason _ = codes "the device is the active controller, and asks nobody"
 
 -- why an address is missing
 abbrev pub no_address_reason : Command → List ℕ
 no_address_reason Command.Round = codes "there is no address left to hand out"
 no_address_reason Command.Daa = codes "there is no address left to hand out"
+no_address_reason (Command.As name sent) = codes "there is no address left to hand out"
 no_address_reason _ = codes "the device has no dynamic address; send 'daa' first"
 
 -- why a device isn't capable
 abbrev pub not_capable_reason : Command → List ℕ
 not_capable_reason (Command.Raise name byte) = codes "by its BCR the device never interrupts"
 not_capable_reason (Command.HandOver to) = codes "the table has nobody there that can be controller"
+not_capable_reason (Command.As name sent) = codes "the table has nobody there that can be controller"
 not_capable_reason _ = codes "by its BCR the device can't be controller"
 
 -- why nobody answers
 abbrev pub no_answer_reason : Command → List ℕ
 no_answer_reason (Command.HandOver to) = codes "the offer was sent, and nobody took the role"
 no_answer_reason (Command.Frame (Frame.SetStatic at to)) = codes "no identity is declared there, or no device without a dynamic address acknowledged"
+no_answer_reason (Command.As name (Sent.HandOver to)) = codes "the offer was sent, and nobody took the role"
+no_answer_reason (Command.As name (Sent.Frame (Frame.SetStatic at to))) = codes "no identity is declared there, or no device without a dynamic address acknowledged"
 no_answer_reason _ = codes "the table has no target there, or it didn't acknowledge"
 
 -- why the bus refuses a line of this command
@@ -94,6 +100,7 @@ reason_text command (Refusal.Legacy fault) = legacy_reason fault
 reason_text command (Refusal.Declare fault) = declare_reason fault
 reason_text command (Refusal.Bus why) = bus_reason command why
 reason_text command Refusal.NoEnd = codes "the last T said that more bytes would come"
+reason_text command Refusal.NotActive = codes "the device isn't the active controller, which alone sends frames"
 
 -- how each line that is told begins
 abbrev pub line_start : ℕ → List ℕ

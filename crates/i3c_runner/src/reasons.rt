@@ -11,7 +11,7 @@ use crate::script::Script;
 use i3c_base::{Cuts, Identity, SLOTS, Slot};
 use i3c_bus::{Bus, Command as Frame, Refusal as BusRefusal};
 use i3c_legacy::{DeclareFault, LegacyFault};
-use i3c_lines::{Command, Name, Names, Refusal, form_fault, is_skipped, slot_meant};
+use i3c_lines::{Command, Name, Names, Refusal, Sent, form_fault, is_skipped, slot_meant};
 use i3c_script::Stage;
 use i3c_text::{LineError, Text};
 use std::alloc::{AllocError, Global};
@@ -199,6 +199,7 @@ fn reason(command: &Command, why: &Refusal) -> &'static str
         Refusal::Declare(fault) => declare_reason(fault),
         Refusal::Bus(why) => bus_reason(command, why),
         Refusal::NoEnd => "the last T said that more bytes would come",
+        Refusal::NotActive => "the device isn't the active controller, which alone sends frames",
     }
 }
 
@@ -268,7 +269,11 @@ fn is_active_reason(command: &Command) -> &'static str
     ensures { result.now ≡ is_active_reason command.now }
 {
     match command {
-        Command::HandOver { .. } => "the address is the active controller's",
+        Command::HandOver { .. }
+        | Command::As {
+            sent: Sent::HandOver { .. },
+            ..
+        } => "the address is the active controller's",
         _ => "the device is the active controller, and asks nobody",
     }
 }
@@ -278,7 +283,9 @@ fn no_address_reason(command: &Command) -> &'static str
     ensures { result.now ≡ no_address_reason command.now }
 {
     match command {
-        Command::Round | Command::Daa => "there is no address left to hand out",
+        Command::Round | Command::Daa | Command::As { .. } => {
+            "there is no address left to hand out"
+        }
         _ => "the device has no dynamic address; send 'daa' first",
     }
 }
@@ -289,7 +296,9 @@ fn not_capable_reason(command: &Command) -> &'static str
 {
     match command {
         Command::Raise { .. } => "by its BCR the device never interrupts",
-        Command::HandOver { .. } => "the table has nobody there that can be controller",
+        Command::HandOver { .. } | Command::As { .. } => {
+            "the table has nobody there that can be controller"
+        }
         _ => "by its BCR the device can't be controller",
     }
 }
@@ -299,8 +308,16 @@ fn no_answer_reason(command: &Command) -> &'static str
     ensures { result.now ≡ no_answer_reason command.now }
 {
     match command {
-        Command::HandOver { .. } => "the offer was sent, and nobody took the role",
-        Command::Frame(Frame::SetStatic(..)) => {
+        Command::HandOver { .. }
+        | Command::As {
+            sent: Sent::HandOver { .. },
+            ..
+        } => "the offer was sent, and nobody took the role",
+        Command::Frame(Frame::SetStatic(..))
+        | Command::As {
+            sent: Sent::Frame(Frame::SetStatic(..)),
+            ..
+        } => {
             "no identity is declared there, or no device without a dynamic address acknowledged"
         }
         _ => "the table has no target there, or it didn't acknowledge",

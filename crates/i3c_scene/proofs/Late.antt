@@ -1,7 +1,7 @@
 -- Cuts behind the last bit of a line's frame lose nobody: the line does what it does without them.
 use Rattle.std.proofs.Common.{min, Result, Err, Ok, ◌≡◌, ◌≢◌, ◌∙◌, ◌⊎◌, ℕ, zero, suc, ap, ◌<◌, ◌≤◌, Bool, true, false, not, ◌&&◌, ◌==◌, eq-eqb, is_some, List, [], ◌∷◌, max, Option, None, Some, arith, inl, inr, refl, subst, sym, if◌then◌else◌}
 use Rattle.std.specs.declared.alloc.AllocError.{AllocError}
-use Rattle.std.specs.Prelude.{IfOk}
+use Rattle.std.specs.Prelude.{IfOk, MatchOption}
 use Rattle.std.proofs.Math.Nat.{le-max_left, le-max_right}
 use Rattle.std.proofs.lemmas.Bool.{false≢true}
 use Rattle.std.proofs.lemmas.Bool.Decides.{leb_tells, nat_tests}
@@ -16,6 +16,7 @@ use Rattle.i3c_base.specs.Serve.{byte_due}
 use Rattle.i3c_base.specs.State.{Device, Entry, State, device_at, entry_at, has_address, legacy_target_at}
 use Rattle.i3c_step.specs.declared.events.Command.{Command as Frame}
 use Rattle.i3c_step.specs.declared.events.Event.{Event}
+use Rattle.i3c_step.specs.declared.replies.Refusal.{Refusal as BusRefusal}
 use Rattle.i3c_step.specs.declared.replies.Reply.{Reply}
 use Rattle.i3c_step.specs.Commands.{event_of}
 use Rattle.i3c_step.specs.LateCuts.{bits_after_byte, most_bits, recut}
@@ -26,21 +27,26 @@ use Rattle.i3c_lines.specs.declared.command.Command.{Command}
 use Rattle.i3c_lines.specs.declared.names.Name.{Name}
 use Rattle.i3c_lines.specs.declared.names.Place.{Place}
 use Rattle.i3c_lines.specs.declared.refusals.Refusal.{Refusal}
+use Rattle.i3c_lines.specs.declared.sent.Sent.{Sent}
+use Rattle.i3c_lines.specs.Naming.{slot_named}
+use Rattle.i3c_lines.specs.Sending.{has_frame}
 use Rattle.i3c_log_laws.specs.Behind.{reply_from}
 use Rattle.i3c_script.specs.declared.piece.Piece.{Piece}
 use Rattle.i3c_script.specs.Assigning.{Assigns, Moves, cuts_left}
-use Rattle.i3c_script.specs.Obeying.{cut_at}
+use Rattle.i3c_script.specs.Asking.{acting_in, present_in}
+use Rattle.i3c_script.specs.Obeying.{Acts, ActsAs, IsRefused, cut_at}
 use Rattle.i3c_script.specs.Telling.{IsTold}
 use Rattle.i3c_script.specs.Unkept.{no_past}
 use Rattle.i3c_script.proofs.Moving.{all_taken, carries_cuts, one_subject}
 use Rattle.i3c_facts.specs.declared.before.Before.{Before}
 use Rattle.i3c_scene.specs.declared.line.Line.{Line}
+use Rattle.i3c_scene.specs.declared.named.Named.{Named}
 use Rattle.i3c_scene.specs.declared.risk.Risk.{Risk}
 use Rattle.i3c_scene.specs.declared.ways.Ways.{Ways}
-use Rattle.i3c_scene.specs.Going.{Does, cut_in, on_bus, risked, sends}
-use Rattle.i3c_scene.specs.Latest.{last_bit, last_of_frame, latest, tried_as}
+use Rattle.i3c_scene.specs.Going.{Does, cut_in, is_acting, on_bus, risked, sends}
+use Rattle.i3c_scene.specs.Latest.{last_bit, last_of_frame, last_of_sent, latest, tried_as}
 use Rattle.i3c_scene.specs.Pairs.{pair, within}
-use Rattle.i3c_scene.specs.Scenes.{Seen, place_in, seen}
+use Rattle.i3c_scene.specs.Scenes.{Seen, known_kept, place_in, seen}
 use Rattle.i3c_scene.specs.Trying.{LineBreaks, LineSteps, Runs, RunsIn, all_hold, slot_at_risk}
 use Rattle.i3c_scene.proofs.Pairs.{placed}
 
@@ -146,50 +152,77 @@ assigns_late old pieces refused new s bit other late (inr (why, moves, told, is)
   is,
 )
 
--- a command that sends a frame does the same with a late cut
-does_late : (old : Seen) (command : Command) (pieces : List Piece) (refused : Option Refusal) (new : Seen) (s bit : ℕ) → sends command ≡ true → s ≢ old.state.active → last_bit old.state command < bit
-    → Does old command pieces refused new → Does (with_cuts old (cut_at old.cuts s bit)) command pieces refused new
-does_late old (Command.Frame frame) pieces refused new s bit e other late (same, (fixed, accepts, (reply, moves, told))) =
+-- a line that the active controller sends does the same with a late cut
+acts_late : (old : Seen) (sent : Sent) (pieces : List Piece) (refused : Option Refusal) (new : Seen) (s bit : ℕ) → has_frame sent ≡ true → s ≢ old.state.active → last_of_sent old.state sent < bit
+    → Acts no_past (on_bus old) sent pieces refused (on_bus new) → Acts no_past (on_bus (with_cuts old (cut_at old.cuts s bit))) sent pieces refused (on_bus new)
+acts_late old (Sent.Frame frame) pieces refused new s bit e other late (fixed, accepts, (reply, moves, told)) =
     let cuts = cut_at old.cuts s bit in (
-      same,
+      fixed,
+      accepts,
       (
-        fixed,
-        accepts,
-        (
-          reply,
-          moves_as old cuts (event_of frame fixed old.cuts) (event_of frame fixed cuts) reply new (frame_left frame fixed old.cuts cuts) (frame_late old.state frame fixed old.cuts reply new.state s bit other late) moves,
-          subst (λ subject. IsTold subject (reply_from old.settings.forgotten reply) pieces refused) (sym (one_subject frame fixed old.cuts) ∙ one_subject frame fixed cuts) told,
-        ),
+        reply,
+        moves_as old cuts (event_of frame fixed old.cuts) (event_of frame fixed cuts) reply new (frame_left frame fixed old.cuts cuts) (frame_late old.state frame fixed old.cuts reply new.state s bit other late) moves,
+        subst (λ subject. IsTold subject (reply_from old.settings.forgotten reply) pieces refused) (sym (one_subject frame fixed old.cuts) ∙ one_subject frame fixed cuts) told,
       ),
     )
-does_late old (Command.HandOver to) pieces refused new s bit e other late (same, (reply, moves, told)) = (
-  same,
-  (
-    reply,
-    moves_as old (cut_at old.cuts s bit) (Event.HandOver to old.cuts) (Event.HandOver to (cut_at old.cuts s bit)) reply new refl
-        (step_late old.state (Event.HandOver to old.cuts) reply new.state s bit other late) moves,
-    told,
-  ),
+acts_late old (Sent.HandOver to) pieces refused new s bit e other late (reply, moves, told) = (
+  reply,
+  moves_as old (cut_at old.cuts s bit) (Event.HandOver to old.cuts) (Event.HandOver to (cut_at old.cuts s bit)) reply new refl
+      (step_late old.state (Event.HandOver to old.cuts) reply new.state s bit other late) moves,
+  told,
 )
-does_late old Command.Open pieces refused new s bit e other late (same, (reply, moves, told)) = (
-  same,
-  (
-    reply,
-    moves_as old (cut_at old.cuts s bit) (Event.OpenDaa old.cuts) (Event.OpenDaa (cut_at old.cuts s bit)) reply new refl
-        (step_late old.state (Event.OpenDaa old.cuts) reply new.state s bit other late) moves,
-    told,
-  ),
+acts_late old Sent.Open pieces refused new s bit e other late (reply, moves, told) = (
+  reply,
+  moves_as old (cut_at old.cuts s bit) (Event.OpenDaa old.cuts) (Event.OpenDaa (cut_at old.cuts s bit)) reply new refl
+      (step_late old.state (Event.OpenDaa old.cuts) reply new.state s bit other late) moves,
+  told,
 )
-does_late old Command.Round pieces refused new s bit e other late (same, (reply, moves, told)) = (
-  same,
-  (
-    reply,
-    moves_as old (cut_at old.cuts s bit) (Event.Round old.cuts) (Event.Round (cut_at old.cuts s bit)) reply new refl
-        (step_late old.state (Event.Round old.cuts) reply new.state s bit other late) moves,
-    told,
-  ),
+acts_late old Sent.Round pieces refused new s bit e other late (reply, moves, told) = (
+  reply,
+  moves_as old (cut_at old.cuts s bit) (Event.Round old.cuts) (Event.Round (cut_at old.cuts s bit)) reply new refl
+      (step_late old.state (Event.Round old.cuts) reply new.state s bit other late) moves,
+  told,
 )
-does_late old Command.Daa pieces refused new s bit e other late (same, assigns) = (same, assigns_late old pieces refused new s bit other late assigns)
+acts_late old Sent.Daa pieces refused new s bit e other late assigns = assigns_late old pieces refused new s bit other late assigns
+acts_late old Sent.End pieces refused new s bit e other late acts = absurd cc
+
+both_hold : (one other : Bool) → (one && other) ≡ true → (one ≡ true) × (other ≡ true)
+both_hold true true e = (refl, refl)
+both_hold true false e = absurd cc
+both_hold false other e = absurd cc
+
+-- the active controller's own line isn't refused
+acting_unrefused : (st : State) (place : Option Place) → is_acting st place ≡ true → acting_in st (present_in st (slot_named place)) ≡ None
+acting_unrefused st None e = absurd cc
+acting_unrefused st (Some (Place.Legacy a)) e = absurd cc
+acting_unrefused st (Some Place.Gone) e = absurd cc
+acting_unrefused st (Some (Place.Slot t)) e = go (is_some (device_at st t)) (t == st.active) refl e
+  where
+    go : (there same : Bool) → (t == st.active) ≡ same → (there && same) ≡ true → acting_in st (if there then Ok t else Err (Refusal.Bus BusRefusal.NoDevice)) ≡ None
+    go true true is h = ap (λ (b : Bool). if b then None else Some Refusal.NotActive) is
+    go true false is h = absurd cc
+    go false same is h = absurd cc
+
+-- a line of a controller that sends a frame does the same with a late cut
+acts_as_late : (old : Seen) (name : Name) (sent : Sent) (pieces : List Piece) (refused : Option Refusal) (new : Seen) (s bit : ℕ) → sends old.state old.names (Command.As name sent) ≡ true → s ≢ old.state.active → last_of_sent old.state sent < bit
+    → ActsAs no_past known_kept (on_bus old) old.names name sent pieces refused (on_bus new) → ActsAs no_past known_kept (on_bus (with_cuts old (cut_at old.cuts s bit))) old.names name sent pieces refused (on_bus new)
+acts_as_late old name sent pieces refused new s bit e other late acts =
+    let (acting, frame) = both_hold (is_acting old.state (place_in old.names name)) (has_frame sent) e in
+    let none = acting_unrefused old.state (place_in old.names name) acting in
+    let own = on_bus (with_cuts old (cut_at old.cuts s bit)) in
+    let can = subst (λ (why : Option Refusal). MatchOption why (Acts no_past (on_bus old) sent pieces refused (on_bus new)) (λ one. (on_bus new ≡ on_bus old) × IsRefused one pieces refused)) none acts in
+    subst (λ (why : Option Refusal). MatchOption why (Acts no_past own sent pieces refused (on_bus new)) (λ one. (on_bus new ≡ own) × IsRefused one pieces refused)) (sym none)
+    (acts_late old sent pieces refused new s bit frame other late can)
+
+-- a command that sends a frame does the same with a late cut
+does_late : (old : Seen) (command : Command) (pieces : List Piece) (refused : Option Refusal) (new : Seen) (s bit : ℕ) → sends old.state old.names command ≡ true → s ≢ old.state.active → last_bit old.state command < bit
+    → Does old command pieces refused new → Does (with_cuts old (cut_at old.cuts s bit)) command pieces refused new
+does_late old (Command.Frame frame) pieces refused new s bit e other late (same, acts) = (same, acts_late old (Sent.Frame frame) pieces refused new s bit refl other late acts)
+does_late old (Command.HandOver to) pieces refused new s bit e other late (same, acts) = (same, acts_late old (Sent.HandOver to) pieces refused new s bit refl other late acts)
+does_late old Command.Open pieces refused new s bit e other late (same, acts) = (same, acts_late old Sent.Open pieces refused new s bit refl other late acts)
+does_late old Command.Round pieces refused new s bit e other late (same, acts) = (same, acts_late old Sent.Round pieces refused new s bit refl other late acts)
+does_late old Command.Daa pieces refused new s bit e other late (same, acts) = (same, acts_late old Sent.Daa pieces refused new s bit refl other late acts)
+does_late old (Command.As name sent) pieces refused new s bit e other late (same, acts) = (same, acts_as_late old name sent pieces refused new s bit e other late acts)
 does_late old (Command.Attach name setup) pieces refused new s bit e other late does = absurd cc
 does_late old (Command.DropOff name) pieces refused new s bit e other late does = absurd cc
 does_late old (Command.Raise name byte) pieces refused new s bit e other late does = absurd cc
@@ -210,8 +243,8 @@ does_late old (Command.Declare address identity) pieces refused new s bit e othe
 does_late old (Command.Main name setup) pieces refused new s bit e other late does = absurd cc
 
 -- a slot that may be cut in a command's frame: the command sends one, its last bit is below `last`, and the slot isn't the active controller's
-record MayLose (st : State) (command : Command) (slot : Option ℕ) (last : ℕ) : Type 0 where
-  sent : (s : ℕ) → slot ≡ Some s → sends command ≡ true
+record MayLose (st : State) (names : List Named) (command : Command) (slot : Option ℕ) (last : ℕ) : Type 0 where
+  sent : (s : ℕ) → slot ≡ Some s → sends st names command ≡ true
   other : (s : ℕ) → slot ≡ Some s → s ≢ st.active
   ended : last_bit st command < last
 
@@ -236,15 +269,15 @@ slot_other : (old : Seen) (b : Bool) (name : Name) (s : ℕ) → slot_at_risk ol
 slot_other old true name s is = risked_other old.state (place_in old.names name) s is
 slot_other old false name s is = absurd cc
 
-may_lose : (old : Seen) (command : Command) (name : Name) → MayLose old.state command (slot_at_risk old (sends command) name) (suc (last_bit old.state command))
-may_lose old command name = record { sent = slot_sent old (sends command) name; other = slot_other old (sends command) name; ended = omega arith }
+may_lose : (old : Seen) (command : Command) (name : Name) → MayLose old.state old.names command (slot_at_risk old (sends old.state old.names command) name) (suc (last_bit old.state command))
+may_lose old command name = record { sent = slot_sent old (sends old.state old.names command) name; other = slot_other old (sends old.state old.names command) name; ended = omega arith }
 
--- a way covers another, in each scene of this bus: what it does, the other does too
-abbrev Covers : State → Command → Option ℕ → ℕ → ℕ → Type 0
-Covers st command slot tried way = (old : Seen) → old.state ≡ st → (pieces : List Piece) → (refused : Option Refusal) → (new : Seen) → Does (cut_in old slot tried) command pieces refused new → Does (cut_in old slot way) command pieces refused new
+-- a way covers another, in each scene of this bus and these names: what it does, the other does too
+abbrev Covers : State → List Named → Command → Option ℕ → ℕ → ℕ → Type 0
+Covers st names command slot tried way = (old : Seen) → old.state ≡ st → old.names ≡ names → (pieces : List Piece) → (refused : Option Refusal) → (new : Seen) → Does (cut_in old slot tried) command pieces refused new → Does (cut_in old slot way) command pieces refused new
 
 -- the way in which nobody is cut covers each way over the last one
-late_way : (old : Seen) (command : Command) (slot : Option ℕ) (last way : ℕ) (pieces : List Piece) (refused : Option Refusal) (new : Seen) → MayLose old.state command slot last → last < way
+late_way : (old : Seen) (command : Command) (slot : Option ℕ) (last way : ℕ) (pieces : List Piece) (refused : Option Refusal) (new : Seen) → MayLose old.state old.names command slot last → last < way
     → Does (cut_in old slot 0) command pieces refused new → Does (cut_in old slot way) command pieces refused new
 late_way old command None last way pieces refused new may late does = does
 late_way old command (Some s) last zero pieces refused new may late does = does
@@ -256,11 +289,11 @@ within_is last way = elim (leb_tells way last) [
   | inr (e, gt) ↦ inr (ap (λ (b : Bool). if b then way else 0) e, gt)
 ]
 
-within_covers : (st : State) (command : Command) (slot : Option ℕ) (last way : ℕ) → MayLose st command slot last → Covers st command slot (within last way) way
-within_covers st command slot last way may old same pieces refused new does = elim (within_is last way) [
+within_covers : (st : State) (names : List Named) (command : Command) (slot : Option ℕ) (last way : ℕ) → MayLose st names command slot last → Covers st names command slot (within last way) way
+within_covers st names command slot last way may old same known pieces refused new does = elim (within_is last way) [
   | inl is ↦ subst (λ (w : ℕ). Does (cut_in old slot w) command pieces refused new) is does
   | inr (is, late) ↦
-      late_way old command slot last way pieces refused new (subst (λ (at : State). MayLose at command slot last) (sym same) may) late (subst (λ (w : ℕ). Does (cut_in old slot w) command pieces refused new) is does)
+      late_way old command slot last way pieces refused new (subst (λ (n : List Named). MayLose old.state n command slot last) (sym known) (subst (λ (at : State). MayLose at names command slot last) (sym same) may)) late (subst (λ (w : ℕ). Does (cut_in old slot w) command pieces refused new) is does)
 ]
 
 -- the way that is tried for a way of a slot's device; without a slot it is way 0
@@ -268,9 +301,9 @@ abbrev tried_for : Option ℕ → ℕ → ℕ → ℕ
 tried_for None last way = 0
 tried_for (Some s) last way = within last way
 
-tried_covers : (st : State) (command : Command) (slot : Option ℕ) (last way : ℕ) → MayLose st command slot last → Covers st command slot (tried_for slot last way) way
-tried_covers st command None last way may old same pieces refused new does = does
-tried_covers st command (Some s) last way may old same pieces refused new does = within_covers st command (Some s) last way may old same pieces refused new does
+tried_covers : (st : State) (names : List Named) (command : Command) (slot : Option ℕ) (last way : ℕ) → MayLose st names command slot last → Covers st names command slot (tried_for slot last way) way
+tried_covers st names command None last way may old same known pieces refused new does = does
+tried_covers st names command (Some s) last way may old same known pieces refused new does = within_covers st names command (Some s) last way may old same known pieces refused new does
 
 within_last : (last way : ℕ) → within last way ≤ last
 within_last last way = elim (leb_tells way last) [
@@ -307,13 +340,19 @@ cut_keeps old None way = refl
 cut_keeps old (Some s) zero = refl
 cut_keeps old (Some s) (suc way) = refl
 
+-- nor of the names
+known_keeps : (old : Seen) (slot : Option ℕ) (way : ℕ) → (cut_in old slot way).names ≡ old.names
+known_keeps old None way = refl
+known_keeps old (Some s) zero = refl
+known_keeps old (Some s) (suc way) = refl
+
 -- two ways cover two others
-both_cover : (old : Seen) (command : Command) (first second : Option ℕ) (tried tested one other : ℕ) → Covers old.state command first tried one → Covers old.state command second tested other → (pieces : List Piece) (refused : Option Refusal) (new : Seen)
+both_cover : (old : Seen) (command : Command) (first second : Option ℕ) (tried tested one other : ℕ) → Covers old.state old.names command first tried one → Covers old.state old.names command second tested other → (pieces : List Piece) (refused : Option Refusal) (new : Seen)
     → Does (cut_in (cut_in old first tried) second tested) command pieces refused new → Does (cut_in (cut_in old first one) second other) command pieces refused new
 both_cover old command first second tried tested one other for_one for_other pieces refused new does =
-    let later = for_other (cut_in old first tried) (cut_keeps old first tried) pieces refused new does in
+    let later = for_other (cut_in old first tried) (cut_keeps old first tried) (known_keeps old first tried) pieces refused new does in
     let turned = subst (λ (s : Seen). Does s command pieces refused new) (cut_in_commutes old first second tried other) later in
-    let both = for_one (cut_in old second other) (cut_keeps old second other) pieces refused new turned in
+    let both = for_one (cut_in old second other) (cut_keeps old second other) (known_keeps old second other) pieces refused new turned in
     subst (λ (s : Seen). Does s command pieces refused new) (cut_in_commutes old second first other one) both
 
 -- the ways that are tried for a way do what that does
@@ -322,17 +361,17 @@ runs_tried old None risk before new way runs = runs
 runs_tried old (Some command) Risk.Nobody before new way runs = runs
 runs_tried old (Some command) (Risk.One name) before new way (pieces, refused, does, came) =
     let last = suc (last_bit old.state command) in
-    let slot = slot_at_risk old (sends command) name in
-    (pieces, refused, within_covers old.state command slot last way (may_lose old command name) old refl pieces refused new does, came)
+    let slot = slot_at_risk old (sends old.state old.names command) name in
+    (pieces, refused, within_covers old.state old.names command slot last way (may_lose old command name) old refl refl pieces refused new does, came)
 runs_tried old (Some command) (Risk.Two name other) before new way (pieces, refused, does, came) =
     let ways = pair way in
     let last = suc (last_bit old.state command) in
-    let first = slot_at_risk old (sends command) name in
-    let second = slot_at_risk old (sends command) other in (
+    let first = slot_at_risk old (sends old.state old.names command) name in
+    let second = slot_at_risk old (sends old.state old.names command) other in (
       pieces,
       refused,
       both_cover old command first second (within last ways.one) (within last ways.other) ways.one ways.other
-          (within_covers old.state command first last ways.one (may_lose old command name)) (within_covers old.state command second last ways.other (may_lose old command other)) pieces refused new does,
+          (within_covers old.state old.names command first last ways.one (may_lose old command name)) (within_covers old.state old.names command second last ways.other (may_lose old command other)) pieces refused new does,
       came,
     )
 
@@ -345,18 +384,18 @@ way_tried old None risk way = (0, (omega arith, λ before new runs. runs))
 way_tried old (Some command) Risk.Nobody way = (0, (omega arith, λ before new runs. runs))
 way_tried old (Some command) (Risk.One name) way =
     let last = suc (last_bit old.state command) in
-    let slot = slot_at_risk old (sends command) name in (
+    let slot = slot_at_risk old (sends old.state old.names command) name in (
       tried_for slot last way,
       (
         tried_last slot last way,
-        λ before new (pieces, refused, does, came). (pieces, refused, tried_covers old.state command slot last way (may_lose old command name) old refl pieces refused new does, came),
+        λ before new (pieces, refused, does, came). (pieces, refused, tried_covers old.state old.names command slot last way (may_lose old command name) old refl refl pieces refused new does, came),
       ),
     )
 way_tried old (Some command) (Risk.Two name other) way =
     let ways = pair way in
     let last = suc (last_bit old.state command) in
-    let first = slot_at_risk old (sends command) name in
-    let second = slot_at_risk old (sends command) other in
+    let first = slot_at_risk old (sends old.state old.names command) name in
+    let second = slot_at_risk old (sends old.state old.names command) other in
     let one = tried_for first last ways.one in
     let two = tried_for second last ways.other in
     let most = if is_some first then last else 0 in
@@ -371,7 +410,7 @@ way_tried old (Some command) (Risk.Two name other) way =
           pieces,
           refused,
           both_cover old command first second one two ways.one ways.other
-              (tried_covers old.state command first last ways.one (may_lose old command name)) (tried_covers old.state command second last ways.other (may_lose old command other)) pieces refused new does,
+              (tried_covers old.state old.names command first last ways.one (may_lose old command name)) (tried_covers old.state old.names command second last ways.other (may_lose old command other)) pieces refused new does,
           came,
         ),
       ),

@@ -27,14 +27,14 @@ heard_so Is (Err (LineError.Refused why)) ended old heard none (pieces, told, is
 heard_so Is (Err LineError.Memory) ended old heard none told same = absurd same
 
 -- a command that was obeyed with the line's cuts is what the line does
-runs_so : (old cut new : Seen) (line : Option Command) (command : Command) (sent : Bool) (risk : Risk) (ways : Ways) (before : Before) (pieces : List Piece) (refused : Option Refusal) → line ≡ Some command → sent ≡ sends command
+runs_so : (old cut new : Seen) (line : Option Command) (command : Command) (sent : Bool) (risk : Risk) (ways : Ways) (before : Before) (pieces : List Piece) (refused : Option Refusal) → line ≡ Some command → sent ≡ sends old.state old.names command
     → cut ≡ cut_as old sent risk ways → Does cut command pieces refused new → before ≡ came_to pieces refused → RunsIn old line risk ways before new
 runs_so old cut new line command sent risk ways before pieces refused is sent_so cut_so does came =
     let whole = subst (λ (b : Bool). Does (cut_as old b risk ways) command pieces refused new) sent_so (subst (λ (s : Seen). Does s command pieces refused new) cut_so does) in
     subst (λ (l : Option Command). RunsIn old l risk ways before new) (sym is) (pieces, refused, whole, came)
 
 -- so it is where the line was heard
-pub ran_heard : (old cut new : Seen) (line : Option Command) (command : Command) (sent : Bool) (risk : Risk) (ways : Ways) (outcome : Result (Unit {0}) (LineError Refusal)) (ended : LineResult) (start heard : Heard) → line ≡ Some command → sent ≡ sends command
+pub ran_heard : (old cut new : Seen) (line : Option Command) (command : Command) (sent : Bool) (risk : Risk) (ways : Ways) (outcome : Result (Unit {0}) (LineError Refusal)) (ended : LineResult) (start heard : Heard) → line ≡ Some command → sent ≡ sends old.state old.names command
     → cut ≡ cut_as old sent risk ways → start ≡ nothing_heard → Hears heard_with (λ (pieces : List Piece) (refused : Option Refusal). Does cut command pieces refused new) start heard outcome → IsEndOf outcome ended → RunsIn old line risk ways (known ended heard) new
 ran_heard old cut new line command sent risk ways outcome ended start heard is sent_so cut_so none hears same =
     let (pieces, refused, does, came) = heard_so (λ (pieces : List Piece) (refused : Option Refusal). Does cut command pieces refused new) outcome ended start heard none hears same in
@@ -42,7 +42,7 @@ ran_heard old cut new line command sent risk ways outcome ended start heard is s
 
 -- and where nobody heard it
 pub ran_unheard : {L : Type 0} (hears : L → Piece → L) (old cut new : Seen) (line : Option Command) (command : Command) (sent : Bool) (risk : Risk) (ways : Ways) (outcome : Result (Unit {0}) (LineError Refusal)) (ended : LineResult) (start heard : L) → line ≡ Some command
-    → sent ≡ sends command → cut ≡ cut_as old sent risk ways → Hears hears (λ (pieces : List Piece) (refused : Option Refusal). Does cut command pieces refused new) start heard outcome → IsEndOf outcome ended → (before : Before) × RunsIn old line risk ways before new
+    → sent ≡ sends old.state old.names command → cut ≡ cut_as old sent risk ways → Hears hears (λ (pieces : List Piece) (refused : Option Refusal). Does cut command pieces refused new) start heard outcome → IsEndOf outcome ended → (before : Before) × RunsIn old line risk ways before new
 ran_unheard hears old cut new line command sent risk ways (Ok done) ended start heard is sent_so cut_so (pieces, told, does) same =
     (came_to pieces None, runs_so old cut new line command sent risk ways (came_to pieces None) pieces None is sent_so cut_so does refl)
 ran_unheard hears old cut new line command sent risk ways (Err (LineError.Refused why)) ended start heard is sent_so cut_so (pieces, told, does) same =

@@ -1,17 +1,18 @@
 -- A line that sets nothing leaves the settings and the names as they are.
 use Rattle.std.proofs.Common.{◌≡◌, ◌∙◌, ℕ, zero, suc, Bool, false, [], List, Option, Some, None, Result, Ok, Err, ap, inl, inr, refl, sym}
-use Rattle.std.specs.Prelude.{MatchResult}
+use Rattle.std.specs.Prelude.{MatchOption, MatchResult}
 use Rattle.std.proofs.lemmas.Bool.{false≢true}
 use Rattle.i3c_facts.specs.declared.before.Before.{Before}
 use Rattle.i3c_lines.specs.declared.command.Command.{Command}
 use Rattle.i3c_lines.specs.declared.names.Name.{Name}
 use Rattle.i3c_lines.specs.declared.refusals.Refusal.{Refusal}
+use Rattle.i3c_lines.specs.declared.sent.Sent.{Sent}
 use Rattle.i3c_lines.specs.Keeping.{slot_meant}
 use Rattle.i3c_script.specs.declared.past.Unkept.{Unkept}
 use Rattle.i3c_script.specs.declared.piece.Piece.{Piece}
-use Rattle.i3c_script.specs.Asking.{slot_of_device}
+use Rattle.i3c_script.specs.Asking.{acting_refusal, slot_of_device}
 use Rattle.i3c_script.specs.Assigning.{Assigns}
-use Rattle.i3c_script.specs.Obeying.{Answers, AnswersIn, Does as DoesOn, IsDone, IsRefused, cut_at}
+use Rattle.i3c_script.specs.Obeying.{Acts, Answers, AnswersIn, Does as DoesOn, IsDone, IsRefused, cut_at}
 use Rattle.i3c_script.specs.Situations.{Situation}
 use Rattle.i3c_script.specs.Unkept.{no_past}
 use Rattle.i3c_step.specs.declared.events.Event.{Event}
@@ -43,18 +44,33 @@ assigned : (old new : Situation Unkept) (pieces : List Piece) (refused : Option 
 assigned old new pieces refused (inl (served, given, complete, session, told, why)) = session.settings
 assigned old new pieces refused (inr (why, moves, told, is)) = moves.settings
 
+-- a line that the active controller sends keeps them
+acts_keep : (old new : Situation Unkept) (sent : Sent) (pieces : List Piece) (refused : Option Refusal) → Acts no_past old sent pieces refused new → Keeps old new
+acts_keep old new (Sent.Frame frame) pieces refused (fixed, accepts, answers) = answers.1.settings
+acts_keep old new (Sent.HandOver to) pieces refused h = h.1.settings
+acts_keep old new Sent.Open pieces refused h = h.1.settings
+acts_keep old new Sent.Round pieces refused h = h.1.settings
+acts_keep old new Sent.End pieces refused h = h.1.settings
+acts_keep old new Sent.Daa pieces refused h = assigned old new pieces refused h
+
+acts_as_keep : (why : Option Refusal) (old new : Situation Unkept) (sent : Sent) (pieces : List Piece) (refused : Option Refusal)
+    → MatchOption why (Acts no_past old sent pieces refused new) (λ one. (new ≡ old) × IsRefused one pieces refused) → Keeps old new
+acts_as_keep None old new sent pieces refused h = acts_keep old new sent pieces refused h
+acts_as_keep (Some why) old new sent pieces refused h = same_kept old old new refl h.0
+
 keeps : (old new : Situation Unkept) (names : List Named) (command : Command) (pieces : List Piece) (refused : Option Refusal) → sets_some (Some command) ≡ false → DoesOn no_past known_kept old names command pieces refused new → Keeps old new
-keeps old new names (Command.Frame frame) pieces refused n (fixed, accepts, answers) = answers.1.settings
+keeps old new names (Command.Frame frame) pieces refused n h = acts_keep old new (Sent.Frame frame) pieces refused h
 keeps old new names (Command.Attach name setup) pieces refused n h = absurd h
 keeps old new names (Command.DropOff name) pieces refused n h = answered_in old new names name Event.DropOff pieces refused h
 keeps old new names (Command.Raise name byte) pieces refused n h = answered_in old new names name (λ slot. Event.Raise slot byte) pieces refused h
 keeps old new names (Command.AskJoin name) pieces refused n h = answered_in old new names name Event.AskJoin pieces refused h
 keeps old new names (Command.AskRole name) pieces refused n h = answered_in old new names name Event.AskRole pieces refused h
-keeps old new names (Command.HandOver to) pieces refused n h = h.1.settings
-keeps old new names Command.Open pieces refused n h = h.1.settings
-keeps old new names Command.Round pieces refused n h = h.1.settings
-keeps old new names Command.End pieces refused n h = h.1.settings
-keeps old new names Command.Daa pieces refused n h = assigned old new pieces refused h
+keeps old new names (Command.HandOver to) pieces refused n h = acts_keep old new (Sent.HandOver to) pieces refused h
+keeps old new names Command.Open pieces refused n h = acts_keep old new Sent.Open pieces refused h
+keeps old new names Command.Round pieces refused n h = acts_keep old new Sent.Round pieces refused h
+keeps old new names Command.End pieces refused n h = acts_keep old new Sent.End pieces refused h
+keeps old new names Command.Daa pieces refused n h = acts_keep old new Sent.Daa pieces refused h
+keeps old new names (Command.As name sent) pieces refused n h = acts_as_keep (acting_refusal known_kept old.state names name) old new sent pieces refused h
 keeps old new names (Command.Policy kinds) pieces refused n h = absurd (false≢true (sym n))
 keeps old new names (Command.PolicyBut kinds but) pieces refused n h = absurd (false≢true (sym n))
 keeps old new names (Command.Cut name bit) pieces refused n h =
@@ -89,6 +105,7 @@ does_same old new (Command.ShowAll) pieces refused n (same, h) = record { settin
 does_same old new (Command.ShowFrom first) pieces refused n (same, h) = record { settings = keeps (on_bus old) (on_bus new) old.names (Command.ShowFrom first) pieces refused n h; names = same }
 does_same old new (Command.Forget last) pieces refused n (same, h) = record { settings = keeps (on_bus old) (on_bus new) old.names (Command.Forget last) pieces refused n h; names = same }
 does_same old new (Command.Symbols) pieces refused n (same, h) = record { settings = keeps (on_bus old) (on_bus new) old.names (Command.Symbols) pieces refused n h; names = same }
+does_same old new (Command.As name sent) pieces refused n (same, h) = record { settings = keeps (on_bus old) (on_bus new) old.names (Command.As name sent) pieces refused n h; names = same }
 does_same old new (Command.Frames count) pieces refused n (same, h) = record { settings = keeps (on_bus old) (on_bus new) old.names (Command.Frames count) pieces refused n h; names = same }
 does_same old new (Command.Legacy name address lvr) pieces refused n (same, h) = record { settings = keeps (on_bus old) (on_bus new) old.names (Command.Legacy name address lvr) pieces refused n h; names = same }
 does_same old new (Command.Declare address identity) pieces refused n (same, h) = record { settings = keeps (on_bus old) (on_bus new) old.names (Command.Declare address identity) pieces refused n h; names = same }
@@ -114,5 +131,5 @@ cut_as_same old sent (Risk.Two one other) ways =
 pub run_same : (old new : Seen) (command : Option Command) (risk : Risk) (ways : Ways) (before : Before) → sets_some command ≡ false → RunsIn old command risk ways before new → HasSameSettings old new
 run_same old new None risk ways before n h = record { settings = ap (λ (s : Seen). s.settings) h.0; names = ap (λ (s : Seen). s.names) h.0 }
 run_same old new (Some command) risk ways before n (pieces, refused, does, came) =
-    let cut = cut_as old (sends command) risk ways in
-    both_same old cut new (cut_as_same old (sends command) risk ways) (does_same cut new command pieces refused n does)
+    let cut = cut_as old (sends old.state old.names command) risk ways in
+    both_same old cut new (cut_as_same old (sends old.state old.names command) risk ways) (does_same cut new command pieces refused n does)

@@ -4,12 +4,14 @@ use Rattle.i3c_base.specs.State.{State, device_at}
 use Rattle.i3c_lines.specs.declared.command.Command.{Command}
 use Rattle.i3c_lines.specs.declared.names.Place.{Place}
 use Rattle.i3c_lines.specs.declared.refusals.Refusal.{Refusal}
+use Rattle.i3c_lines.specs.Sending.{has_frame}
 use Rattle.i3c_script.specs.declared.past.Unkept.{Unkept}
 use Rattle.i3c_script.specs.declared.piece.Piece.{Piece}
 use Rattle.i3c_script.specs.Obeying.{ObeysOn, cut_at}
 use Rattle.i3c_script.specs.Situations.{Situation, situation}
 use Rattle.i3c_script.specs.Unkept.{no_past}
-use Rattle.i3c_scene.specs.Scenes.{Seen, known_kept, seen}
+use Rattle.i3c_scene.specs.declared.named.Named.{Named}
+use Rattle.i3c_scene.specs.Scenes.{Seen, known_kept, place_in, seen}
 
 -- a scene without its names, as a bus of which no past is kept
 abbrev pub on_bus : Seen → Situation Unkept
@@ -19,14 +21,20 @@ on_bus scene = situation scene.state scene.settings scene.cuts (record {})
 abbrev pub Does : Seen → Command → List Piece → Option Refusal → Seen → Type 0
 Does old command pieces refused new = ObeysOn no_past known_kept (on_bus old) old.names command pieces refused (on_bus new) new.names
 
--- whether a command sends a frame that takes the cuts that wait
-abbrev pub sends : Command → Bool
-sends (Command.Frame frame) = true
-sends (Command.HandOver to) = true
-sends Command.Open = true
-sends Command.Round = true
-sends Command.Daa = true
-sends _ = false
+-- whether the active controller's device is at this place
+abbrev pub is_acting : State → Option Place → Bool
+is_acting st (Some (Place.Slot s)) = is_some (device_at st s) && (s == st.active)
+is_acting st _ = false
+
+-- whether a command sends a frame that takes the cuts that wait: behind `as NAME` only that of the active controller does
+abbrev pub sends : State → List Named → Command → Bool
+sends st names (Command.Frame frame) = true
+sends st names (Command.HandOver to) = true
+sends st names Command.Open = true
+sends st names Command.Round = true
+sends st names Command.Daa = true
+sends st names (Command.As name sent) = is_acting st (place_in names name) && has_frame sent
+sends st names _ = false
 
 -- the slot of the device that a name means, unless it is gone or the active controller
 abbrev pub risked : State → Option Place → Option ℕ

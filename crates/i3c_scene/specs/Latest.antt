@@ -5,6 +5,7 @@ use Rattle.i3c_base.specs.Frames.{list_bits}
 use Rattle.i3c_step.specs.declared.events.Command.{Command as Frame}
 use Rattle.i3c_lines.specs.declared.command.Command.{Command}
 use Rattle.i3c_lines.specs.declared.names.Name.{Name}
+use Rattle.i3c_lines.specs.declared.sent.Sent.{Sent}
 use Rattle.i3c_scene.specs.declared.line.Line.{Line}
 use Rattle.i3c_scene.specs.declared.risk.Risk.{Risk}
 use Rattle.i3c_scene.specs.declared.ways.Ways.{Ways}
@@ -30,13 +31,23 @@ last_of_frame st (Frame.Get what at) = 90
 last_of_frame st (Frame.SetLength way most None) = 45
 last_of_frame st (Frame.SetLength way most (Some at)) = 54
 
--- the number of the last bit that a command's frame can have; 0 if it sends none
+-- the same of a line that a controller sends; 0 if it sends no frame
+abbrev pub last_of_sent : State → Sent → ℕ
+last_of_sent st (Sent.Frame frame) = last_of_frame st frame
+last_of_sent st (Sent.HandOver to) = 36
+last_of_sent st Sent.Open = 18
+last_of_sent st Sent.Daa = 18
+last_of_sent st Sent.Round = 73
+last_of_sent st Sent.End = 0
+
+-- the same of a command; 0 if it sends no frame
 abbrev pub last_bit : State → Command → ℕ
-last_bit st (Command.Frame frame) = last_of_frame st frame
-last_bit st (Command.HandOver to) = 36
-last_bit st Command.Open = 18
-last_bit st Command.Daa = 18
-last_bit st Command.Round = 73
+last_bit st (Command.Frame frame) = last_of_sent st (Sent.Frame frame)
+last_bit st (Command.HandOver to) = last_of_sent st (Sent.HandOver to)
+last_bit st Command.Open = last_of_sent st Sent.Open
+last_bit st Command.Daa = last_of_sent st Sent.Daa
+last_bit st Command.Round = last_of_sent st Sent.Round
+last_bit st (Command.As name sent) = last_of_sent st sent
 last_bit st _ = 0
 
 -- the last way in which a device is cut at a bit of the command's frame
@@ -47,7 +58,7 @@ last_cut st (Some command) = suc (last_bit st command)
 -- the last way of a name's device that has to be tried. A device that can't be cut in the frame has way 0 alone
 abbrev pub last_of : Seen → Option Command → Name → ℕ
 last_of old None name = 0
-last_of old (Some command) name = if is_some (slot_at_risk old (sends command) name) then last_cut old.state (Some command) else 0
+last_of old (Some command) name = if is_some (slot_at_risk old (sends old.state old.names command) name) then last_cut old.state (Some command) else 0
 
 -- the last way of a line that has to be tried
 abbrev pub latest : Seen → Risk → Option Command → ℕ

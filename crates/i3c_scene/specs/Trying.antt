@@ -43,7 +43,7 @@ IsEndOf (Err LineError.Memory) ended = ⊥
 -- a line runs in these ways of the devices at risk, with this result
 abbrev pub RunsIn : Seen → Option Command → Risk → Ways → Before → Seen → Type 0
 RunsIn old None risk ways before new = (new ≡ old) × (before ≡ no_line)
-RunsIn old (Some command) risk ways before new = (pieces : List Piece) × (refused : Option Refusal) × Does (cut_as old (sends command) risk ways) command pieces refused new × (before ≡ came_to pieces refused)
+RunsIn old (Some command) risk ways before new = (pieces : List Piece) × (refused : Option Refusal) × Does (cut_as old (sends old.state old.names command) risk ways) command pieces refused new × (before ≡ came_to pieces refused)
 
 -- a line runs in a way, with this result
 abbrev pub Runs : Seen → Option Command → Risk → ℕ → Before → Seen → Type 0

@@ -2,11 +2,10 @@ use crate::line::Line;
 use crate::risk::Risk;
 use crate::runner::Runner;
 use crate::scene::Scene;
-use crate::scene_bus::sends;
 use crate::ways::{Ways, ways_of};
 use i3c_base::Slot;
 use i3c_explore::Machine;
-use i3c_lines::{Command, Name, Naming, Place};
+use i3c_lines::{Command, Name, Naming, Place, Sent};
 use i3c_step::Command as Frame;
 use std::alloc::{AllocError, Global};
 
@@ -79,8 +78,8 @@ impl Machine for Scene {
 
 impl Scene {
     ghost use Rattle.std.specs.Prelude.{◌≡◌, ◌<◌, ◌≤◌, ◌+◌, ◌^◌, None, is_some, IfOk, IfSome};
-    ghost use Rattle.i3c_scene.specs.Going.{risked};
-    ghost use Rattle.i3c_scene.specs.Latest.{last_bit, last_cut, last_of, last_of_frame, latest, tried_as};
+    ghost use Rattle.i3c_scene.specs.Going.{is_acting, risked, sends};
+    ghost use Rattle.i3c_scene.specs.Latest.{last_bit, last_cut, last_of, last_of_frame, last_of_sent, latest, tried_as};
     ghost use Rattle.i3c_scene.specs.Trying.{LineBreaks, LineSteps, slot_at_risk};
 
     /// The scene after a line in a way, or none if the line breaks an expectation.
@@ -121,9 +120,37 @@ impl Scene {
         ensures small { result ≤ 4501 }
     {
         match &line.command {
-            Some(command) if self.is_at_risk(sends(command), name) => self.last_cut(line),
+            Some(command) if self.is_at_risk(self.sends(command), name) => self.last_cut(line),
             _ => 0,
         }
+    }
+
+    /// Whether a command sends a frame that takes the cuts that wait: behind `as NAME` only that of the active controller does.
+    fn sends(&self, command: &Command) -> bool
+        ensures { result ≡ sends self.now.state self.now.names command.now }
+    {
+        match command {
+            Command::Frame(_)
+            | Command::HandOver { .. }
+            | Command::Open
+            | Command::Round
+            | Command::Daa => true,
+            Command::As { name, sent } => {
+                self.is_acting(self.rest.known.place_of(name)) && sent.has_frame()
+            }
+            _ => false,
+        }
+    }
+
+    /// Whether the active controller's device is at this place.
+    fn is_acting(&self, place: Option<Place>) -> bool
+        ensures { result ≡ is_acting self.now.state place }
+    {
+        let Some(Place::Slot(slot)) = place else {
+            return false;
+        };
+        let still = &*self.rest.still;
+        still.present(slot) && slot == still.active()
     }
 
     /// Whether a name's device may lose power in the line's frame.
@@ -182,7 +209,22 @@ impl Scene {
             Command::HandOver { .. } => 36,
             Command::Open | Command::Daa => 18,
             Command::Round => 73,
+            Command::As { sent, .. } => self.last_of_sent(sent),
             _ => 0,
+        }
+    }
+
+    /// The same of a line that a controller sends.
+    fn last_of_sent(&self, sent: &Sent) -> usize
+        ensures bit { result ≡ last_of_sent self.now.state sent.now }
+        ensures small { result ≤ 4500 }
+    {
+        match sent {
+            Sent::Frame(frame) => self.last_of_frame(frame),
+            Sent::HandOver { .. } => 36,
+            Sent::Open | Sent::Daa => 18,
+            Sent::Round => 73,
+            Sent::End => 0,
         }
     }
 

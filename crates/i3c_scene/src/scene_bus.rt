@@ -1,5 +1,4 @@
 ghost use Rattle.std.specs.Prelude.{◌≡◌, IfOk};
-ghost use Rattle.i3c_scene.specs.Going.{sends};
 ghost use Rattle.i3c_scene.specs.Trying.{IsEndOf};
 ghost use Rattle.i3c_scene.specs.Near.{sets_some};
 
@@ -69,7 +68,7 @@ impl SceneBus {
     ghost use Rattle.i3c_facts.specs.declared.before.Before.{Before as BeforeValue};
     ghost use Rattle.i3c_scene.specs.Trying.{RunsIn, all_hold, cut_as, slot_at_risk};
     ghost use Rattle.i3c_scene.specs.declared.ways.Ways.{Ways as WaysValue};
-    ghost use Rattle.i3c_scene.specs.Going.{Does, cut_in, risked};
+    ghost use Rattle.i3c_scene.specs.Going.{Does, cut_in, is_acting, risked, sends};
 
     /// It comes to a scene. `is_set` says that it has the scene's settings and names.
     pub(crate) fn wake_to(
@@ -221,7 +220,8 @@ impl SceneBus {
         let Some(command) = &line.command else {
             return Ok(());
         };
-        self.cut_as(sends(command), &line.risk, ways);
+        let sent = self.sends(command);
+        self.cut_as(sent, &line.risk, ways);
         match end_of(self.obey(command, &mut Deaf)) {
             Ok(_) => Ok(()),
             Err(short) => Err(short),
@@ -237,13 +237,42 @@ impl SceneBus {
         let Some(command) = &line.command else {
             return Ok(Before::nothing());
         };
-        self.cut_as(sends(command), &line.risk, ways);
+        let sent = self.sends(command);
+        self.cut_as(sent, &line.risk, ways);
         let mut heard = Heard::nothing();
         let ended = end_of(self.obey(command, &mut heard))?;
         Ok(Before {
             result: ended,
             heard,
         })
+    }
+
+    /// Whether a command sends a frame that takes the cuts that wait: behind `as NAME` only that of the active controller does.
+    fn sends(&self, command: &Command) -> bool
+        ensures { result ≡ sends self.now.state self.now.names command.now }
+    {
+        match command {
+            Command::Frame(_)
+            | Command::HandOver { .. }
+            | Command::Open
+            | Command::Round
+            | Command::Daa => true,
+            Command::As { name, sent } => {
+                self.is_acting(self.known.place_of(name)) && sent.has_frame()
+            }
+            _ => false,
+        }
+    }
+
+    /// Whether the active controller's device is at this place.
+    fn is_acting(&self, place: Option<Place>) -> bool
+        ensures { result ≡ is_acting self.now.state place }
+    {
+        let Some(Place::Slot(slot)) = place else {
+            return false;
+        };
+        let bus = self.bus.bus();
+        bus.present(slot) && slot == bus.active()
     }
 
     /// Cuts the devices at risk in these ways, where the line sends a frame.
@@ -353,18 +382,4 @@ pub(crate) fn sets_some(command: &Option<Command>) -> bool
                 | Command::Forget(_)
         )
     )
-}
-
-/// Whether a command sends a frame that takes the cuts that wait.
-pub(crate) fn sends(command: &Command) -> bool
-    ensures { result ≡ sends command.now }
-{
-    match command {
-        Command::Frame(_)
-        | Command::HandOver { .. }
-        | Command::Open
-        | Command::Round
-        | Command::Daa => true,
-        _ => false,
-    }
 }

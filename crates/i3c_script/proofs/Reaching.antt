@@ -22,16 +22,17 @@ use Rattle.i3c_lines.specs.declared.command.Command.{Command}
 use Rattle.i3c_lines.specs.declared.names.Name.{Name}
 use Rattle.i3c_lines.specs.declared.names.Names.{Names}
 use Rattle.i3c_lines.specs.declared.refusals.Refusal.{Refusal}
+use Rattle.i3c_lines.specs.declared.sent.Sent.{Sent}
 use Rattle.i3c_lines.specs.Keeping.{NamesSlot, names_kept, slot_meant}
 use Rattle.i3c_script.specs.declared.piece.Piece.{Piece}
 use Rattle.i3c_script.specs.declared.replies.Subject.{Subject}
 use Rattle.i3c_script.specs.declared.settings.Settings.{Settings}
 use Rattle.i3c_script.specs.declared.stage.Stage.{Stage}
-use Rattle.i3c_script.specs.Asking.{slot_of_device, slots_named}
+use Rattle.i3c_script.specs.Asking.{acting_refusal, slot_of_device, slots_named}
 use Rattle.i3c_script.specs.Assigning.{Assigns, IsSession, Moves, Rounds}
 use Rattle.i3c_script.specs.Leading.{AreLegal, AreLegalBehind, Lead, Obeyed, made}
-use Rattle.i3c_script.specs.Making.{Made, assigns_made, command_made, does_made, enters_made, events_of, on_bus_made, one, pieces_made, replies_of, rounds_made, session_made, slot_made}
-use Rattle.i3c_script.specs.Obeying.{AddsLegacy, Answers, AnswersOf, ComesTo, Declares, Does, IsBegun, IsDone, IsRefused, ObeysAt, ObeysBefore, ObeysOn, Relieves, ScriptState, Sets, Starts, declare_refusal, legacy_refusal, main_refusal, script}
+use Rattle.i3c_script.specs.Making.{Made, acts_as_made, acts_made, assigns_made, command_made, does_made, enters_made, events_of, on_bus_made, one, pieces_made, replies_of, rounds_made, session_made, slot_made}
+use Rattle.i3c_script.specs.Obeying.{Acts, AddsLegacy, Answers, AnswersOf, ComesTo, Declares, Does, IsBegun, IsDone, IsRefused, ObeysAt, ObeysBefore, ObeysOn, Relieves, ScriptState, Sets, Starts, declare_refusal, legacy_refusal, main_refusal, script}
 use Rattle.i3c_script.specs.Situations.{Situation, Told, told_past}
 
 -- steps, one list behind the other
@@ -126,17 +127,33 @@ forgets_on steps old new last (gone, many, legal) (settings, st, lets, same) =
     ap (λ (l : List Record). record old.state { records = l }) whole ∙ ap (λ (s : State). record s { records = (gone ++ lets.gone) ++ st.records }) (sym lets.log) in
     stays steps (record old { state = st; settings = settings }) new (gone ++ lets.gone, all, subst (AreLegal steps) log legal) same
 
+-- a line that the active controller sends
+acts_on : (steps : List Made) (old new : Situation Told) (sent : Sent) (pieces : List Piece) (refused : Option Refusal) → AreLegalBehind steps old → (h : Acts told_past old sent pieces refused new) → AreLegalBehind (steps ++ acts_made old sent pieces refused new h) new
+acts_on steps old new (Sent.Frame frame) pieces refused r (fixed, accepts, (reply, m, told)) = moves_on steps old new _ reply r m
+acts_on steps old new (Sent.HandOver to) pieces refused r (reply, m, told) = moves_on steps old new _ reply r m
+acts_on steps old new Sent.Open pieces refused r (reply, m, told) = moves_on steps old new _ reply r m
+acts_on steps old new Sent.Round pieces refused r (reply, m, told) = moves_on steps old new _ reply r m
+acts_on steps old new Sent.End pieces refused r (reply, m, told) = moves_on steps old new _ reply r m
+acts_on steps old new Sent.Daa pieces refused r h = assigns_on steps old new pieces refused r h
+
+-- the same of a controller with a name
+acts_as_on : (steps : List Made) (why : Option Refusal) (old new : Situation Told) (sent : Sent) (pieces : List Piece) (refused : Option Refusal) → AreLegalBehind steps old
+    → (h : MatchOption why (Acts told_past old sent pieces refused new) (λ one. (new ≡ old) × IsRefused one pieces refused)) → AreLegalBehind (steps ++ acts_as_made why old sent pieces refused new h) new
+acts_as_on steps None old new sent pieces refused r h = acts_on steps old new sent pieces refused r h
+acts_as_on steps (Some why) old new sent pieces refused r h = stays steps old new r h.0
+
 does_on : (steps : List Made) (old new : Situation Told) (names : Names) (command : Command) (pieces : List Piece) (refused : Option Refusal) → AreLegalBehind steps old → (h : Does told_past names_kept old names command pieces refused new) → AreLegalBehind (steps ++ does_made old names command pieces refused new h) new
-does_on steps old new names (Command.Frame frame) pieces refused r (fixed, accepts, (reply, m, told)) = moves_on steps old new _ reply r m
+does_on steps old new names (Command.Frame frame) pieces refused r h = acts_on steps old new (Sent.Frame frame) pieces refused r h
 does_on steps old new names (Command.DropOff name) pieces refused r h = in_on steps (slot_meant names_kept names name) old new Event.DropOff pieces refused r h
 does_on steps old new names (Command.Raise name byte) pieces refused r h = in_on steps (slot_meant names_kept names name) old new (λ slot. Event.Raise slot byte) pieces refused r h
 does_on steps old new names (Command.AskJoin name) pieces refused r h = in_on steps (slot_meant names_kept names name) old new Event.AskJoin pieces refused r h
 does_on steps old new names (Command.AskRole name) pieces refused r h = in_on steps (slot_meant names_kept names name) old new Event.AskRole pieces refused r h
-does_on steps old new names (Command.HandOver to) pieces refused r (reply, m, told) = moves_on steps old new _ reply r m
-does_on steps old new names Command.Open pieces refused r (reply, m, told) = moves_on steps old new _ reply r m
-does_on steps old new names Command.Round pieces refused r (reply, m, told) = moves_on steps old new _ reply r m
-does_on steps old new names Command.End pieces refused r (reply, m, told) = moves_on steps old new _ reply r m
-does_on steps old new names Command.Daa pieces refused r h = assigns_on steps old new pieces refused r h
+does_on steps old new names (Command.HandOver to) pieces refused r h = acts_on steps old new (Sent.HandOver to) pieces refused r h
+does_on steps old new names Command.Open pieces refused r h = acts_on steps old new Sent.Open pieces refused r h
+does_on steps old new names Command.Round pieces refused r h = acts_on steps old new Sent.Round pieces refused r h
+does_on steps old new names Command.End pieces refused r h = acts_on steps old new Sent.End pieces refused r h
+does_on steps old new names Command.Daa pieces refused r h = acts_on steps old new Sent.Daa pieces refused r h
+does_on steps old new names (Command.As name sent) pieces refused r h = acts_as_on steps (acting_refusal names_kept old.state names name) old new sent pieces refused r h
 does_on steps old new names (Command.Policy kinds) pieces refused r h = sets_on steps old new kinds [] r h.0
 does_on steps old new names (Command.PolicyBut kinds but) pieces refused r h = excepts_on steps (slots_named (slot_of_device names_kept old.state names) but.items) old new kinds pieces refused r h
 does_on steps old new names (Command.Cut name bit) pieces refused r h = cut_on steps (slot_of_device names_kept old.state names name) old new _ pieces refused (λ slot. r) r h
@@ -178,6 +195,7 @@ obeys_on steps old new names named (Command.ShowFrom first) pieces refused r (sa
 obeys_on steps old new names named (Command.Forget last) pieces refused r (same, h) = does_on steps old new names (Command.Forget last) pieces refused r h
 obeys_on steps old new names named Command.Symbols pieces refused r (same, h) = does_on steps old new names Command.Symbols pieces refused r h
 obeys_on steps old new names named (Command.Frames count) pieces refused r (same, h) = does_on steps old new names (Command.Frames count) pieces refused r h
+obeys_on steps old new names named (Command.As name sent) pieces refused r (same, h) = does_on steps old new names (Command.As name sent) pieces refused r h
 obeys_on steps old new names named (Command.Legacy name address lvr) pieces refused r (same, h) = does_on steps old new names (Command.Legacy name address lvr) pieces refused r h
 obeys_on steps old new names named (Command.Declare address identity) pieces refused r (same, h) = does_on steps old new names (Command.Declare address identity) pieces refused r h
 obeys_on steps old new names named (Command.Main name setup) pieces refused r (same, h) = does_on steps old new names (Command.Main name setup) pieces refused r h
@@ -233,6 +251,7 @@ before_on steps board names (Command.PolicyBut kinds but) pieces refused new non
 before_on steps board names (Command.Forget last) pieces refused new none h = same_before steps board names new none h.0
 before_on steps board names Command.Symbols pieces refused new none h = same_before steps board names new none h.0
 before_on steps board names (Command.Frames count) pieces refused new none h = same_before steps board names new none h.0
+before_on steps board names (Command.As name sent) pieces refused new none h = same_before steps board names new none h.0
 
 comes_on : (steps : List Made) (stage : Stage) (names : Names) (command : Command) (pieces : List Piece) (refused : Option Refusal) (new : ScriptState) → IsSound steps stage → (h : ComesTo stage names command pieces refused new)
     → IsSound (steps ++ pieces_made stage names command pieces refused new h) new.stage

@@ -1,5 +1,5 @@
 -- The slots that a line's names stand for, and where a device enters.
-use Rattle.std.specs.Prelude.{ℕ, ◌<◌, List, [], ◌∷◌, Option, Some, None, Result, Ok, Err, if◌then◌else◌, is_some}
+use Rattle.std.specs.Prelude.{ℕ, ◌<◌, ◌==◌, List, [], ◌∷◌, Option, Some, None, Result, Ok, Err, if◌then◌else◌, is_some}
 use Rattle.i3c_base.specs.declared.range.TheConstants.{SLOTS}
 use Rattle.i3c_base.specs.State.{State, IsPresent, device_at}
 use Rattle.i3c_step.specs.declared.replies.Refusal.{Refusal as BusRefusal}
@@ -17,6 +17,15 @@ present_in st (Err why) = Err why
 -- the slot of the present device that a name means
 abbrev pub slot_of_device : {N : Type 0} → NamesKept N → State → N → Name → Result ℕ Refusal
 slot_of_device kept st names name = present_in st (slot_meant kept names name)
+
+-- why a line of the controller in this slot is refused, if it is: only the active controller sends
+abbrev pub acting_in : State → Result ℕ Refusal → Option Refusal
+acting_in st (Ok slot) = if slot == st.active then None else Some Refusal.NotActive
+acting_in st (Err why) = Some why
+
+-- the same of the controller that a name means
+abbrev pub acting_refusal : {N : Type 0} → NamesKept N → State → N → Name → Option Refusal
+acting_refusal kept st names name = acting_in st (slot_of_device kept st names name)
 
 -- a slot and those of other names, unless one is refused
 abbrev pub with_others : Result ℕ Refusal → Result (List ℕ) Refusal → Result (List ℕ) Refusal

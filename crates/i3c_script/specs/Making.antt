@@ -1,5 +1,5 @@
 -- The steps of the bus that a script's commands are, in order.
-use Rattle.std.specs.Prelude.{◌≡◌, ℕ, Bool, List, [], ◌∷◌, ◌++◌, map, Option, Result, Ok, Err, MatchResult}
+use Rattle.std.specs.Prelude.{◌≡◌, ℕ, Bool, List, [], ◌∷◌, ◌++◌, map, Option, Some, None, Result, Ok, Err, MatchOption, MatchResult}
 use Rattle.std.proofs.Common.{inl, inr}
 use Rattle.i3c_base.specs.declared.answers.RoundReply.{RoundReply}
 use Rattle.i3c_base.specs.declared.identity.Identity.{Identity}
@@ -15,11 +15,13 @@ use Rattle.i3c_lines.specs.declared.command.Command.{Command}
 use Rattle.i3c_lines.specs.declared.names.Name.{Name}
 use Rattle.i3c_lines.specs.declared.names.Names.{Names}
 use Rattle.i3c_lines.specs.declared.refusals.Refusal.{Refusal}
+use Rattle.i3c_lines.specs.declared.sent.Sent.{Sent}
 use Rattle.i3c_script.specs.declared.piece.Piece.{Piece}
 use Rattle.i3c_script.specs.declared.replies.Subject.{Subject}
 use Rattle.i3c_script.specs.declared.stage.Stage.{Stage}
+use Rattle.i3c_script.specs.Asking.{acting_refusal}
 use Rattle.i3c_script.specs.Assigning.{Assigns}
-use Rattle.i3c_script.specs.Obeying.{Answers, AnswersOf, ComesTo, Does, IsRefused, ObeysAt, ObeysOn, ScriptState}
+use Rattle.i3c_script.specs.Obeying.{Acts, Answers, AnswersOf, ComesTo, Does, IsRefused, ObeysAt, ObeysOn, ScriptState}
 use Rattle.i3c_script.specs.Pieces.{subject_of}
 use Rattle.i3c_script.specs.Situations.{Situation, Told, told_past}
 
@@ -70,18 +72,34 @@ abbrev pub enters_made : (entrance : Result ℕ Refusal) (old : Situation Told) 
 enters_made (Ok slot) old names named name event pieces refused new enters = answer_made (Subject.Attached name slot) old (event slot) pieces refused new enters.1
 enters_made (Err why) old names named name event pieces refused new refuses = []
 
+-- the events of a line that the active controller sends, with their replies
+abbrev pub acts_made : (old : Situation Told) (sent : Sent) (pieces : List Piece) (refused : Option Refusal) (new : Situation Told) → Acts told_past old sent pieces refused new → List Made
+acts_made old (Sent.Frame frame) pieces refused new (fixed, accepts, answers) = answer_made (subject_of (event_of frame fixed old.cuts)) old (event_of frame fixed old.cuts) pieces refused new answers
+acts_made old (Sent.HandOver to) pieces refused new does = answer_made (subject_of (Event.HandOver to old.cuts)) old (Event.HandOver to old.cuts) pieces refused new does
+acts_made old Sent.Open pieces refused new does = answer_made (subject_of (Event.OpenDaa old.cuts)) old (Event.OpenDaa old.cuts) pieces refused new does
+acts_made old Sent.Round pieces refused new does = answer_made (subject_of (Event.Round old.cuts)) old (Event.Round old.cuts) pieces refused new does
+acts_made old Sent.End pieces refused new does = answer_made (subject_of Event.EndDaa) old Event.EndDaa pieces refused new does
+acts_made old Sent.Daa pieces refused new does = assigns_made old pieces refused new does
+
+-- the same of a controller with a name: none where it is refused
+abbrev pub acts_as_made : (why : Option Refusal) (old : Situation Told) (sent : Sent) (pieces : List Piece) (refused : Option Refusal) (new : Situation Told)
+    → MatchOption why (Acts told_past old sent pieces refused new) (λ one. (new ≡ old) × IsRefused one pieces refused) → List Made
+acts_as_made None old sent pieces refused new acts = acts_made old sent pieces refused new acts
+acts_as_made (Some why) old sent pieces refused new refuses = []
+
 -- the events of a command other than `attach` on a bus, with their replies
 abbrev pub does_made : (old : Situation Told) (names : Names) (command : Command) (pieces : List Piece) (refused : Option Refusal) (new : Situation Told) → Does told_past names_kept old names command pieces refused new → List Made
-does_made old names (Command.Frame frame) pieces refused new (fixed, accepts, answers) = answer_made (subject_of (event_of frame fixed old.cuts)) old (event_of frame fixed old.cuts) pieces refused new answers
+does_made old names (Command.Frame frame) pieces refused new does = acts_made old (Sent.Frame frame) pieces refused new does
 does_made old names (Command.DropOff name) pieces refused new does = slot_made (slot_meant names_kept names name) old Event.DropOff pieces refused new does
 does_made old names (Command.Raise name byte) pieces refused new does = slot_made (slot_meant names_kept names name) old (λ slot. Event.Raise slot byte) pieces refused new does
 does_made old names (Command.AskJoin name) pieces refused new does = slot_made (slot_meant names_kept names name) old Event.AskJoin pieces refused new does
 does_made old names (Command.AskRole name) pieces refused new does = slot_made (slot_meant names_kept names name) old Event.AskRole pieces refused new does
-does_made old names (Command.HandOver to) pieces refused new does = answer_made (subject_of (Event.HandOver to old.cuts)) old (Event.HandOver to old.cuts) pieces refused new does
-does_made old names Command.Open pieces refused new does = answer_made (subject_of (Event.OpenDaa old.cuts)) old (Event.OpenDaa old.cuts) pieces refused new does
-does_made old names Command.Round pieces refused new does = answer_made (subject_of (Event.Round old.cuts)) old (Event.Round old.cuts) pieces refused new does
-does_made old names Command.End pieces refused new does = answer_made (subject_of Event.EndDaa) old Event.EndDaa pieces refused new does
-does_made old names Command.Daa pieces refused new does = assigns_made old pieces refused new does
+does_made old names (Command.HandOver to) pieces refused new does = acts_made old (Sent.HandOver to) pieces refused new does
+does_made old names Command.Open pieces refused new does = acts_made old Sent.Open pieces refused new does
+does_made old names Command.Round pieces refused new does = acts_made old Sent.Round pieces refused new does
+does_made old names Command.End pieces refused new does = acts_made old Sent.End pieces refused new does
+does_made old names Command.Daa pieces refused new does = acts_made old Sent.Daa pieces refused new does
+does_made old names (Command.As name sent) pieces refused new does = acts_as_made (acting_refusal names_kept old.state names name) old sent pieces refused new does
 does_made old names _ pieces refused new does = []
 
 -- the events of a command on a bus, with their replies
@@ -106,6 +124,7 @@ on_bus_made old names (Command.ShowFrom first) pieces refused new named (same, d
 on_bus_made old names (Command.Forget last) pieces refused new named (same, does) = does_made old names (Command.Forget last) pieces refused new does
 on_bus_made old names Command.Symbols pieces refused new named (same, does) = does_made old names Command.Symbols pieces refused new does
 on_bus_made old names (Command.Frames count) pieces refused new named (same, does) = does_made old names (Command.Frames count) pieces refused new does
+on_bus_made old names (Command.As name sent) pieces refused new named (same, does) = does_made old names (Command.As name sent) pieces refused new does
 on_bus_made old names (Command.Legacy name address lvr) pieces refused new named (same, does) = does_made old names (Command.Legacy name address lvr) pieces refused new does
 on_bus_made old names (Command.Declare address identity) pieces refused new named (same, does) = does_made old names (Command.Declare address identity) pieces refused new does
 on_bus_made old names (Command.Main name setup) pieces refused new named (same, does) = does_made old names (Command.Main name setup) pieces refused new does

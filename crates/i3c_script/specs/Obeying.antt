@@ -23,6 +23,7 @@ use Rattle.i3c_lines.specs.declared.names.Name.{Name}
 use Rattle.i3c_lines.specs.declared.names.Names.{Names}
 use Rattle.i3c_lines.specs.declared.names.Place.{Place}
 use Rattle.i3c_lines.specs.declared.refusals.Refusal.{Refusal}
+use Rattle.i3c_lines.specs.declared.sent.Sent.{Sent}
 use Rattle.i3c_lines.specs.Keeping.{NamesKept, NamesSlot, names_kept, slot_meant}
 use Rattle.i3c_lines.specs.Naming.{GivesAlone, legacy_names, place_named, slot_names}
 use Rattle.i3c_text.specs.declared.line_error.LineError.{LineError}
@@ -31,7 +32,7 @@ use Rattle.i3c_script.specs.declared.replies.Subject.{Subject}
 use Rattle.i3c_script.specs.declared.settings.Settings.{Settings}
 use Rattle.i3c_script.specs.declared.stage.Stage.{Stage}
 use Rattle.i3c_script.specs.Accepting.{Accepts, Forgets, IsSet, at_first}
-use Rattle.i3c_script.specs.Asking.{IsEntrance, slot_of_device, slots_named}
+use Rattle.i3c_script.specs.Asking.{IsEntrance, acting_refusal, slot_of_device, slots_named}
 use Rattle.i3c_script.specs.Assigning.{Assigns, Moves}
 use Rattle.i3c_script.specs.Hearing.{Hears}
 use Rattle.i3c_script.specs.Pieces.{frames_pieces, show_all_pieces, show_behind_pieces, show_pieces, subject_of, symbols_pieces}
@@ -155,18 +156,33 @@ Sets old kinds slots new = (settings : Settings) × IsSet kinds slots old.settin
 abbrev pub Relieves : {P : Type 0} → Situation P → ℕ → Situation P → Type 0
 Relieves old last new = (settings : Settings) × (st : State) × Forgets last old.settings old.state settings st × (new ≡ record old { state = st; settings = settings })
 
+-- what a line does that the active controller sends
+abbrev pub Acts : {P : Type 0} → PastKept P → Situation P → Sent → List Piece → Option Refusal → Situation P → Type 0
+Acts past old (Sent.Frame frame) pieces refused new = Sends past old frame pieces refused new
+Acts past old (Sent.HandOver to) pieces refused new = Answers past old (Event.HandOver to old.cuts) pieces refused new
+Acts past old Sent.Open pieces refused new = Answers past old (Event.OpenDaa old.cuts) pieces refused new
+Acts past old Sent.Round pieces refused new = Answers past old (Event.Round old.cuts) pieces refused new
+Acts past old Sent.End pieces refused new = Answers past old Event.EndDaa pieces refused new
+Acts past old Sent.Daa pieces refused new = Assigns past old pieces refused new
+
+-- the same of the controller with this name: if it isn't the active one, nothing happens
+abbrev pub ActsAs : {P N : Type 0} → PastKept P → NamesKept N → Situation P → N → Name → Sent → List Piece → Option Refusal → Situation P → Type 0
+ActsAs past kept old names name sent pieces refused new = MatchOption (acting_refusal kept old.state names name) (Acts past old sent pieces refused new)
+    (λ why. (new ≡ old) × IsRefused why pieces refused)
+
 -- what a command other than `attach` does on a bus
 abbrev pub Does : {P N : Type 0} → PastKept P → NamesKept N → Situation P → N → Command → List Piece → Option Refusal → Situation P → Type 0
-Does past kept old names (Command.Frame frame) pieces refused new = Sends past old frame pieces refused new
+Does past kept old names (Command.Frame frame) pieces refused new = Acts past old (Sent.Frame frame) pieces refused new
 Does past kept old names (Command.DropOff name) pieces refused new = AnswersIn past kept old names name Event.DropOff pieces refused new
 Does past kept old names (Command.Raise name byte) pieces refused new = AnswersIn past kept old names name (λ slot. Event.Raise slot byte) pieces refused new
 Does past kept old names (Command.AskJoin name) pieces refused new = AnswersIn past kept old names name Event.AskJoin pieces refused new
 Does past kept old names (Command.AskRole name) pieces refused new = AnswersIn past kept old names name Event.AskRole pieces refused new
-Does past kept old names (Command.HandOver to) pieces refused new = Answers past old (Event.HandOver to old.cuts) pieces refused new
-Does past kept old names Command.Open pieces refused new = Answers past old (Event.OpenDaa old.cuts) pieces refused new
-Does past kept old names Command.Round pieces refused new = Answers past old (Event.Round old.cuts) pieces refused new
-Does past kept old names Command.End pieces refused new = Answers past old Event.EndDaa pieces refused new
-Does past kept old names Command.Daa pieces refused new = Assigns past old pieces refused new
+Does past kept old names (Command.HandOver to) pieces refused new = Acts past old (Sent.HandOver to) pieces refused new
+Does past kept old names Command.Open pieces refused new = Acts past old Sent.Open pieces refused new
+Does past kept old names Command.Round pieces refused new = Acts past old Sent.Round pieces refused new
+Does past kept old names Command.End pieces refused new = Acts past old Sent.End pieces refused new
+Does past kept old names Command.Daa pieces refused new = Acts past old Sent.Daa pieces refused new
+Does past kept old names (Command.As name sent) pieces refused new = ActsAs past kept old names name sent pieces refused new
 Does past kept old names (Command.Policy kinds) pieces refused new = Sets old kinds [] new × IsDone [] pieces refused
 Does past kept old names (Command.PolicyBut kinds but) pieces refused new = MatchResult (slots_named (slot_of_device kept old.state names) but.items)
     (λ slots. Sets old kinds slots new × IsDone [] pieces refused)

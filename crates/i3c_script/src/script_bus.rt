@@ -15,18 +15,21 @@ use crate::replies::{
 };
 use crate::settings::Settings;
 use crate::show::{hear_bus, hear_bus_behind};
-use crate::slot_lookup::{entrance, slot_of_device, slots_of_devices};
+use crate::slot_lookup::{acting_refusal, entrance, slot_of_device, slots_of_devices};
 use crate::tenures::is_handed;
 use arrayvec::ArrayVec;
 use i3c_base::{Addr7, Cuts, Fixed, Setup, Slot};
 use i3c_bus::{Bus, BusSnapshot, Command as Frame, Event, Hand, Reply};
 use i3c_frame::Symbol;
 use i3c_legacy::Legacies;
-use i3c_lines::{Command, EXCEPTED, Name, Naming, Refusal, slot_meant};
+use i3c_lines::{Command, EXCEPTED, Name, Naming, Refusal, Sent, slot_meant};
 use i3c_text::LineError;
 use std::alloc::{AllocError, Global};
 use std::marker::Model;
 use std::mem;
+
+/// Names the lines behind `as NAME`.
+struct Acting;
 
 /// A bus on which lines are obeyed: its role or session, what its lines have set, the cuts that wait for the next frame, and
 /// what is kept of its past.
@@ -63,7 +66,7 @@ impl<P: Past> ScriptBus<P> {
     ghost use Rattle.i3c_step.specs.declared.events.Event.{Event as EventValue};
     ghost use Rattle.i3c_script.specs.Asking.{slot_of_device, slots_named};
     ghost use Rattle.i3c_script.specs.Assigning.{Assigns, Moves, cuts_left};
-    ghost use Rattle.i3c_script.specs.Obeying.{Answers, AnswersIn, Enters, IsDone, ObeysOn, Relieves, Sends, Sets, cut_at};
+    ghost use Rattle.i3c_script.specs.Obeying.{Acts, ActsAs, Answers, AnswersIn, Enters, IsDone, ObeysOn, Relieves, Sends, Sets, cut_at};
     ghost use Rattle.i3c_script.specs.Hearing.{Hears};
     ghost use Rattle.i3c_script.specs.Pieces.{frames_pieces, show_all_pieces, show_behind_pieces, show_pieces, symbols_pieces};
     ghost use Rattle.i3c_script.specs.Situations.{situation};
@@ -167,6 +170,7 @@ impl<P: Past> ScriptBus<P> {
             }
             Command::Symbols => self.show_symbols(listener),
             Command::Frames(count) => self.show_frames(*count, listener),
+            Command::As { name, sent } => self.act_as(names, name, sent, listener),
             Command::Legacy { .. } | Command::Declare { .. } | Command::Main { .. } => Err(
                 Refusal::BusMade.into(),
             ),
@@ -456,6 +460,37 @@ impl<P: Past> ScriptBus<P> {
                 Ok(())
             }
             Err(why) => Err(LineError::Refused(why)),
+        }
+    }
+
+    /// `as NAME LINE`: a line of the active controller, if this is its name.
+    #[inline(never)]
+    fn act_as<N: Naming, L: Listener>(
+        &mut self,
+        names: &N,
+        name: &Name,
+        sent: &Sent,
+        listener: &mut L,
+    ) -> Result<(), LineError<Refusal>>
+        ensures { Hears L.heard (λ pieces refused. ActsAs P.kept N.kept self.old names.now name.now sent.now pieces refused self.new) listener.old listener.new result }
+    {
+        match acting_refusal(&self.bus, names, name) {
+            None => self.act(sent, listener),
+            Some(why) => Err(LineError::Refused(why)),
+        }
+    }
+
+    /// A line that the active controller sends.
+    fn act<L: Listener>(&mut self, sent: &Sent, listener: &mut L) -> Result<(), LineError<Refusal>>
+        ensures { Hears L.heard (λ pieces refused. Acts P.kept self.old sent.now pieces refused self.new) listener.old listener.new result }
+    {
+        match sent {
+            Sent::Frame(frame) => self.send::<Acting, L>(frame, listener),
+            Sent::HandOver { to } => self.hand_over(*to, listener),
+            Sent::Open => self.open(listener),
+            Sent::Round => self.round(listener),
+            Sent::End => self.end(listener),
+            Sent::Daa => self.assign(listener),
         }
     }
 

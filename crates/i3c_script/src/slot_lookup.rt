@@ -1,6 +1,6 @@
 ghost use Rattle.std.specs.Prelude.{◌≡◌, ◌<◌, ◌≤◌, ◌+◌, ◌++◌, ◌↔◌, length, Ok, Err, IsTrue, MatchOption, MatchResult};
 ghost use Rattle.i3c_base.specs.State.{IsPresent};
-ghost use Rattle.i3c_script.specs.Asking.{IsEntrance, IsTaken, slot_of_device, slots_named};
+ghost use Rattle.i3c_script.specs.Asking.{IsEntrance, IsTaken, acting_refusal, slot_of_device, slots_named};
 ghost use Rattle.i3c_script.specs.Slots.{AllPresentBelow};
 
 use arrayvec::ArrayVec;
@@ -30,6 +30,17 @@ pub(crate) fn slot_of_device<N: Naming>(bus: &Bus, names: &N, name: &Name) -> Re
         Ok(slot)
     } else {
         Err(Refusal::Bus(BusRefusal::NoDevice))
+    }
+}
+
+/// Why a line of the controller with this name is refused, if it is: it has no device, or this isn't the active controller.
+pub(crate) fn acting_refusal<N: Naming>(bus: &Bus, names: &N, name: &Name) -> Option<Refusal>
+    ensures { result ≡ acting_refusal N.kept bus.now.state names.now name.now }
+{
+    match slot_of_device(bus, names, name) {
+        Ok(slot) if slot == bus.active() => None,
+        Ok(_) => Some(Refusal::NotActive),
+        Err(why) => Some(why),
     }
 }
 

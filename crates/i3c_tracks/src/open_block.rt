@@ -5,7 +5,7 @@ ghost use Rattle.i3c_tracks.specs.Planning.{step_of};
 
 use crate::refusal::Reason;
 use i3c_facts::Mark;
-use i3c_lines::{Command, Name};
+use i3c_lines::{Command, Name, Sent};
 use i3c_scene::{Expectation, Line, Risk};
 use std::alloc::{AllocError, Global};
 use std::mem;
@@ -37,17 +37,29 @@ pub(crate) struct OpenBlock {
 fn sends_frame(command: &Command) -> bool
     ensures { result ≡ sends_frame command.now }
 {
-    matches!(
-        command,
-        Command::Frame(_) | Command::HandOver { .. } | Command::Open | Command::Round | Command::Daa
-    )
+    match command {
+        Command::Frame(_)
+        | Command::HandOver { .. }
+        | Command::Open
+        | Command::Round
+        | Command::Daa => true,
+        Command::As { sent, .. } => sent.has_frame(),
+        _ => false,
+    }
 }
 
 /// Whether a command sends several frames, between which no line of another track runs.
 fn sends_many(command: &Command) -> bool
     ensures { result ≡ sends_many command.now }
 {
-    matches!(command, Command::Daa)
+    matches!(
+        command,
+        Command::Daa
+            | Command::As {
+                sent: Sent::Daa,
+                ..
+            }
+    )
 }
 
 /// Whether a device is at risk.

@@ -3,7 +3,7 @@ use crate::script::{KNOWN, Script};
 use i3c_base::{ADDRESSES, Addr7, Cuts, Fixed, Lvr, RoundReply, SLOTS, Setup, Slot};
 use i3c_bus::{Command as Frame, Event, Reply};
 use i3c_legacy::Legacies;
-use i3c_lines::{ACCEPT_ALL, Command, Name, Names, Place, read_line, slot_meant};
+use i3c_lines::{ACCEPT_ALL, Command, Name, Names, Place, Sent, read_line, slot_meant};
 use i3c_model::{Choice, Plain};
 use i3c_step::copy_of;
 use std::alloc::Global;
@@ -188,8 +188,30 @@ impl Running {
                 Ok(())
             }
             Command::Daa => self.assign(),
+            Command::As { name, sent } => self.act_as(names, name, sent),
             _ => self.obey_alone(names, command),
         }
+    }
+
+    // A line of the controller with this name: nothing, unless its device is there and is the active controller.
+    fn act_as(&mut self, names: &Names, name: &Name, sent: &Sent) -> Result<(), Fault> {
+        match slot_of(names, name) {
+            Some(slot) if slot == self.plain.active() => self.act(sent),
+            _ => Ok(()),
+        }
+    }
+
+    fn act(&mut self, sent: &Sent) -> Result<(), Fault> {
+        let event = match sent {
+            Sent::Frame(frame) => self.sent(frame),
+            Sent::HandOver { to } => Event::HandOver(*to, self.take()),
+            Sent::Open => Event::OpenDaa(self.take()),
+            Sent::Round => Event::Round(self.take()),
+            Sent::End => Event::EndDaa,
+            Sent::Daa => return self.assign(),
+        };
+        let _ = self.add_event(event)?;
+        Ok(())
     }
 
     // A line that is one event and no frame under the role, or that asks for nothing.

@@ -1,4 +1,4 @@
-use Rattle.std.proofs.Common.{◌++◌, ◌∷◌, [], refl}
+use Rattle.std.proofs.Common.{◌++◌, ◌∷◌, []}
 use Rattle.i3c_lines.specs.Parsing.{left_tokens}
 use Rattle.i3c_lines.proofs.FaultLaws.{among_behind, fault_behind, front_more, next_among}
 use Rattle.i3c_lines.proofs.form_faults.kind_misfit.Goals as goal

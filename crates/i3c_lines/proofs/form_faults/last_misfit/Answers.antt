@@ -1,4 +1,4 @@
-use Rattle.std.proofs.Common.{◌∷◌, [], sym}
+use Rattle.std.proofs.Common.{◌∷◌, []}
 use Rattle.i3c_lines.specs.Parsing.{left_tokens}
 use Rattle.i3c_lines.proofs.FaultLaws.{among_behind, next_among}
 use Rattle.i3c_lines.proofs.form_faults.last_misfit.Goals as goal

@@ -17,5 +17,5 @@ returns-in_default c =
 pub returns-in-Ok : goal.returns-in-Ok
 returns-in-Ok c =
     let asks : c.args.line.now.command ≡ Some c.in-Some.command = search rules in
-    ran_unheard (λ (deaf : Deaf) (piece : Piece). deaf) c.args.self.now c.cut_as.new.self c.obey.new.self c.args.line.now.command c.in-Some.command c.sends.result c.args.line.now.risk c.args.ways c.obey.result c.in-Ok.field-0 _ _
-    asks c.sends.ensures c.cut_as.ensures c.obey.ensures c.in-Ok.ensures
+    ran_unheard (λ (deaf : Deaf) (piece : Piece). deaf) c.args.self.now c.cut_as.new.self c.obey.new.self c.args.line.now.command c.in-Some.command c.sends-sent.result c.args.line.now.risk c.args.ways c.obey.result c.in-Ok.field-0 _ _
+    asks c.sends-sent.ensures c.cut_as.ensures c.obey.ensures c.in-Ok.ensures
