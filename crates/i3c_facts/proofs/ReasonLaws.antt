@@ -1,5 +1,5 @@
 -- A token that no refusal prints.
-use Rattle.std.proofs.Common.{◌≡◌, ◌∙◌, ℕ, zero, suc, ◌<◌, List, [], ◌∷◌, Option, Some, ap, arith, get_or, length, refl, sym}
+use Rattle.std.proofs.Common.{◌≡◌, ◌∙◌, ℕ, zero, suc, ◌<◌, List, [], ◌∷◌, Option, Some, ap, arith, get_or, length, refl, subst, sym}
 use Rattle.std.specs.List.{slice_get}
 use Rattle.i3c_legacy.specs.declared.faults.DeclareFault.{DeclareFault}
 use Rattle.i3c_legacy.specs.declared.faults.LegacyFault.{LegacyFault}
@@ -33,6 +33,28 @@ none_here token reasons k here same within is unlike why at e =
     let found : slice_get plain_reasons k ≡ Some here = ap (λ rs. slice_get rs k) (sym same) ∙ at_get reasons k here within is in
     let one : here ≡ why = cc in
     unlike (e ∙ ap refusal_token (sym one))
+
+-- a refusal's own token, alone, is a reason for it
+abbrev IsOwn : Refusal → Type 0
+IsOwn why = IsReason (refusal_token why ∷ []) why
+
+abbrev AllOwn : List Refusal → Type 0
+AllOwn [] = Unit {0}
+AllOwn (first ∷ reasons) = IsOwn first × AllOwn reasons
+
+own_at : (reasons : List Refusal) (k : ℕ) (why : Refusal) → AllOwn reasons → slice_get reasons k ≡ Some why → IsOwn why
+own_at [] k why all e = absurd cc
+own_at (first ∷ reasons) zero why (own, all) e = let one : first ≡ why = cc in subst IsOwn one own
+own_at (first ∷ reasons) (suc k) why (own, all) e = own_at reasons k why all e
+
+all_own : AllOwn plain_reasons
+all_own = (refl, (refl, (refl, (refl, (refl, (refl, (refl, (refl, (refl, (refl, (refl, (refl, (refl, (refl, (refl, (refl, (refl, (refl, (refl, (refl, (refl, (refl, (refl, (refl, (refl, (refl, tt))))))))))))))))))))))))))
+
+-- the token of one of those in the list is a reason for it
+pub one_reason : (token : List ℕ) (reasons : List Refusal) (k : ℕ) (here : Refusal) → reasons ≡ plain_reasons → k < length reasons → here ≡ get_or reasons k here → token ≡ refusal_token here → IsReason (token ∷ []) here
+one_reason token reasons k here same within is like =
+    let found : slice_get plain_reasons k ≡ Some here = ap (λ rs. slice_get rs k) (sym same) ∙ at_get reasons k here within is in
+    subst (λ t. IsReason (t ∷ []) here) (sym like) (own_at plain_reasons k here all_own found)
 
 pub no_reason : (token : List ℕ) → IsNoneBelow 26 token → (why : Refusal) → IsReason (token ∷ []) why → ⊥
 no_reason token none Refusal.BadLine e = none 0 (omega arith) Refusal.BadLine refl (ap first_of e)
