@@ -146,7 +146,10 @@ impl Scene {
     fn is_acting(&self, place: Option<Place>) -> bool
         ensures { result ≡ is_acting self.now.state place }
     {
-        let Some(Place::Slot(slot)) = place else {
+        let Some(place) = place else {
+            return false;
+        };
+        let Place::Slot(slot) = place else {
             return false;
         };
         let still = &*self.rest.still;

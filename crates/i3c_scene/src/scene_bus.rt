@@ -268,7 +268,10 @@ impl SceneBus {
     fn is_acting(&self, place: Option<Place>) -> bool
         ensures { result ≡ is_acting self.now.state place }
     {
-        let Some(Place::Slot(slot)) = place else {
+        let Some(place) = place else {
+            return false;
+        };
+        let Place::Slot(slot) = place else {
             return false;
         };
         let bus = self.bus.bus();
