@@ -3,3 +3,5 @@ mod Reading
 mod OnePlan
 mod CourseLaws
 mod EndLaws
+mod KeyLaws
+mod GroupLaws

@@ -1,21 +1,13 @@
 -- What is printed where all holds.
-use Rattle.std.specs.Prelude.{◌≡◌, ◌≤◌, ◌+◌, ℕ, Bool, List, [], ◌∷◌, ◌++◌, Option, Some, codes, length, not, slice_get, suc, zero}
+use Rattle.std.specs.Prelude.{◌≡◌, ℕ, Bool, List, [], ◌∷◌, ◌++◌, Option, Some, codes, slice_get, suc, zero}
 use Rattle.std.specs.Fmt.{decimal}
 use Rattle.std.specs.Global.{Vec}
-use Rattle.i3c_explore.specs.declared.limits.Limits.{Limits}
 use Rattle.i3c_explore.specs.declared.node.Node.{Node}
-use Rattle.i3c_explore.specs.Parts.{Part}
-use Rattle.i3c_explore.specs.Runs.{IsByLayers}
 use Rattle.i3c_scene.specs.declared.line.Line.{Line}
-use Rattle.i3c_scene.specs.Latest.{latest_of}
 use Rattle.i3c_scene.specs.Scenes.{Seen}
 use Rattle.i3c_scene.specs.Shown.{shown_text}
-use Rattle.i3c_scene.specs.Trying.{LineSteps}
 use Rattle.i3c_tracks.specs.declared.course.Run.{Run}
-use Rattle.i3c_tracks.specs.declared.plan.Plan.{Plan}
-use Rattle.i3c_tracks.specs.declared.showing.Showing.{Showing}
-use Rattle.i3c_tracks.specs.Courses.{AreRunsOf, LeadsTo}
-use Rattle.i3c_tracks.specs.Planning.{IsPlan}
+use Rattle.i3c_tracks.specs.Courses.{AreRunsOf}
 use Rattle.i3c_tracks.specs.Telling.{head_text, like_text, orders_text}
 
 -- an end: its number and its orders, the bus as `show` prints it, and the lines of the first order that leads there

@@ -1,8 +1,9 @@
-ghost use Rattle.std.specs.Prelude.{◌≡◌, ◌<◌, ◌≤◌, ◌+◌, ℕ, List, [], ◌∷◌, ◌++◌, Err, IfOk, IfSome, OnOk, length};
+ghost use Rattle.std.specs.Prelude.{◌≡◌, ◌<◌, ◌≤◌, ◌+◌, ℕ, List, [], ◌∷◌, ◌++◌, Err, IfErr, IfOk, IfSome, MatchOption, OnOk, length};
 ghost use Rattle.std.specs.Global.{Vec as VecValue};
 ghost use Rattle.std.specs.Io.KnownBytes.{Appends, IsAtEnd};
 ghost use Rattle.i3c_tracks.specs.Answering.{IsAnswer, IsExplored, IsPrinted};
 ghost use Rattle.i3c_tracks.specs.Planning.{AreLines, IsPlan};
+ghost use Rattle.i3c_tracks.specs.Questions.{AreKnown, IsFault, IsFaultOf, IsUnknown};
 ghost use Rattle.i3c_tracks.specs.Telling.{refusal_line};
 ghost use Rattle.i3c_tracks.specs.declared.answer.Answer.{Answer as AnswerValue};
 ghost use Rattle.i3c_tracks.specs.declared.explore_fault.ExploreFault.{ExploreFault as ExploreFaultValue};
@@ -38,7 +39,7 @@ pub fn run_explore<T: Threads + Sync, R: Read, W: Write, V: Watch>(
     part: Part,
     jobs: usize,
     showing: Showing,
-    questions: &[Question<'_>],
+    questions: &[Question],
     watch: &V,
 ) -> Result<Answer, ExploreFault>
     // an `Ok` comes after the whole of a file that isn't too large
@@ -51,8 +52,10 @@ pub fn run_explore<T: Threads + Sync, R: Read, W: Write, V: Watch>(
     // What went out is one of three. It is the first refusal of the file's lines, or that a limit was reached. Or it is the shortest order that breaks an expectation, as a script of
     // the file's lines, with which expectation the last of them breaks. Or it has the ends to which all orders of the part
     // lead, each with an order that leads there, how many orders do, and how many lines were run; or these numbers alone; or
-    // the groups of the ends in which the same questions hold.
+    // the groups of the ends in which the same questions hold. Then a line gives each name that is asked about.
     ensures printed { IfOk result (λ answer. (lines : List (VecValue ℕ)) × (said : List ℕ) × AreLines (R.remaining reader.old) lines × IsPrinted lines limits part showing questions.now answer [] said × Appends (W.contents writer.old) (W.contents writer.new) said) }
+    // a name that no line of the file gives is that of the question that is told
+    ensures fault { IfErr result (IsFault (R.remaining reader.old) questions.now) }
 {
     let lines = match read_lines(alloc, reader) {
         Ok(lines) => lines,
@@ -114,12 +117,13 @@ fn answer_file<T: Threads + Sync, V: Watch>(
     part: Part,
     jobs: usize,
     showing: Showing,
-    questions: &[Question<'_>],
+    questions: &[Question],
     watch: &V,
     text: &mut Text,
 ) -> Result<Answer, ExploreFault>
     ensures answer { IfOk result (IsExplored lines.now part) }
     ensures printed { IfOk result (λ answer. IsPrinted lines.now limits part showing questions.now answer text.old text.new) }
+    ensures fault { IfErr result (IsFaultOf lines.now questions.now) }
 {
     let plan = match read_plan(alloc, lines) {
         Ok(plan) => plan,
@@ -139,7 +143,9 @@ fn answer_file<T: Threads + Sync, V: Watch>(
 }
 
 /// The place of the first question with a name that no line of the file gives.
-fn first_unknown(lines: &[Vec<u8>], questions: &[Question<'_>]) -> Option<usize> {
+fn first_unknown(lines: &[Vec<u8>], questions: &[Question]) -> Option<usize>
+    ensures { MatchOption result (AreKnown lines.now questions.now) (IsUnknown lines.now questions.now) }
+{
     for index in 0..questions.len() {
         if !questions[index].is_of(lines) {
             return Some(index);
@@ -170,12 +176,12 @@ fn explore_plan<T: Threads + Sync, V: Watch>(
     part: Part,
     jobs: usize,
     showing: Showing,
-    questions: &[Question<'_>],
+    questions: &[Question],
     watch: &V,
     text: &mut Text,
 ) -> Result<Answer, AllocError>
     ensures answer { IfOk result (IsAnswer plan.now.start plan.now.blocks.items part) }
-    ensures printed { IsPlan lines.now plan.now → IfOk result (λ answer. IsPrinted lines.now limits part showing questions.now answer text.old text.new) }
+    ensures printed { IsPlan lines.now plan.now → AreKnown lines.now questions.now → IfOk result (λ answer. IsPrinted lines.now limits part showing questions.now answer text.old text.new) }
 {
     let Some(left) = limits_left(limits, plan.before.len()) else {
         return refuse_most(text);

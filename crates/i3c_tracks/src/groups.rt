@@ -1,5 +1,10 @@
-ghost use Rattle.std.specs.Prelude.{◌≡◌, ◌+◌, ◌++◌, ℕ, List, Option, IfOk, OnOk, map, not};
-ghost use Rattle.i3c_tracks.specs.Groups.{AreGroups, LeadTo, answer_text, answers_text, first_with, group_head, IsExample, key_of, size_of};
+ghost use Rattle.std.specs.Prelude.{◌≡◌, ◌<◌, ◌≤◌, ◌+◌, ◌++◌, ℕ, List, Some, IfOk, OnOk, count_by, if◌then◌else◌, length, map, slice_get, suc};
+ghost use Rattle.i3c_explore.specs.declared.node.Node.{Node as NodeValue};
+ghost use Rattle.i3c_scene.specs.Scenes.{Seen};
+ghost use Rattle.i3c_tracks.specs.Groups.{Adds, AreGroupTexts, AreGroups, IsExample, IsGroupText, IsHead, LeadTo, answer_text, answers_text, are_alike, begins_at, group_of, groups_in, holds_in, key_of, keys_of};
+ghost use Rattle.i3c_tracks.specs.Planning.{step_of};
+ghost use Rattle.i3c_tracks.specs.Questions.{asking};
+ghost use Rattle.i3c_tracks.specs.declared.question.Question.{Question as QuestionValue};
 
 use crate::plan::Plan;
 use crate::question::Question;
@@ -17,47 +22,24 @@ pub(crate) fn push_groups(
     lines: &[Vec<u8>],
     plan: &Plan,
     showing: Showing,
-    questions: &[Question<'_>],
+    questions: &[Question],
     ends: &[Node<Scene>],
     text: &mut Text,
 ) -> Result<(), AllocError>
-    ensures { OnOk result ((said : List ℕ) × AreGroups showing lines.now plan.now questions.now ends.now (not plan.now.risky) said × (text.new ≡ text.old ++ said)) }
+    ensures { OnOk result ((said : List ℕ) × AreGroups showing lines.now plan.now questions.now ends.now said × (text.new ≡ text.old ++ said)) }
 {
     let keys = keys_of(alloc, questions, ends)?;
-    let starts = starts_of(alloc, &keys)?;
-    text.push_numbered(b"groups ", count_groups(&starts))?;
-    let Some(first) = ends.first() else {
-        return Ok(());
-    };
-    let mut runner = first.state.runner(alloc)?;
-    let mut number: u64 = 0;
-    for index in 0..ends.len() {
-        if starts[index] == index {
-            number += 1;
-            push_head(number, &starts, index, ends, !plan.risky, text)?;
-            push_answers(questions, &keys[index], text)?;
-            push_example(
-                alloc,
-                lines,
-                plan,
-                showing,
-                index,
-                &ends[index],
-                &mut runner,
-                text,
-            )?;
-        }
-    }
-    Ok(())
+    text.push_numbered(b"groups ", count_groups(&keys))?;
+    push_all(alloc, lines, plan, showing, questions, ends, &keys, text)
 }
 
 /// Which of the questions hold at each end.
 fn keys_of(
     alloc: Global,
-    questions: &[Question<'_>],
+    questions: &[Question],
     ends: &[Node<Scene>],
 ) -> Result<Vec<Vec<bool>>, AllocError>
-    ensures { IfOk result (λ keys. map (λ key. key.items) keys.items ≡ map (key_of questions.now) ends.now) }
+    ensures { IfOk result (λ keys. map (λ key. key.items) keys.items ≡ keys_of questions.now ends.now) }
 {
     let mut keys = Vec::new(alloc);
     let Some(first) = ends.first() else {
@@ -72,7 +54,9 @@ fn keys_of(
 }
 
 /// The lines that expect what is asked.
-fn asked_of(alloc: Global, questions: &[Question<'_>]) -> Result<Vec<Line>, AllocError> {
+fn asked_of(alloc: Global, questions: &[Question]) -> Result<Vec<Line>, AllocError>
+    ensures { IfOk result (λ asked. map step_of asked.items ≡ map asking questions.now) }
+{
     let mut asked = Vec::new(alloc);
     for index in 0..questions.len() {
         asked.push(questions[index].line(alloc)?)?;
@@ -80,107 +64,215 @@ fn asked_of(alloc: Global, questions: &[Question<'_>]) -> Result<Vec<Line>, Allo
     Ok(asked)
 }
 
-/// Which of these lines hold at an end. A runner in any state serves for it.
+/// Which questions hold in a state, by the lines that expect what they ask. A runner in any state serves for it.
 fn key_of(
     alloc: Global,
     asked: &[Line],
-    end: &Scene,
+    state: &Scene,
     runner: &mut Runner,
-) -> Result<Vec<bool>, AllocError> {
+) -> Result<Vec<bool>, AllocError>
+    ensures { IfOk result (λ key. (questions : List QuestionValue) → map step_of asked.now ≡ map asking questions → key.items ≡ map (holds_in state.now) questions) }
+{
     let mut key = Vec::new(alloc);
     for index in 0..asked.len() {
-        key.push(end.run(alloc, &asked[index], 0, false, runner)?)?;
+        key.push(state.run(alloc, &asked[index], 0, false, runner)?)?;
     }
     Ok(key)
 }
 
-/// Of each end, the place of the first end with the same key.
-fn starts_of(alloc: Global, keys: &[Vec<bool>]) -> Result<Vec<usize>, AllocError>
-    ensures { IfOk result (λ starts. starts.items ≡ map (λ key. first_with (map (λ key. key.items) keys.now) key.items) keys.now) }
+/// Whether a group begins at this place: no end before it has the same key.
+fn begins_at(keys: &[Vec<bool>], place: usize) -> bool
+    requires { place < length keys.now }
+    ensures { result ≡ begins_at (map (λ key. key.items) keys.now) place }
 {
-    let mut starts = Vec::new(alloc);
-    for index in 0..keys.len() {
-        starts.push(first_with(keys, keys[index].as_slice()))?;
-    }
-    Ok(starts)
-}
-
-/// How many keys are before the first one that is the same.
-fn first_with(keys: &[Vec<bool>], key: &[bool]) -> usize
-    ensures { result ≡ first_with (map (λ key. key.items) keys.now) key.now }
-{
-    for index in 0..keys.len() {
-        if keys[index].as_slice() == key {
-            return index;
+    for index in 0..place {
+        if keys[index].as_slice() == keys[place].as_slice() {
+            return false;
         }
     }
-    keys.len()
+    true
 }
 
-/// How many ends are the first of their groups.
-fn count_groups(starts: &[usize]) -> u64 {
+/// How many groups there are.
+fn count_groups(keys: &[Vec<bool>]) -> u64
+    ensures { result ≡ groups_in (map (λ key. key.items) keys.now) (length keys.now) }
+{
     let mut count: u64 = 0;
-    for index in 0..starts.len() {
-        if starts[index] == index {
+    for index in 0..keys.len() {
+        if begins_at(keys, index) {
             count += 1;
         }
     }
     count
 }
 
-/// How many ends are of the group that begins at this place.
-fn size_of(starts: &[usize], start: usize) -> u64
-    ensures { result ≡ size_of starts.now start }
+/// Appends each group with its first end.
+fn push_all(
+    alloc: Global,
+    lines: &[Vec<u8>],
+    plan: &Plan,
+    showing: Showing,
+    questions: &[Question],
+    ends: &[Node<Scene>],
+    keys: &[Vec<bool>],
+    text: &mut Text,
+) -> Result<(), AllocError>
+    requires { map (λ key. key.items) keys.now ≡ keys_of questions.now ends.now }
+    ensures { OnOk result ((said : List ℕ) × AreGroupTexts showing lines.now plan.now questions.now ends.now (length ends.now) said × (text.new ≡ text.old ++ said)) }
+{
+    let Some(first) = ends.first() else {
+        return Ok(());
+    };
+    let mut runner = first.state.runner(alloc)?;
+    let mut groups: u64 = 0;
+    for index in 0..ends.len() {
+        groups = push_place(
+            alloc,
+            lines,
+            plan,
+            showing,
+            questions,
+            ends,
+            keys,
+            index,
+            groups,
+            &mut runner,
+            text,
+        )?;
+    }
+    Ok(())
+}
+
+/// Appends the group that begins at this place, if one does, behind those before it. Answers how many there are then.
+fn push_place(
+    alloc: Global,
+    lines: &[Vec<u8>],
+    plan: &Plan,
+    showing: Showing,
+    questions: &[Question],
+    ends: &[Node<Scene>],
+    keys: &[Vec<bool>],
+    place: usize,
+    before: u64,
+    runner: &mut Runner,
+    text: &mut Text,
+) -> Result<u64, AllocError>
+    requires keys { map (λ key. key.items) keys.now ≡ keys_of questions.now ends.now }
+    requires within { place < length ends.now }
+    requires few { before ≤ place }
+    ensures groups { IfOk result (λ groups. groups ≡ (if begins_at (keys_of questions.now ends.now) place then suc before else before)) }
+    ensures text { OnOk result ((end : NodeValue Seen) × (said : List ℕ) × (slice_get ends.now place ≡ Some end)
+        × Adds (begins_at (keys_of questions.now ends.now) place) showing lines.now plan.now questions.now ends.now (suc before) (suc place) end said × (text.new ≡ text.old ++ said)) }
+{
+    if !begins_at(keys, place) {
+        return Ok(before);
+    }
+    push_group(
+        alloc,
+        lines,
+        plan,
+        showing,
+        questions,
+        ends,
+        keys,
+        place,
+        before + 1,
+        runner,
+        text,
+    )?;
+    Ok(before + 1)
+}
+
+/// Appends the group of this number that begins at this place.
+fn push_group(
+    alloc: Global,
+    lines: &[Vec<u8>],
+    plan: &Plan,
+    showing: Showing,
+    questions: &[Question],
+    ends: &[Node<Scene>],
+    keys: &[Vec<bool>],
+    place: usize,
+    number: u64,
+    runner: &mut Runner,
+    text: &mut Text,
+) -> Result<(), AllocError>
+    requires keys { map (λ key. key.items) keys.now ≡ keys_of questions.now ends.now }
+    requires within { place < length ends.now }
+    ensures { OnOk result ((end : NodeValue Seen) × (said : List ℕ) × (slice_get ends.now place ≡ Some end)
+        × IsGroupText showing lines.now plan.now questions.now ends.now number (suc place) end said × (text.new ≡ text.old ++ said)) }
+{
+    let key = keys[place].as_slice();
+    push_head(number, ends, keys, key, !plan.risky, text)?;
+    push_answers(questions, key, text)?;
+    push_example(
+        alloc,
+        lines,
+        plan,
+        showing,
+        place as u64 + 1,
+        &ends[place],
+        runner,
+        text,
+    )
+}
+
+/// How many ends have this key.
+fn size_of(keys: &[Vec<bool>], key: &[bool]) -> u64
+    ensures { result ≡ count_by (λ one. are_alike one key.now) (map (λ key. key.items) keys.now) }
 {
     let mut size: u64 = 0;
-    for index in 0..starts.len() {
-        if starts[index] == start {
+    for index in 0..keys.len() {
+        if keys[index].as_slice() == key {
             size += 1;
         }
     }
     size
 }
 
-/// How many orders lead to the ends of the group that begins at this place.
-fn orders_of(starts: &[usize], ends: &[Node<Scene>], start: usize) -> Option<u64>
-    ensures { LeadTo starts.now ends.now start result }
+/// How many orders lead to the ends with this key.
+fn orders_of(ends: &[Node<Scene>], keys: &[Vec<bool>], key: &[bool]) -> Option<u64>
+    requires { length keys.now ≡ length ends.now }
+    ensures { (questions : List QuestionValue) → map (λ key. key.items) keys.now ≡ keys_of questions ends.now → LeadTo (group_of questions key.now ends.now) result }
 {
     let mut orders: u64 = 0;
-    for index in 0..starts.len().min(ends.len()) {
-        if starts[index] == start {
+    for index in 0..ends.len() {
+        if keys[index].as_slice() == key {
             orders = orders.checked_add(ends[index].orders?)?;
         }
     }
     Some(orders)
 }
 
-/// Appends the first line of the group that begins at this place. The orders that lead to its ends are told if each
-/// interleaving leads to one end.
+/// Appends the first line of the group with this key. The orders that lead to its ends are told if each interleaving leads to
+/// one end.
 fn push_head(
     number: u64,
-    starts: &[usize],
-    start: usize,
     ends: &[Node<Scene>],
+    keys: &[Vec<bool>],
+    key: &[bool],
     counted: bool,
     text: &mut Text,
 ) -> Result<(), AllocError>
-    ensures { OnOk result ((orders : Option ℕ) × LeadTo starts.now ends.now start orders × (text.new ≡ text.old ++ group_head number (size_of starts.now start) orders counted)) }
+    requires { length keys.now ≡ length ends.now }
+    ensures { OnOk result ((questions : List QuestionValue) → map (λ key. key.items) keys.now ≡ keys_of questions ends.now
+        → (head : List ℕ) × IsHead counted number (group_of questions key.now ends.now) head × (text.new ≡ text.old ++ head)) }
 {
     text.push(b"group ")?;
     text.push_decimal(number)?;
     text.push(b" of ")?;
-    text.push_decimal(size_of(starts, start))?;
+    text.push_decimal(size_of(keys, key))?;
     text.push(b" ends")?;
     if counted {
         text.push(b" of ")?;
-        push_orders(orders_of(starts, ends, start), text)?;
+        push_orders(orders_of(ends, keys, key), text)?;
         text.push(b" orders")?;
     }
     text.end()
 }
 
 /// Appends which of the questions hold at the ends of a group.
-fn push_answers(questions: &[Question<'_>], key: &[bool], text: &mut Text) -> Result<(), AllocError>
+fn push_answers(questions: &[Question], key: &[bool], text: &mut Text) -> Result<(), AllocError>
     ensures { OnOk result (text.new ≡ text.old ++ answers_text questions.now key.now) }
 {
     for index in 0..questions.len().min(key.len()) {
@@ -190,11 +282,11 @@ fn push_answers(questions: &[Question<'_>], key: &[bool], text: &mut Text) -> Re
 }
 
 /// Appends whether a question holds.
-fn push_answer(question: &Question<'_>, holds: bool, text: &mut Text) -> Result<(), AllocError>
+fn push_answer(question: &Question, holds: bool, text: &mut Text) -> Result<(), AllocError>
     ensures { OnOk result (text.new ≡ text.old ++ answer_text question.now holds) }
 {
     text.push(if holds { b"holds " } else { b"fails " })?;
-    text.push(question.text.as_bytes())?;
+    text.push(&question.text)?;
     text.end()
 }
 
@@ -204,15 +296,15 @@ fn push_example(
     lines: &[Vec<u8>],
     plan: &Plan,
     showing: Showing,
-    index: usize,
+    number: u64,
     end: &Node<Scene>,
     runner: &mut Runner,
     text: &mut Text,
 ) -> Result<(), AllocError>
-    ensures { OnOk result ((said : List ℕ) × IsExample showing lines.now plan.now (index + 1) end.now (not plan.now.risky) said × (text.new ≡ text.old ++ said)) }
+    ensures { OnOk result ((said : List ℕ) × IsExample showing lines.now plan.now number end.now said × (text.new ≡ text.old ++ said)) }
 {
     match showing {
-        Showing::Ends => push_end(alloc, lines, plan, index as u64 + 1, end, runner, text),
+        Showing::Ends => push_end(alloc, lines, plan, number, end, runner, text),
         Showing::Numbers => Ok(()),
     }
 }

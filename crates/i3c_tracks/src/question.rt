@@ -1,5 +1,7 @@
-ghost use Rattle.std.specs.Prelude.{◌≡◌, ◌↔◌, All, IfOk, IsTrue, false};
-ghost use Rattle.i3c_tracks.specs.Questions.{AreGiven, Gives, IsGiven, IsExpected, is_of_line};
+ghost use Rattle.std.specs.Prelude.{◌≡◌, ◌↔◌, IfOk, IfSome, IsTrue, MatchOption, List, option_copied};
+ghost use Rattle.i3c_facts.specs.declared.facts.Claim.{Claim as ClaimValue};
+ghost use Rattle.i3c_facts.specs.declared.marks.Mark.{Mark as MarkValue};
+ghost use Rattle.i3c_tracks.specs.Questions.{AreBehind, AreGiven, AreOfEnds, Gives, IsGiven, is_given, is_of_line};
 
 use i3c_facts::{Claim, Fact, Facts, Mark, read_mark};
 use i3c_lines::{Name, read_line};
@@ -11,33 +13,33 @@ const EXPECT: &[u8] = b"expect ";
 
 /// Facts by which ends are grouped, with their text.
 #[derive(Drop)]
-pub struct Question<'a> {
-    pub(crate) text: &'a str,
+pub struct Question {
+    pub(crate) text: Vec<u8>,
     pub(crate) facts: Facts,
 }
 
-impl<'a> Question<'a> {
+impl Question {
     ghost use Rattle.std.specs.Prelude.{◌≡◌, ◌↔◌, IfOk, IsTrue, List, MatchOption};
     ghost use Rattle.i3c_facts.specs.declared.facts.Claim.{Claim as ClaimValue};
-    ghost use Rattle.i3c_tracks.specs.Questions.{AreAsked, AreGiven, IsExpected, IsQuestion};
+    ghost use Rattle.i3c_tracks.specs.Planning.{step_of};
+    ghost use Rattle.i3c_tracks.specs.Questions.{AreAsked, AreGiven, IsQuestion, asking};
 
     /// The question of a text that may stand behind `expect`, unless one of its facts is about the line before: an end has none.
     ///
     /// # Errors
     ///
     /// There is no memory for it.
-    pub fn of(alloc: Global, text: &'a str) -> Result<Option<Question<'a>>, AllocError>
+    pub fn of(alloc: Global, text: &[u8]) -> Result<Option<Question>, AllocError>
         ensures { IfOk result (λ read. MatchOption read ((claims : List ClaimValue) → AreAsked text.now claims → ⊥) (IsQuestion text.now)) }
     {
-        let mut line = Vec::new(alloc);
-        line.extend_from_slice(EXPECT)?;
-        line.extend_from_slice(text.as_bytes())?;
-        match read_mark(alloc, &line)? {
-            Some(Mark::Expect(facts)) if are_of_ends(facts.claims()) => {
-                Ok(Some(Question { text, facts }))
-            }
-            _ => Ok(None),
+        let Some(facts) = facts_behind(alloc, text)? else {
+            return Ok(None);
+        };
+        if !are_of_ends(facts.claims()) {
+            return Ok(None);
         }
+        let text = copied(alloc, text)?;
+        Ok(Some(Question { text, facts }))
     }
 
     /// Whether each of its names is given by a line of the file.
@@ -47,35 +49,60 @@ impl<'a> Question<'a> {
         are_given(lines, self.facts.claims())
     }
 
-    /// A line without a command that expects it.
+    /// A line that does nothing, and expects what is asked.
     ///
     /// # Errors
     ///
     /// There is no memory for it.
     pub(crate) fn line(&self, alloc: Global) -> Result<Line, AllocError>
-        ensures { IfOk result (λ line. IsExpected self.now.facts line) }
+        ensures { IfOk result (λ line. step_of line ≡ asking self.now) }
     {
-        expecting(alloc, self.facts.copied()?)
+        let facts = self.facts.copied()?;
+        let mut expectations = Vec::new(alloc);
+        expectations.push(Expectation { number: 0, facts })?;
+        Ok(Line {
+            number: 0,
+            command: None,
+            risk: Risk::Nobody,
+            expectations,
+        })
     }
 }
 
-/// A line without a command that expects these facts.
-fn expecting(alloc: Global, facts: Facts) -> Result<Line, AllocError>
-    ensures { IfOk result (λ line. IsExpected facts line) }
+/// A copy of a text.
+fn copied(alloc: Global, text: &[u8]) -> Result<Vec<u8>, AllocError>
+    ensures { IfOk result (λ copy. copy.items ≡ text.now) }
 {
-    let mut expectations = Vec::new(alloc);
-    expectations.push(Expectation { number: 0, facts })?;
-    Ok(Line {
-        number: 0,
-        command: None,
-        risk: Risk::Nobody,
-        expectations,
-    })
+    let mut copy = Vec::new(alloc);
+    copy.extend_from_slice(text)?;
+    Ok(copy)
+}
+
+/// The facts of a text, if it may stand behind `expect`.
+fn facts_behind(alloc: Global, text: &[u8]) -> Result<Option<Facts>, AllocError>
+    ensures { IfOk result (λ read. MatchOption read ((claims : List ClaimValue) → AreBehind text.now claims → ⊥) (AreBehind text.now)) }
+{
+    let mut line = copied(alloc, EXPECT)?;
+    line.extend_from_slice(text)?;
+    let Some(mark) = read_mark(alloc, &line)? else {
+        return Ok(None);
+    };
+    Ok(expected(mark))
+}
+
+/// The facts that a mark expects, if it is `expect`.
+fn expected(mark: Mark) -> Option<Facts>
+    ensures { MatchOption result ((claims : List ClaimValue) → mark ≡ MarkValue.Expect claims → ⊥) (λ claims. mark ≡ MarkValue.Expect claims) }
+{
+    match mark {
+        Mark::Expect(facts) => Some(facts),
+        _ => None,
+    }
 }
 
 /// Whether no claim is about the line before.
 fn are_of_ends(claims: &[Claim]) -> bool
-    ensures { IsTrue result ↔ All (λ claim. is_of_line claim.fact ≡ false) claims.now }
+    ensures { IsTrue result ↔ AreOfEnds claims.now }
 {
     for index in 0..claims.len() {
         if is_of_line(&claims[index].fact) {
@@ -100,16 +127,25 @@ fn are_given(lines: &[Vec<u8>], claims: &[Claim]) -> bool
     ensures { IsTrue result ↔ AreGiven lines.now claims.now }
 {
     for index in 0..claims.len() {
-        match claims[index].fact.name() {
-            Some(name) if !is_given(lines, name) => return false,
-            _ => {}
+        if !is_known(lines, claims[index].fact.name()) {
+            return false;
         }
     }
     true
 }
 
+/// Whether a name is given by a line of the file, if it is there.
+fn is_known(lines: &[Vec<u8>], name: Option<&Name>) -> bool
+    ensures { IsTrue result ↔ IfSome (option_copied name.entry) (IsGiven lines.now) }
+{
+    match name {
+        Some(name) => is_in(lines, name),
+        None => true,
+    }
+}
+
 /// Whether a line of the file gives this name.
-fn is_given(lines: &[Vec<u8>], name: &Name) -> bool
+fn is_in(lines: &[Vec<u8>], name: &Name) -> bool
     ensures { IsTrue result ↔ IsGiven lines.now name.now }
 {
     for index in 0..lines.len() {
@@ -125,7 +161,18 @@ fn gives(line: &[u8], name: &Name) -> bool
     ensures { IsTrue result ↔ Gives line.now name.now }
 {
     match read_line(line) {
-        Ok(Some(command)) => command.name_given() == Some(*name),
-        _ => false,
+        Ok(Some(command)) => is_given(command.name_given(), name),
+        Ok(None) => false,
+        Err(_) => false,
+    }
+}
+
+/// Whether this name is given.
+fn is_given(given: Option<Name>, name: &Name) -> bool
+    ensures { result ≡ is_given given name.now }
+{
+    match given {
+        Some(given) => given == *name,
+        None => false,
     }
 }

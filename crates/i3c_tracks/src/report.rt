@@ -23,7 +23,7 @@ pub(crate) fn push_report(
     lines: &[Vec<u8>],
     plan: &Plan,
     showing: Showing,
-    questions: &[Question<'_>],
+    questions: &[Question],
     found: &Explored<Scene>,
     text: &mut Text,
 ) -> Result<(), AllocError>
@@ -41,7 +41,7 @@ fn push_shown(
     lines: &[Vec<u8>],
     plan: &Plan,
     showing: Showing,
-    questions: &[Question<'_>],
+    questions: &[Question],
     ends: &[Node<Scene>],
     text: &mut Text,
 ) -> Result<(), AllocError>

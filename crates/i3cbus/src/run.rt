@@ -88,7 +88,7 @@ fn words_given<R: Env + AllocGlobal>(rt: &R) -> Result<Vec<String>, Fault> {
 fn explore_from<R: Files + Print + Eprint + AllocGlobal + Threads + Sync, S: Read>(
     rt: &R,
     exploring: &Exploring<'_>,
-    questions: &[Question<'_>],
+    questions: &[Question],
     watcher: &Watcher<'_, R>,
     input: &mut S,
 ) -> Result<Ending, Fault> {
@@ -112,7 +112,7 @@ fn explore_from<R: Files + Print + Eprint + AllocGlobal + Threads + Sync, S: Rea
 }
 
 /// What is asked of each end.
-fn questions_of<'a>(alloc: Global, texts: &[&'a str]) -> Result<Vec<Question<'a>>, Fault> {
+fn questions_of(alloc: Global, texts: &[&str]) -> Result<Vec<Question>, Fault> {
     let mut questions = Vec::new(alloc);
     for index in 0..texts.len() {
         let question = question_of(alloc, texts[index])?;
@@ -124,8 +124,8 @@ fn questions_of<'a>(alloc: Global, texts: &[&'a str]) -> Result<Vec<Question<'a>
 }
 
 /// What a text asks of each end.
-fn question_of<'a>(alloc: Global, text: &'a str) -> Result<Question<'a>, Fault> {
-    match Question::of(alloc, text)? {
+fn question_of(alloc: Global, text: &str) -> Result<Question, Fault> {
+    match Question::of(alloc, text.as_bytes())? {
         Some(question) => Ok(question),
         None => Err(Fault::NoFact(owned_text(alloc, text.as_bytes())?)),
     }
