@@ -4,8 +4,8 @@ use Rattle.std.specs.Global.{Vec}
 use Rattle.std.specs.Prelude.{count_by, filter, if◌then◌else◌, slice_get}
 use Rattle.std.specs.Cmp.Lexicographic.{pointwise}
 use Rattle.std.specs.List.{list_any}
-use Rattle.std.proofs.lemmas.List.{append_assoc, drop_more, get_or-map, length-drop}
-use Rattle.std.proofs.lemmas.Option.{slice_get_cases}
+use Rattle.std.proofs.lemmas.List.{append-nil, append_assoc, drop_more, get_or-map, length-drop}
+use Rattle.std.proofs.lemmas.Option.{slice_get_cases, slice_get_read}
 use mathlib.Core.Bool.{beq}
 use Rattle.i3c_explore.specs.declared.node.Node.{Node}
 use Rattle.i3c_facts.specs.declared.before.Before.{Before}
@@ -18,7 +18,7 @@ use Rattle.i3c_scene.specs.Trying.{LineBreaks, LineSteps, Runs, all_hold}
 use Rattle.i3c_tracks.specs.declared.plan.Plan.{Plan}
 use Rattle.i3c_tracks.specs.declared.question.Question.{Question}
 use Rattle.i3c_tracks.specs.declared.showing.Showing.{Showing}
-use Rattle.i3c_tracks.specs.Groups.{Adds, AreGroupTexts, LeadTo, answer_text, answers_text, are_alike, begins_at, group_of, groups_in, holds_in, key_of, keys_of}
+use Rattle.i3c_tracks.specs.Groups.{Adds, AreGroupTexts, IsExample, IsGroupText, LeadTo, answer_text, answers_text, are_alike, begins_at, group_head, group_of, groups_in, holds_in, key_of, keys_of}
 use Rattle.i3c_tracks.specs.Planning.{Step, step_of}
 use Rattle.i3c_tracks.specs.Questions.{asking}
 use Rattle.i3c_tracks.proofs.KeyLaws.{Tells, compared, count_images, kept_more, list_more, maps_at, maps_length, over, plus, plus_is, plus_more, unknown}
@@ -192,3 +192,47 @@ texts_more showing lines plan questions ends k before end start old new earlier 
     let more : AreGroupTexts showing lines plan questions ends (suc k) (earlier ++ own) =
         (earlier, own, end, told, there, subst (λ (n : ℕ). Adds (begins_at (keys_of questions ends) k) showing lines plan questions ends (suc n) (suc k) end own) groups adds, refl) in
     (earlier ++ own, subst (λ (n : ℕ). AreGroupTexts showing lines plan questions ends n (earlier ++ own)) back more, put ∙ ap (λ (t : List ℕ). t ++ own) so_far ∙ append_assoc start earlier own)
+
+-- the group that begins at a place
+pub group_told : (showing : Showing) (lines : List (Vec ℕ)) (plan : Plan) (questions : List Question) (ends : List (Node Seen)) (keys : List (Vec Bool)) (place number size : ℕ) (orders : Option ℕ) (end : Node Seen) (own : Vec Bool) (key : List Bool) (start headed answered new example : List ℕ)
+    → map (λ (key : Vec Bool). key.items) keys ≡ keys_of questions ends → place < length ends → end ≡ get_or ends place end → own ≡ get_or keys place own → key ≡ own.items → size ≡ count_by (λ (one : List Bool). are_alike one key) (map (λ (key : Vec Bool). key.items) keys) → LeadTo (group_of questions key ends) orders
+    → headed ≡ start ++ group_head number size orders (not plan.risky) → answered ≡ headed ++ answers_text questions key → IsExample showing lines plan (place + 1) end example → new ≡ answered ++ example
+    → (end : Node Seen) × (said : List ℕ) × (slice_get ends place ≡ Some end) × IsGroupText showing lines plan questions ends number (suc place) end said × (new ≡ start ++ said)
+group_told showing lines plan questions ends keys place number size orders end own key start headed answered new example same lt is own_is key_is size_is' lead head answers shown put =
+    let few : length keys ≡ length ends = maps_length (λ (key : Vec Bool). key.items) (key_of questions) keys ends same in
+    let lt' : place < length keys = omega arith in
+    let here : key ≡ key_of questions end = key_is ∙ maps_at (λ (key : Vec Bool). key.items) (key_of questions) keys ends place own end same lt' own_is lt is in
+    let next : place + 1 ≡ suc place = omega arith in
+    let counted : size ≡ length (group_of questions key ends) = size_is' ∙ size_is (map (λ (key : Vec Bool). key.items) keys) questions ends key same in
+    let first = group_head number size orders (not plan.risky) in
+    let rest = answers_text questions key in (
+      end,
+      first ++ (rest ++ example),
+      slice_get_read ends (length ends) place end refl lt is,
+      subst (λ (k : List Bool). (orders : Option ℕ) × (example' : List ℕ) × LeadTo (group_of questions k ends) orders × IsExample showing lines plan (suc place) end example'
+              × (first ++ (rest ++ example) ≡ group_head number (length (group_of questions k ends)) orders (not plan.risky) ++ (answers_text questions k ++ example'))) here
+          (orders, example, lead, subst (λ (n : ℕ). IsExample showing lines plan n end example) next shown, ap (λ (n : ℕ). group_head number n orders (not plan.risky) ++ (rest ++ example)) counted),
+      put ∙ ap (λ (t : List ℕ). t ++ example) (answers ∙ ap (λ (t : List ℕ). t ++ rest) head) ∙ append_assoc (start ++ first) rest example ∙ append_assoc start first (rest ++ example),
+    )
+
+-- an end at which no group begins
+pub nothing_told : (showing : Showing) (lines : List (Vec ℕ)) (plan : Plan) (questions : List Question) (ends : List (Node Seen)) (place number : ℕ) (begins : Bool) (text : List ℕ) → place < length ends → begins ≡ false
+    → (end : Node Seen) × (said : List ℕ) × (slice_get ends place ≡ Some end) × Adds begins showing lines plan questions ends number (suc place) end said × (text ≡ text ++ said)
+nothing_told showing lines plan questions ends place number begins text lt is =
+    elim (slice_get_cases ends place).1
+    [ inl w ↦ let (end, within, there, at) = w in (end, [], there, subst (λ (b : Bool). Adds b showing lines plan questions ends number (suc place) end []) (sym is) refl, sym (append-nil text))
+    | inr w ↦ absurd (omega (arith, w.0)) ]
+
+-- an end at which one does
+pub group_adds : (showing : Showing) (lines : List (Vec ℕ)) (plan : Plan) (questions : List Question) (ends : List (Node Seen)) (place before : ℕ) (begins : Bool) (old new : List ℕ) → begins ≡ true
+    → (end : Node Seen) × (said : List ℕ) × (slice_get ends place ≡ Some end) × IsGroupText showing lines plan questions ends (before + 1) (suc place) end said × (new ≡ old ++ said)
+    → (end : Node Seen) × (said : List ℕ) × (slice_get ends place ≡ Some end) × Adds begins showing lines plan questions ends (suc before) (suc place) end said × (new ≡ old ++ said)
+group_adds showing lines plan questions ends place before begins old new is (end, said, there, told, put) =
+    let next : before + 1 ≡ suc before = omega arith in
+    let here : IsGroupText showing lines plan questions ends (suc before) (suc place) end said = subst (λ (n : ℕ). IsGroupText showing lines plan questions ends n (suc place) end said) next told in
+    (end, said, there, subst (λ (b : Bool). Adds b showing lines plan questions ends (suc before) (suc place) end said) (sym is) here, put)
+
+-- no more groups than ends
+pub groups_few : (begins : Bool) (groups more i : ℕ) → more ≡ (if begins then suc groups else groups) → groups ≤ i → more ≤ i + 1
+groups_few true groups more i is few = omega arith
+groups_few false groups more i is few = omega arith

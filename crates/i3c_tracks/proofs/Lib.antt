@@ -5,3 +5,4 @@ mod CourseLaws
 mod EndLaws
 mod KeyLaws
 mod GroupLaws
+mod QuestionLaws

@@ -51,12 +51,14 @@ abbrev pub LeadTo : List (Node Seen) → Option ℕ → Type 0
 LeadTo [] orders = orders ≡ Some 0
 LeadTo (end ∷ ends) orders = (others : Option ℕ) × LeadTo ends others × IsSum end.orders others orders
 
--- the first line of a group of these ends. The orders that lead to them are told if each interleaving leads to one end
-abbrev pub IsHead : Bool → ℕ → List (Node Seen) → List ℕ → Type 0
-IsHead true number ends text =
-    (orders : Option ℕ) × LeadTo ends orders
-    × (text ≡ codes "group " ++ (decimal number ++ (codes " of " ++ (decimal (length ends) ++ (codes " ends of " ++ (orders_text orders ++ (codes " orders" ++ 10 ∷ [])))))))
-IsHead false number ends text = text ≡ codes "group " ++ (decimal number ++ (codes " of " ++ (decimal (length ends) ++ (codes " ends" ++ 10 ∷ []))))
+-- the orders that lead to a group's ends are told if each interleaving leads to one end
+abbrev pub led_text : Option ℕ → Bool → List ℕ
+led_text orders true = codes " ends of " ++ (orders_text orders ++ (codes " orders" ++ 10 ∷ []))
+led_text orders false = codes " ends" ++ 10 ∷ []
+
+-- the first line of a group: its number, how many ends it has, and how many orders lead to them
+abbrev pub group_head : ℕ → ℕ → Option ℕ → Bool → List ℕ
+group_head number size orders counted = codes "group " ++ (decimal number ++ (codes " of " ++ (decimal size ++ led_text orders counted)))
 
 -- the line of a question: whether it holds at the group's ends
 abbrev pub answer_text : Question → Bool → List ℕ
@@ -76,8 +78,8 @@ IsExample Showing.Numbers lines plan number end text = text ≡ []
 -- the text of the group of this number that begins at an end: its head, whether each question holds there, and its example
 abbrev pub IsGroupText : Showing → List (Vec ℕ) → Plan → List Question → List (Node Seen) → ℕ → ℕ → Node Seen → List ℕ → Type 0
 IsGroupText showing lines plan questions ends group number end text =
-    (head : List ℕ) × (example : List ℕ) × IsHead (not plan.risky) group (group_of questions (key_of questions end) ends) head × IsExample showing lines plan number end example
-    × (text ≡ head ++ (answers_text questions (key_of questions end) ++ example))
+    (orders : Option ℕ) × (example : List ℕ) × LeadTo (group_of questions (key_of questions end) ends) orders × IsExample showing lines plan number end example
+    × (text ≡ group_head group (length (group_of questions (key_of questions end) ends)) orders (not plan.risky) ++ (answers_text questions (key_of questions end) ++ example))
 
 -- what one more end adds: the text of its group, if this begins there
 abbrev pub Adds : Bool → Showing → List (Vec ℕ) → Plan → List Question → List (Node Seen) → ℕ → ℕ → Node Seen → List ℕ → Type 0

@@ -1,7 +1,7 @@
 ghost use Rattle.std.specs.Prelude.{◌≡◌, ◌<◌, ◌≤◌, ◌+◌, ◌++◌, ℕ, List, Some, IfOk, OnOk, count_by, if◌then◌else◌, length, map, slice_get, suc};
 ghost use Rattle.i3c_explore.specs.declared.node.Node.{Node as NodeValue};
 ghost use Rattle.i3c_scene.specs.Scenes.{Seen};
-ghost use Rattle.i3c_tracks.specs.Groups.{Adds, AreGroupTexts, AreGroups, IsExample, IsGroupText, IsHead, LeadTo, answer_text, answers_text, are_alike, begins_at, group_of, groups_in, holds_in, key_of, keys_of};
+ghost use Rattle.i3c_tracks.specs.Groups.{Adds, AreGroupTexts, AreGroups, IsExample, IsGroupText, LeadTo, answer_text, answers_text, are_alike, begins_at, group_head, group_of, groups_in, holds_in, key_of, keys_of, led_text};
 ghost use Rattle.i3c_tracks.specs.Planning.{step_of};
 ghost use Rattle.i3c_tracks.specs.Questions.{asking};
 ghost use Rattle.i3c_tracks.specs.declared.question.Question.{Question as QuestionValue};
@@ -164,7 +164,8 @@ fn push_place(
     ensures text { OnOk result ((end : NodeValue Seen) × (said : List ℕ) × (slice_get ends.now place ≡ Some end)
         × Adds (begins_at (keys_of questions.now ends.now) place) showing lines.now plan.now questions.now ends.now (suc before) (suc place) end said × (text.new ≡ text.old ++ said)) }
 {
-    if !begins_at(keys, place) {
+    let begins = begins_at(keys, place);
+    if !begins {
         return Ok(before);
     }
     push_group(
@@ -203,7 +204,9 @@ fn push_group(
         × IsGroupText showing lines.now plan.now questions.now ends.now number (suc place) end said × (text.new ≡ text.old ++ said)) }
 {
     let key = keys[place].as_slice();
-    push_head(number, ends, keys, key, !plan.risky, text)?;
+    let size = size_of(keys, key);
+    let orders = orders_of(ends, keys, key);
+    push_head(number, size, orders, !plan.risky, text)?;
     push_answers(questions, key, text)?;
     push_example(
         alloc,
@@ -244,31 +247,33 @@ fn orders_of(ends: &[Node<Scene>], keys: &[Vec<bool>], key: &[bool]) -> Option<u
     Some(orders)
 }
 
-/// Appends the first line of the group with this key. The orders that lead to its ends are told if each interleaving leads to
-/// one end.
+/// Appends the first line of a group.
 fn push_head(
     number: u64,
-    ends: &[Node<Scene>],
-    keys: &[Vec<bool>],
-    key: &[bool],
+    size: u64,
+    orders: Option<u64>,
     counted: bool,
     text: &mut Text,
 ) -> Result<(), AllocError>
-    requires { length keys.now ≡ length ends.now }
-    ensures { OnOk result ((questions : List QuestionValue) → map (λ key. key.items) keys.now ≡ keys_of questions ends.now
-        → (head : List ℕ) × IsHead counted number (group_of questions key.now ends.now) head × (text.new ≡ text.old ++ head)) }
+    ensures { OnOk result (text.new ≡ text.old ++ group_head number size orders counted) }
 {
     text.push(b"group ")?;
     text.push_decimal(number)?;
     text.push(b" of ")?;
-    text.push_decimal(size_of(keys, key))?;
-    text.push(b" ends")?;
-    if counted {
-        text.push(b" of ")?;
-        push_orders(orders_of(ends, keys, key), text)?;
-        text.push(b" orders")?;
+    text.push_decimal(size)?;
+    push_led(orders, counted, text)
+}
+
+/// Appends how many orders lead to the ends of a group, if each interleaving leads to one end.
+fn push_led(orders: Option<u64>, counted: bool, text: &mut Text) -> Result<(), AllocError>
+    ensures { OnOk result (text.new ≡ text.old ++ led_text orders counted) }
+{
+    if !counted {
+        return text.push(b" ends\n");
     }
-    text.end()
+    text.push(b" ends of ")?;
+    push_orders(orders, text)?;
+    text.push(b" orders\n")
 }
 
 /// Appends which of the questions hold at the ends of a group.

@@ -9,7 +9,7 @@ use Rattle.i3c_tracks.proofs.question.are_of_ends.Goals as goal
 pub loop-index-preserved : goal.loop-index-preserved
 loop-index-preserved c =
     All-more (λ (claim : Claim). is_of_line claim.fact ≡ false) c.args.claims.now c.loop-index.index c.index-claims-index.result c.loop-index-test.true c.loop-index.invariant
-    (ap (λ (claim : Claim). is_of_line claim.fact) (sym c.index-claims-index.is) ∙ sym c.if-is_of_line.ensures)
+    (sym c.if-is_of_line.ensures)
 
 pub returns : goal.returns
 returns c = (λ _. subst AreOfEnds (take_all c.loop-index.index c.args.claims.now c.loop-index-test.false) c.loop-index.invariant, λ _. refl)
