@@ -52,11 +52,12 @@ pub key_more : (scene new : Seen) (asked : List Line) (questions : List Question
     → (held ≡ true → LineSteps scene line 0 new) → (held ≡ false → LineBreaks scene line 0) → more ≡ key ++ held ∷ [] → more ≡ map (holds_in scene) (take (i + 1) questions)
 key_more scene new asked questions key more i line held same so_far lt is steps breaks put =
     let few : length asked ≡ length questions = maps_length step_of asking asked questions same in
-    elim (slice_get_cases questions i).1
-    [ inl w ↦
-        let (question, within, there, at) = w in
-        list_more (holds_in scene) key more questions i question held so_far put within (sym at) (answered scene new line question held (maps_at step_of asking asked questions i line question same lt is within (sym at)) steps breaks)
-    | inr w ↦ absurd (omega (arith, few, w.0)) ]
+    elim (slice_get_cases questions i).1 [
+      | inl w ↦
+          let (question, within, there, at) = w in
+          list_more (holds_in scene) key more questions i question held so_far put within (sym at) (answered scene new line question held (maps_at step_of asking asked questions i line question same lt is within (sym at)) steps breaks)
+      | inr w ↦ absurd (omega (arith, few, w.0))
+    ]
 
 -- how the keys at two places compare
 pub alike_at : (keys : List (Vec Bool)) (i place : ℕ) (one own : Vec Bool) (a b : List Bool) (test : Bool) → i < length keys → one ≡ get_or keys i one → place < length keys → own ≡ get_or keys place own → a ≡ one.items → b ≡ own.items → test ≡ pointwise beq a b
@@ -121,11 +122,12 @@ alike_end keys questions ends i one end a key test same lt is lt' is' first comp
 pub unlike_more : (keys : List (Vec Bool)) (questions : List Question) (ends : List (Node Seen)) (i : ℕ) (one : Vec Bool) (a key : List Bool) (sum : ℕ) → map (λ (key : Vec Bool). key.items) keys ≡ keys_of questions ends → i < length keys → one ≡ get_or keys i one → i < length ends → a ≡ one.items → false ≡ pointwise beq a key
     → plus (Some sum) (total (group_of questions key (drop i ends))) ≡ total (group_of questions key ends) → plus (Some sum) (total (group_of questions key (drop (i + 1) ends))) ≡ total (group_of questions key ends)
 unlike_more keys questions ends i one a key sum same lt is lt' first compares so_far =
-    elim (slice_get_cases ends i).1
-    [ inl w ↦
-        let (end, within, there, at) = w in
-        ap (λ (rest : Option ℕ). plus (Some sum) rest) (sym (left_unlike questions key ends i end lt' (sym at) (alike_end keys questions ends i one end a key false same lt is lt' (sym at) first compares))) ∙ so_far
-    | inr w ↦ absurd (omega (arith, w.0)) ]
+    elim (slice_get_cases ends i).1 [
+      | inl w ↦
+          let (end, within, there, at) = w in
+          ap (λ (rest : Option ℕ). plus (Some sum) rest) (sym (left_unlike questions key ends i end lt' (sym at) (alike_end keys questions ends i one end a key false same lt is lt' (sym at) first compares))) ∙ so_far
+      | inr w ↦ absurd (omega (arith, w.0))
+    ]
 
 -- what is known of an end of the group: its orders, and how many lead to those before it
 pub record IsNext (questions : List Question) (ends : List (Node Seen)) (key : List Bool) (i : ℕ) (end : Node Seen) (sum : ℕ) : Type 0 where
@@ -190,7 +192,7 @@ pub texts_more : (showing : Showing) (lines : List (Vec ℕ)) (plan : Plan) (que
 texts_more showing lines plan questions ends k before end start old new earlier own told so_far there groups adds put =
     let back : suc k ≡ k + 1 = omega arith in
     let more : AreGroupTexts showing lines plan questions ends (suc k) (earlier ++ own) =
-        (earlier, own, end, told, there, subst (λ (n : ℕ). Adds (begins_at (keys_of questions ends) k) showing lines plan questions ends (suc n) (suc k) end own) groups adds, refl) in
+    (earlier, own, end, told, there, subst (λ (n : ℕ). Adds (begins_at (keys_of questions ends) k) showing lines plan questions ends (suc n) (suc k) end own) groups adds, refl) in
     (earlier ++ own, subst (λ (n : ℕ). AreGroupTexts showing lines plan questions ends n (earlier ++ own)) back more, put ∙ ap (λ (t : List ℕ). t ++ own) so_far ∙ append_assoc start earlier own)
 
 -- the group that begins at a place
@@ -210,7 +212,7 @@ group_told showing lines plan questions ends keys place number size orders end o
       first ++ (rest ++ example),
       slice_get_read ends (length ends) place end refl lt is,
       subst (λ (k : List Bool). (orders : Option ℕ) × (example' : List ℕ) × LeadTo (group_of questions k ends) orders × IsExample showing lines plan (suc place) end example'
-              × (first ++ (rest ++ example) ≡ group_head number (length (group_of questions k ends)) orders (not plan.risky) ++ (answers_text questions k ++ example'))) here
+          × (first ++ (rest ++ example) ≡ group_head number (length (group_of questions k ends)) orders (not plan.risky) ++ (answers_text questions k ++ example'))) here
           (orders, example, lead, subst (λ (n : ℕ). IsExample showing lines plan n end example) next shown, ap (λ (n : ℕ). group_head number n orders (not plan.risky) ++ (rest ++ example)) counted),
       put ∙ ap (λ (t : List ℕ). t ++ example) (answers ∙ ap (λ (t : List ℕ). t ++ rest) head) ∙ append_assoc (start ++ first) rest example ∙ append_assoc start first (rest ++ example),
     )
@@ -219,9 +221,10 @@ group_told showing lines plan questions ends keys place number size orders end o
 pub nothing_told : (showing : Showing) (lines : List (Vec ℕ)) (plan : Plan) (questions : List Question) (ends : List (Node Seen)) (place number : ℕ) (begins : Bool) (text : List ℕ) → place < length ends → begins ≡ false
     → (end : Node Seen) × (said : List ℕ) × (slice_get ends place ≡ Some end) × Adds begins showing lines plan questions ends number (suc place) end said × (text ≡ text ++ said)
 nothing_told showing lines plan questions ends place number begins text lt is =
-    elim (slice_get_cases ends place).1
-    [ inl w ↦ let (end, within, there, at) = w in (end, [], there, subst (λ (b : Bool). Adds b showing lines plan questions ends number (suc place) end []) (sym is) refl, sym (append-nil text))
-    | inr w ↦ absurd (omega (arith, w.0)) ]
+    elim (slice_get_cases ends place).1 [
+      | inl w ↦ let (end, within, there, at) = w in (end, [], there, subst (λ (b : Bool). Adds b showing lines plan questions ends number (suc place) end []) (sym is) refl, sym (append-nil text))
+      | inr w ↦ absurd (omega (arith, w.0))
+    ]
 
 -- an end at which one does
 pub group_adds : (showing : Showing) (lines : List (Vec ℕ)) (plan : Plan) (questions : List Question) (ends : List (Node Seen)) (place before : ℕ) (begins : Bool) (old new : List ℕ) → begins ≡ true

@@ -47,12 +47,13 @@ loop-index-preserved c questions same =
     let i = c.loop-index.index in
     let lt : i < length c.args.ends.now = c.loop-index-test.true in
     let within : i < length c.args.keys.now = omega (arith, c.requires) in
-    elim c.if-eq.branch
-    [ then-eq+in_ok-ends+in_ok-orders w ↦
-        let next = next_is c.args.keys.now questions c.args.ends.now i c.index-keys-index.result w.index-ends-index.result c.as_slice.result.now c.args.key.now c.loop-index.orders same within c.index-keys-index.is lt w.index-ends-index.is c.as_slice.ensures.value w.if-eq.ensures (c.loop-index.invariant questions same) in
-        let own : w.index-ends-index.result.orders ≡ Some w.in_ok-ends.field-0 = first_of (cc, search rules, grind (arith, common_steps)) in
-        let more : c.if-eq.orders ≡ c.loop-index.orders + w.in_ok-ends.field-0 = first_of (cc, search rules, grind (arith, common_steps)) in
-        alike_more questions c.args.ends.now c.args.key.now i w.index-ends-index.result c.loop-index.orders w.in_ok-ends.field-0 c.if-eq.orders next own more
-    | else-eq w ↦
-        ap (λ (n : ℕ). plus (Some n) (total (group_of questions c.args.key.now (drop (i + 1) c.args.ends.now)))) w.orders-is
-        ∙ unlike_more c.args.keys.now questions c.args.ends.now i c.index-keys-index.result c.as_slice.result.now c.args.key.now c.loop-index.orders same within c.index-keys-index.is lt c.as_slice.ensures.value w.if-eq.ensures (c.loop-index.invariant questions same) ]
+    elim c.if-eq.branch [
+      | then-eq+in_ok-ends+in_ok-orders w ↦
+          let next = next_is c.args.keys.now questions c.args.ends.now i c.index-keys-index.result w.index-ends-index.result c.as_slice.result.now c.args.key.now c.loop-index.orders same within c.index-keys-index.is lt w.index-ends-index.is c.as_slice.ensures.value w.if-eq.ensures (c.loop-index.invariant questions same) in
+          let own : w.index-ends-index.result.orders ≡ Some w.in_ok-ends.field-0 = first_of (cc, search rules, grind (arith, common_steps)) in
+          let more : c.if-eq.orders ≡ c.loop-index.orders + w.in_ok-ends.field-0 = first_of (cc, search rules, grind (arith, common_steps)) in
+          alike_more questions c.args.ends.now c.args.key.now i w.index-ends-index.result c.loop-index.orders w.in_ok-ends.field-0 c.if-eq.orders next own more
+      | else-eq w ↦
+          ap (λ (n : ℕ). plus (Some n) (total (group_of questions c.args.key.now (drop (i + 1) c.args.ends.now)))) w.orders-is
+          ∙ unlike_more c.args.keys.now questions c.args.ends.now i c.index-keys-index.result c.as_slice.result.now c.args.key.now c.loop-index.orders same within c.index-keys-index.is lt c.as_slice.ensures.value w.if-eq.ensures (c.loop-index.invariant questions same)
+    ]

@@ -16,10 +16,11 @@ loop-index-preserved c =
     let lt : i < length keys = c.loop-index-test.true in
     let all = map (λ (key : Vec Bool). key.items) keys in
     let inside : i < length all = omega (arith, length-map keys (λ (key : Vec Bool). key.items)) in
-    elim c.if-eq.branch
-    [ then-eq w ↦
-        let alike = alike_key keys i c.index-keys-index.result c.as_slice.result.now key true lt c.index-keys-index.is c.as_slice.ensures.value w.if-eq.ensures in
-        (w.size-is ∙ ap (λ n. n + 1) c.loop-index.invariant.0 ∙ sym (count_by_more_yes (λ (one : List Bool). are_alike one key) all i [] inside alike), omega (arith, w.size-is))
-    | else-eq w ↦
-        let unlike = alike_key keys i c.index-keys-index.result c.as_slice.result.now key false lt c.index-keys-index.is c.as_slice.ensures.value w.if-eq.ensures in
-        (w.size-is ∙ c.loop-index.invariant.0 ∙ sym (count_by_more_no (λ (one : List Bool). are_alike one key) all i [] inside unlike), omega (arith, w.size-is)) ]
+    elim c.if-eq.branch [
+      | then-eq w ↦
+          let alike = alike_key keys i c.index-keys-index.result c.as_slice.result.now key true lt c.index-keys-index.is c.as_slice.ensures.value w.if-eq.ensures in
+          (w.size-is ∙ ap (λ n. n + 1) c.loop-index.invariant.0 ∙ sym (count_by_more_yes (λ (one : List Bool). are_alike one key) all i [] inside alike), omega (arith, w.size-is))
+      | else-eq w ↦
+          let unlike = alike_key keys i c.index-keys-index.result c.as_slice.result.now key false lt c.index-keys-index.is c.as_slice.ensures.value w.if-eq.ensures in
+          (w.size-is ∙ c.loop-index.invariant.0 ∙ sym (count_by_more_no (λ (one : List Bool). are_alike one key) all i [] inside unlike), omega (arith, w.size-is))
+    ]

@@ -9,12 +9,14 @@ use Rattle.i3c_tracks.specs.Questions.{Gives}
 use Rattle.i3c_tracks.proofs.question.is_in.Goals as goal
 
 pub returns-then-gives : goal.returns-then-gives
-returns-then-gives c =
-    (λ _. (
-      c.index-lines-index.result,
-      (c.loop-index.index, c.loop-index-test.true, sym c.index-lines-index.is),
-      subst (λ line. Gives line c.args.name.now) c.as_slice.ensures.value (c.if-gives.ensures.0 refl),
-    ), λ _. refl)
+returns-then-gives c = (
+  λ _. (
+    c.index-lines-index.result,
+    (c.loop-index.index, c.loop-index-test.true, sym c.index-lines-index.is),
+    subst (λ line. Gives line c.args.name.now) c.as_slice.ensures.value (c.if-gives.ensures.0 refl),
+  ),
+  λ _. refl,
+)
 
 pub loop-index-preserved : goal.loop-index-preserved
 loop-index-preserved c =
