@@ -23,6 +23,12 @@ pub enum Fault {
     /// A capture isn't read to its end, and why.
     #[error("i3cbus: {0}\n")]
     Capture(CaptureFault),
+    /// A text behind `--by` is no fact that an end can have.
+    #[error("i3cbus: --by '{0}': no fact of an end\n")]
+    NoFact(String),
+    /// A fact behind `--by` has a name that the file doesn't give.
+    #[error("i3cbus: --by '{0}': no line of the file gives this name\n")]
+    NoName(String),
     /// A line has no form: its number, and why.
     #[error("i3cbus: line {0}\n")]
     NoForm(String),

@@ -21,7 +21,7 @@ pub use drawing::draw_script;
 pub use ending::{BREAKS, DONE, FAULT, REFUSED, tally_status};
 pub use fault::Fault;
 pub use output::{Output, print_fault};
-pub use run::{reading_fault, run_capture, run_file};
+pub use run::{owned_text, reading_fault, run_capture, run_file};
 pub use stressing::run_stress;
 pub use telling::{print_capture, print_trace};
 pub use version::print_version;

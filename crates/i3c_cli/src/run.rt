@@ -233,7 +233,7 @@ fn watch_from<R: Files + Print + Eprint + AllocGlobal, S: Read>(
 }
 
 /// A copy of a text.
-fn owned_text(alloc: Global, text: &[u8]) -> Result<String, Fault> {
+pub fn owned_text(alloc: Global, text: &[u8]) -> Result<String, Fault> {
     match str::from_utf8(text) {
         Ok(text) => Ok(text.to_string(alloc)?),
         Err(_) => Ok(String::new(alloc)),

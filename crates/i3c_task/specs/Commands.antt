@@ -48,7 +48,7 @@ arguments_of Verb.Run = file ∷ flag (codes "strict") ∷ flag (codes "numbers"
 arguments_of Verb.Drive = flag (codes "json") ∷ []
 arguments_of Verb.Check = file ∷ []
 arguments_of Verb.Draw = file ∷ []
-arguments_of Verb.Explore = number most_lines ∷ text (codes "part") ∷ number jobs ∷ flag (codes "quiet") ∷ file ∷ []
+arguments_of Verb.Explore = number most_lines ∷ text (codes "part") ∷ number jobs ∷ texts (codes "by") ∷ flag (codes "quiet") ∷ file ∷ []
 arguments_of Verb.Trace =
     flag (codes "all") ∷ flag (codes "lint") ∷ flag (codes "explain") ∷ texts (codes "legacy") ∷ flag (codes "vcd") ∷ text (codes "scl")
     ∷ text (codes "sda") ∷ flag (codes "numbers") ∷ file ∷ []

@@ -64,9 +64,13 @@ IsPartOf (Some text) part = NamesPart text part
 abbrev pub NamesLegacy : List ℕ → ℕ → Type 0
 NamesLegacy text a = (length text ≡ 2) × All IsHexDigit text × (a ≡ digits_value 16 text) × (0x08 ≤ a) × (a ≤ 0x77)
 
+-- the texts of all uses of an option
+abbrev pub texts_of : Found → List ℕ → List (List ℕ)
+texts_of found name = unwrap_or (option_map raw_values (matched_of found name)) []
+
 -- the texts of all uses of `--legacy`
 abbrev pub legacy_texts : Found → List (List ℕ)
-legacy_texts found = unwrap_or (option_map raw_values (matched_of found (codes "legacy"))) []
+legacy_texts found = texts_of found (codes "legacy")
 
 -- each text names a legacy target's address
 abbrev pub AllName : List (List ℕ) → Type 0

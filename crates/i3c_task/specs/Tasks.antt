@@ -1,5 +1,5 @@
 -- Which options of a command give which task.
-use Rattle.std.specs.Prelude.{◌≡◌, ◌⊎◌, ℕ, true, false, List, [], ◌∷◌, codes, Some, None}
+use Rattle.std.specs.Prelude.{◌≡◌, ◌⊎◌, ℕ, true, false, List, [], ◌∷◌, codes, map, Some, None}
 use Rattle.clap.specs.Words.{Text, fault_of, first_value, found_of, rows_of, subcommand_of}
 use Rattle.clap.specs.declared.parser.matches.ArgMatches.{ArgMatches}
 use Rattle.clap.specs.declared.parser.matches.Found.{Found}
@@ -15,7 +15,7 @@ use Rattle.i3c_task.specs.declared.task.Waveform.{Waveform}
 use Rattle.i3c_task.specs.declared.task.Work.{Work}
 use Rattle.i3c_task.specs.declared.verb.Verb.{Verb}
 use Rattle.i3c_task.specs.Commands.{name_of, program}
-use Rattle.i3c_task.specs.Options.{AreLegacies, IsFlag, IsNumberOf, IsPartOf, devices, jobs, legacy_texts, most_lines, posts, text_or}
+use Rattle.i3c_task.specs.Options.{AreLegacies, IsFlag, IsNumberOf, IsPartOf, devices, jobs, legacy_texts, most_lines, posts, text_or, texts_of}
 use Rattle.i3c_task.specs.Words.{RunsInput}
 
 -- the file of a command: standard input without one
@@ -85,7 +85,7 @@ IsWave found task = ⊥
 abbrev pub IsExplore : Found → Task → Type 0
 IsExplore found (Task.Explore exploring file) =
     IsNumberOf most_lines found exploring.limits.steps × (exploring.limits.states ≡ 16384) × IsPartOf (first_value found (codes "part")) exploring.part
-    × IsNumberOf jobs found exploring.jobs × IsFlag found (codes "quiet") exploring.quiet × (file.now ≡ file_of found)
+    × IsNumberOf jobs found exploring.jobs × IsFlag found (codes "quiet") exploring.quiet × (map (λ text. text.now) exploring.by.items ≡ texts_of found (codes "by")) × (file.now ≡ file_of found)
 IsExplore found task = ⊥
 
 -- the task of `stress`

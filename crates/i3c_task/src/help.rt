@@ -84,6 +84,7 @@ The file is a script with blocks. The lines of a block's tracks happen in any in
 
 If all of it holds in every order, the number of orders is printed, and each end that they lead to. Otherwise the output is a
 script that leads to what doesn't hold. With --jobs N several threads find the same sooner. With --quiet no end is printed.
+With --by FACT the ends are grouped by whether FACT holds there, and each group has an example.
 
 Exit status:
   0  every order was tried, and all holds

@@ -1,7 +1,7 @@
-ghost use Rattle.std.specs.Prelude.{◌≡◌, ℕ, ◌^◌, ◌<◌, MatchOption, MatchResult, map, option_map};
+ghost use Rattle.std.specs.Prelude.{◌≡◌, ℕ, ◌^◌, ◌<◌, IfOk, MatchOption, MatchResult, map, option_map};
 ghost use Rattle.std.specs.Str.Parse.{IsNumeral, digits_value};
 ghost use Rattle.clap.specs.Words.{first_value, found_of};
-ghost use Rattle.i3c_task.specs.Options.{AllName, AreLegacies, IsFlag, IsNumberIn, IsPartOf, NamesLegacy, NamesPart, legacy_texts, text_or};
+ghost use Rattle.i3c_task.specs.Options.{AllName, AreLegacies, IsFlag, IsNumberIn, IsPartOf, NamesLegacy, NamesPart, legacy_texts, text_or, texts_of};
 
 use crate::verb::LEGACY;
 use crate::words_fault::WordsFault;
@@ -9,6 +9,7 @@ use clap::ArgMatches;
 use i3c_base::{Addr7, Addresses};
 use i3c_explore::Part;
 use i3c_text::read_byte;
+use std::alloc::{AllocError, Global};
 
 /// The least and the most address of a legacy target.
 const LEAST_LEGACY: u8 = 0x08;
@@ -27,6 +28,21 @@ pub(crate) fn text_given<'a>(given: &ArgMatches<'a>, name: &str, without: &'a st
     ensures { result.now ≡ text_or (found_of given.now) name.now without.now }
 {
     given.get_str(name).unwrap_or(without)
+}
+
+/// The texts of all uses of an option.
+pub(crate) fn texts_given<'a>(
+    alloc: Global,
+    given: &ArgMatches<'a>,
+    name: &str,
+) -> Result<Vec<&'a str>, AllocError>
+    ensures { IfOk result (λ texts. map (λ text. text.now) texts.items ≡ texts_of (found_of given.now) name.now) }
+{
+    let mut texts = Vec::new(alloc);
+    if let Some(given) = given.get_strs(name) {
+        texts.extend_from_slice(given)?;
+    }
+    Ok(texts)
 }
 
 /// The number of an option, from its least to its most, or this one where it wasn't given. It is decimal digits alone.

@@ -6,11 +6,13 @@ ghost use Rattle.i3c_task.specs.Parsed.{IsGiven, IsReadFrom, NamesNone};
 ghost use Rattle.i3c_task.specs.Words.{RunsInput};
 
 use crate::argument::Bonds;
-use crate::options::{flag_given, legacies_given, number_given, part_given, text_given};
+use crate::options::{
+    flag_given, legacies_given, number_given, part_given, text_given, texts_given,
+};
 use crate::verb::{
-    ALL, DEVICES, ECHO, EXPLAIN, FILE, FROM_TRACE, JOBS, JSON, LEGACY, LINT, MOST, MOST_DEVICES,
-    MOST_JOBS, MOST_POSTS, NUMBERS, PART, PLAIN, POSTS, QUIET, SCL, SDA, STRICT, TEST, TOTALS, VCD,
-    Verb, parser, usages,
+    ALL, BY, DEVICES, ECHO, EXPLAIN, FILE, FROM_TRACE, JOBS, JSON, LEGACY, LINT, MOST,
+    MOST_DEVICES, MOST_JOBS, MOST_POSTS, NUMBERS, PART, PLAIN, POSTS, QUIET, SCL, SDA, STRICT,
+    TEST, TOTALS, VCD, Verb, parser, usages,
 };
 use crate::words_fault::WordsFault;
 use clap::ArgMatches;
@@ -33,14 +35,14 @@ const MOST_STEPS: u64 = 10_000_000;
 const MOST_STATES: usize = 16_384;
 
 /// What the program does.
-#[derive(Clone, Copy)]
+#[derive(Drop)]
 pub enum Task<'a> {
     /// Reads this file, and does this with it.
     File(Work, &'a str),
     /// Reads this file as a capture, and tells its symbols.
     Capture(Capturing<'a>, Telling, &'a str),
     /// Tries every order of this file's tracks so.
-    Explore(Exploring, &'a str),
+    Explore(Exploring<'a>, &'a str),
     /// Lets devices post from threads of their own.
     Stress(Stress),
     /// Prints which program this is.
@@ -102,15 +104,17 @@ pub struct Waveform {
 }
 
 /// How the orders of a file's tracks are tried.
-#[derive(Clone, Copy)]
-pub struct Exploring {
+#[derive(Drop)]
+pub struct Exploring<'a> {
     pub limits: Limits,
     /// The part of all orders.
     pub part: Part,
     /// The most threads that run lines.
     pub jobs: usize,
-    /// Whether numbers alone are printed where all holds.
+    /// Whether no end is printed where all holds.
     pub quiet: bool,
+    /// The texts of the facts by which ends are grouped.
+    pub by: Vec<&'a str>,
 }
 
 /// How many devices post, and how often each tries to.
@@ -135,7 +139,7 @@ pub fn task_named<'a>(alloc: Global, words: &'a [String]) -> Result<Task<'a>, Wo
     if is_version(words) {
         return Ok(Task::Version);
     }
-    task_given(words, &parsed(alloc, words)?)
+    task_given(alloc, words, &parsed(alloc, words)?)
 }
 
 /// Whether the words ask only which program this is.
@@ -182,18 +186,22 @@ fn verb_given<'m, 'a>(matches: &'m ArgMatches<'a>) -> Option<(Verb, &'m ArgMatch
 }
 
 /// The task that was given by these words. The parser requires a verb, and its arguments.
-fn task_given<'a>(words: &[String], matches: &ArgMatches<'a>) -> Result<Task<'a>, WordsFault>
+fn task_given<'a>(
+    alloc: Global,
+    words: &[String],
+    matches: &ArgMatches<'a>,
+) -> Result<Task<'a>, WordsFault>
     requires { IsReadFrom (map string_bytes words.now) matches.now }
     ensures { IfOk result (IsAskedFor (map string_bytes words.now)) }
 {
     match verb_given(matches) {
-        Some((verb, given)) => task_of(verb, given),
+        Some((verb, given)) => task_of(alloc, verb, given),
         None => unreachable!(),
     }
 }
 
 /// The task of a verb with these arguments.
-fn task_of<'a>(verb: Verb, given: &ArgMatches<'a>) -> Result<Task<'a>, WordsFault>
+fn task_of<'a>(alloc: Global, verb: Verb, given: &ArgMatches<'a>) -> Result<Task<'a>, WordsFault>
     ensures { IfOk result (IsTaskOf verb (found_of given.now)) }
 {
     match verb {
@@ -201,7 +209,7 @@ fn task_of<'a>(verb: Verb, given: &ArgMatches<'a>) -> Result<Task<'a>, WordsFaul
         Verb::Drive => Ok(Task::File(drive_given(given), STANDARD_INPUT)),
         Verb::Check => Ok(Task::File(Work::Check, file_given(given))),
         Verb::Draw => Ok(Task::File(Work::Draw, file_given(given))),
-        Verb::Explore => explore_given(given),
+        Verb::Explore => explore_given(alloc, given),
         Verb::Trace => trace_given(given),
         Verb::Wave => wave_given(given),
         Verb::Stress => Ok(Task::Stress(stress_given(given)?)),
@@ -317,7 +325,7 @@ fn waveform_given(given: &ArgMatches<'_>) -> Result<Waveform, WordsFault>
 }
 
 /// The file that was given to be explored, and how.
-fn explore_given<'a>(given: &ArgMatches<'a>) -> Result<Task<'a>, WordsFault>
+fn explore_given<'a>(alloc: Global, given: &ArgMatches<'a>) -> Result<Task<'a>, WordsFault>
     ensures { IfOk result (IsExplore (found_of given.now)) }
 {
     let limits = Limits {
@@ -331,6 +339,7 @@ fn explore_given<'a>(given: &ArgMatches<'a>) -> Result<Task<'a>, WordsFault>
         part,
         jobs,
         quiet: flag_given(given, QUIET),
+        by: texts_given(alloc, given, BY)?,
     };
     Ok(Task::Explore(exploring, file_given(given)))
 }

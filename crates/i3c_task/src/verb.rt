@@ -33,7 +33,7 @@ pub(crate) const EXPLAIN: &str = "explain";
 pub(crate) const JSON: &str = "json";
 
 /// The options of `explore` for the number of lines that may be run, for the part of all orders that is tried, and for the
-/// number of threads that run lines; and its flag that leaves out the ends.
+/// number of threads that run lines; its flag that leaves out the ends, and the facts by which they are grouped.
 pub(crate) const MOST: &str = "most";
 
 pub(crate) const PART: &str = "part";
@@ -41,6 +41,8 @@ pub(crate) const PART: &str = "part";
 pub(crate) const JOBS: &str = "jobs";
 
 pub(crate) const QUIET: &str = "quiet";
+
+pub(crate) const BY: &str = "by";
 
 /// The flags of `trace` that ask for all codes by name, for faults too, and for a file that is a capture of the lines.
 pub(crate) const ALL: &str = "all";
@@ -196,6 +198,12 @@ const OF_EXPLORE: &[Argument] = &[
         takes: Takes::Number("N", ValueParser::Unsigned(1, MOST_JOBS)),
         bond: Bond::Free,
         help: "Uses N threads, 1 without this, and prints the same",
+    },
+    Argument {
+        name: BY,
+        takes: Takes::Texts("FACT"),
+        bond: Bond::Free,
+        help: "Groups the ends by whether FACT holds there; as often as you like",
     },
     Argument {
         name: QUIET,

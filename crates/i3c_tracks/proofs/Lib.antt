@@ -3,3 +3,6 @@ mod Reading
 mod OnePlan
 mod CourseLaws
 mod EndLaws
+mod KeyLaws
+mod GroupLaws
+mod QuestionLaws

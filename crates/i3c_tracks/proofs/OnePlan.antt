@@ -16,7 +16,7 @@ use Rattle.i3c_tracks.specs.Laws.{FilesHaveOnePlan}
 use Rattle.i3c_tracks.specs.Planning.{AreSaid, IsStartOf, Outline, outline}
 use Rattle.i3c_tracks.specs.Saying.{IsFileLine}
 
-one_command : (line : List ℕ) (one other : Command) → IsCommand line one → IsCommand line other → one ≡ other
+pub one_command : (line : List ℕ) (one other : Command) → IsCommand line one → IsCommand line other → one ≡ other
 one_command line one other first second = sym (meant_is (tokens_of line) one first.1) ∙ meant_is (tokens_of line) other second.1
 
 -- a line without a form isn't passed over, and no command
@@ -24,7 +24,7 @@ not_skipped : (line : List ℕ) → HasNoForm line → IsSkipped line → ⊥
 not_skipped line (inl long) skipped = omega (arith, long, skipped.0)
 not_skipped line (inr (none, others)) skipped = none skipped
 
-no_command : (line : List ℕ) (command : Command) → HasNoForm line → IsCommand line command → ⊥
+pub no_command : (line : List ℕ) (command : Command) → HasNoForm line → IsCommand line command → ⊥
 no_command line command (inl long) is = omega (arith, long, is.0)
 no_command line command (inr (none, others)) is = others command is
 

@@ -13,9 +13,10 @@ use Rattle.i3c_tracks.specs.declared.answer.Answer.{Answer}
 use Rattle.i3c_tracks.specs.declared.plan.Plan.{Plan}
 use Rattle.i3c_tracks.specs.declared.refusal.Reason.{Reason}
 use Rattle.i3c_tracks.specs.declared.refusal.Refusal.{Refusal}
+use Rattle.i3c_tracks.specs.declared.question.Question.{Question}
 use Rattle.i3c_tracks.specs.declared.showing.Showing.{Showing}
 use Rattle.i3c_tracks.specs.Courses.{AreRunsOf, LastBreaks}
-use Rattle.i3c_tracks.specs.Ends.{TellsEnds}
+use Rattle.i3c_tracks.specs.Reports.{TellsEnds}
 use Rattle.i3c_tracks.specs.Planning.{IsPlan, IsRefusedFor}
 use Rattle.i3c_tracks.specs.Refusing.{at_end}
 use Rattle.i3c_tracks.specs.Telling.{refusal_line, script_text}
@@ -54,7 +55,7 @@ abbrev pub IsRefused : List (Vec ℕ) → Refusal → Type 0
 IsRefused lines refusal = IsRefusedFor lines refusal ⊎ IsOverLimits lines refusal
 
 -- what is printed with an answer: what all orders of the part lead to, the line of a refusal, or an order that breaks something
-abbrev pub IsPrinted : List (Vec ℕ) → Limits → Part → Showing → Answer → List ℕ → List ℕ → Type 0
-IsPrinted lines limits part showing Answer.Holds old new = (said : List ℕ) × TellsEnds lines limits part showing said × (new ≡ old ++ said)
-IsPrinted lines limits part showing Answer.Refused old new = (refusal : Refusal) × IsRefused lines refusal × (new ≡ old ++ refusal_line refusal)
-IsPrinted lines limits part showing Answer.Breaks old new = (said : List ℕ) × TellsBreak lines part said × (new ≡ old ++ said)
+abbrev pub IsPrinted : List (Vec ℕ) → Limits → Part → Showing → List Question → Answer → List ℕ → List ℕ → Type 0
+IsPrinted lines limits part showing questions Answer.Holds old new = (said : List ℕ) × TellsEnds lines limits part showing questions said × (new ≡ old ++ said)
+IsPrinted lines limits part showing questions Answer.Refused old new = (refusal : Refusal) × IsRefused lines refusal × (new ≡ old ++ refusal_line refusal)
+IsPrinted lines limits part showing questions Answer.Breaks old new = (said : List ℕ) × TellsBreak lines part said × (new ≡ old ++ said)

@@ -1,21 +1,13 @@
 -- What is printed where all holds.
-use Rattle.std.specs.Prelude.{◌≡◌, ◌≤◌, ◌+◌, ℕ, Bool, List, [], ◌∷◌, ◌++◌, Option, Some, codes, length, not, slice_get, suc, zero}
+use Rattle.std.specs.Prelude.{◌≡◌, ℕ, Bool, List, [], ◌∷◌, ◌++◌, Option, Some, codes, slice_get, suc, zero}
 use Rattle.std.specs.Fmt.{decimal}
 use Rattle.std.specs.Global.{Vec}
-use Rattle.i3c_explore.specs.declared.limits.Limits.{Limits}
 use Rattle.i3c_explore.specs.declared.node.Node.{Node}
-use Rattle.i3c_explore.specs.Parts.{Part}
-use Rattle.i3c_explore.specs.Runs.{IsByLayers}
 use Rattle.i3c_scene.specs.declared.line.Line.{Line}
-use Rattle.i3c_scene.specs.Latest.{latest_of}
 use Rattle.i3c_scene.specs.Scenes.{Seen}
 use Rattle.i3c_scene.specs.Shown.{shown_text}
-use Rattle.i3c_scene.specs.Trying.{LineSteps}
 use Rattle.i3c_tracks.specs.declared.course.Run.{Run}
-use Rattle.i3c_tracks.specs.declared.plan.Plan.{Plan}
-use Rattle.i3c_tracks.specs.declared.showing.Showing.{Showing}
-use Rattle.i3c_tracks.specs.Courses.{AreRunsOf, LeadsTo}
-use Rattle.i3c_tracks.specs.Planning.{IsPlan}
+use Rattle.i3c_tracks.specs.Courses.{AreRunsOf}
 use Rattle.i3c_tracks.specs.Telling.{head_text, like_text, orders_text}
 
 -- an end: its number and its orders, the bus as `show` prints it, and the lines of the first order that leads there
@@ -38,25 +30,3 @@ count_text tokens count = tokens ++ (decimal count ++ 10 ∷ [])
 -- the number of orders, of lines that were run, and of ends
 abbrev pub numbers_text : Option ℕ → ℕ → ℕ → List ℕ
 numbers_text orders steps ends = codes "orders " ++ (orders_text orders ++ (10 ∷ (count_text (codes "steps ") steps ++ count_text (codes "ends ") ends)))
-
--- what is printed of each end
-abbrev pub AreShown : Showing → List (Vec ℕ) → Plan → List (Node Seen) → List ℕ → Type 0
-AreShown Showing.Ends lines plan ends text = AreEndTexts lines plan.blocks.items plan.opened.items (not plan.risky) ends (length ends) text
-AreShown Showing.Numbers lines plan ends text = text ≡ []
-
--- the ends of a plan's orders, after so many steps
-abbrev pub IsReport : Showing → List (Vec ℕ) → Plan → List (Node Seen) → Option ℕ → ℕ → List ℕ → Type 0
-IsReport showing lines plan ends orders steps text =
-    (told : List ℕ) × AreShown showing lines plan ends told × (text ≡ numbers_text orders steps (length ends) ++ told)
-
--- what is printed of a file in whose part of orders all holds: what these lead to. The steps are the lines before the bus and those that are run from there, layer by layer, and are within the limits
-pub record TellsEnds (lines : List (Vec ℕ)) (limits : Limits) (part : Part) (showing : Showing) (text : List ℕ) : Type 0 where
-  pub plan : Plan
-  pub is : IsPlan lines plan
-  pub ends : List (Node Seen)
-  pub orders : Option ℕ
-  pub ran : ℕ
-  pub leads : LeadsTo plan.start plan.blocks.items part ends orders
-  pub layers : IsByLayers LineSteps latest_of part plan.blocks.items plan.start limits.states ends ran
-  pub within : ran + length plan.before.items ≤ limits.steps
-  pub report : IsReport showing lines plan ends orders (ran + length plan.before.items) text

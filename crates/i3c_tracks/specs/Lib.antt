@@ -5,6 +5,9 @@ pub mod Drafting
 pub mod Telling
 pub mod Courses
 pub mod Ends
+pub mod Questions
+pub mod Groups
+pub mod Reports
 pub mod Answering
 pub mod Taking
 pub mod Laws

@@ -1,16 +1,20 @@
-ghost use Rattle.std.specs.Prelude.{◌≡◌, ◌<◌, ◌≤◌, ◌+◌, ℕ, List, [], ◌∷◌, ◌++◌, Err, IfOk, IfSome, OnOk, length};
+ghost use Rattle.std.specs.Prelude.{◌≡◌, ◌<◌, ◌≤◌, ◌+◌, ℕ, List, [], ◌∷◌, ◌++◌, Err, IfErr, IfOk, IfSome, MatchOption, OnOk, length};
 ghost use Rattle.std.specs.Global.{Vec as VecValue};
 ghost use Rattle.std.specs.Io.KnownBytes.{Appends, IsAtEnd};
 ghost use Rattle.i3c_tracks.specs.Answering.{IsAnswer, IsExplored, IsPrinted};
 ghost use Rattle.i3c_tracks.specs.Planning.{AreLines, IsPlan};
+ghost use Rattle.i3c_tracks.specs.Questions.{AreKnown, IsFault, IsFaultOf, IsUnknown};
 ghost use Rattle.i3c_tracks.specs.Telling.{refusal_line};
 ghost use Rattle.i3c_tracks.specs.declared.answer.Answer.{Answer as AnswerValue};
+ghost use Rattle.i3c_tracks.specs.declared.explore_fault.ExploreFault.{ExploreFault as ExploreFaultValue};
 ghost use Rattle.i3c_tracks.specs.Refusing.{at_end};
 ghost use Rattle.i3c_tracks.specs.declared.refusal.Reason.{Reason as ReasonValue};
 
 use crate::answer::Answer;
 use crate::broken::push_broken;
+use crate::explore_fault::ExploreFault;
 use crate::plan::{Plan, PlanFault, read_plan};
+use crate::question::Question;
 use crate::refusal::{Reason, Refusal};
 use crate::report::push_report;
 use crate::showing::Showing;
@@ -22,7 +26,7 @@ use std::io::{Read, Write};
 use std::thread::Threads;
 
 /// Explores every order of a part of a file's orders. It prints the ends that they lead to, or an order that breaks an
-/// expectation, or why the file is refused.
+/// expectation, or why the file is refused. If questions are asked, the ends are in groups.
 ///
 /// The file is read whole before anything runs. Up to `jobs` threads run lines, and each number of jobs prints the same.
 /// A watcher is told the progress while lines run in many orders, and the end before anything is printed.
@@ -35,33 +39,35 @@ pub fn run_explore<T: Threads + Sync, R: Read, W: Write, V: Watch>(
     part: Part,
     jobs: usize,
     showing: Showing,
+    questions: &[Question],
     watch: &V,
-) -> Result<Answer, ScriptFault>
+) -> Result<Answer, ExploreFault>
     // an `Ok` comes after the whole of a file that isn't too large
     ensures whole { OnOk result (IsAtEnd (R.remaining reader.new)) }
     ensures fits { OnOk result (IfSome (R.remaining reader.old) (λ bytes. length bytes ≤ 1048576)) }
-    ensures large { result ≡ Err ScriptFault.TooLarge → IfSome (R.remaining reader.old) (λ bytes. 1048576 < length bytes) }
+    ensures large { result ≡ Err (ExploreFaultValue.Script ScriptFault.TooLarge) → IfSome (R.remaining reader.old) (λ bytes. 1048576 < length bytes) }
     // Every order of the part, by the plan that the file's lines have, leads on and breaks no expectation; or one breaks
     // one, and no shorter one of the part does.
     ensures answer { IfOk result (λ answer. (lines : List (VecValue ℕ)) × AreLines (R.remaining reader.old) lines × IsExplored lines part answer) }
     // What went out is one of three. It is the first refusal of the file's lines, or that a limit was reached. Or it is the shortest order that breaks an expectation, as a script of
     // the file's lines, with which expectation the last of them breaks. Or it has the ends to which all orders of the part
-    // lead, each with an order that leads there, how many orders do, and how many lines were run; or these numbers alone.
-    ensures printed { IfOk result (λ answer. (lines : List (VecValue ℕ)) × (said : List ℕ) × AreLines (R.remaining reader.old) lines × IsPrinted lines limits part showing answer [] said × Appends (W.contents writer.old) (W.contents writer.new) said) }
+    // lead, each with an order that leads there, how many orders do, and how many lines were run; or these numbers alone; or
+    // the groups of the ends in which the same questions hold. Then a line gives each name that is asked about.
+    ensures printed { IfOk result (λ answer. (lines : List (VecValue ℕ)) × (said : List ℕ) × AreLines (R.remaining reader.old) lines × IsPrinted lines limits part showing questions.now answer [] said × Appends (W.contents writer.old) (W.contents writer.new) said) }
+    // a name that no line of the file gives is that of the question that is told
+    ensures fault { IfErr result (IsFault (R.remaining reader.old) questions.now) }
 {
     let lines = match read_lines(alloc, reader) {
         Ok(lines) => lines,
-        Err(fault) => return Err(fault),
+        Err(fault) => return Err(ExploreFault::Script(fault)),
     };
     let mut text = Text::new(alloc);
-    let Ok(answer) = answer_file(
-        rt, alloc, &lines, limits, part, jobs, showing, watch, &mut text,
-    ) else {
-        return Err(ScriptFault::Memory);
-    };
+    let answer = answer_file(
+        rt, alloc, &lines, limits, part, jobs, showing, questions, watch, &mut text,
+    )?;
     match write_out(text.as_bytes(), writer) {
         Ok(()) => Ok(answer),
-        Err(fault) => Err(fault),
+        Err(fault) => Err(ExploreFault::Script(fault)),
     }
 }
 
@@ -111,22 +117,41 @@ fn answer_file<T: Threads + Sync, V: Watch>(
     part: Part,
     jobs: usize,
     showing: Showing,
+    questions: &[Question],
     watch: &V,
     text: &mut Text,
-) -> Result<Answer, AllocError>
+) -> Result<Answer, ExploreFault>
     ensures answer { IfOk result (IsExplored lines.now part) }
-    ensures printed { IfOk result (λ answer. IsPrinted lines.now limits part showing answer text.old text.new) }
+    ensures printed { IfOk result (λ answer. IsPrinted lines.now limits part showing questions.now answer text.old text.new) }
+    ensures fault { IfErr result (IsFaultOf lines.now questions.now) }
 {
-    match read_plan(alloc, lines) {
-        Ok(plan) => explore_plan(
-            rt, alloc, lines, &plan, limits, part, jobs, showing, watch, text,
-        ),
-        Err(PlanFault::Memory) => Err(AllocError),
+    let plan = match read_plan(alloc, lines) {
+        Ok(plan) => plan,
+        Err(PlanFault::Memory) => return Err(ExploreFault::Script(ScriptFault::Memory)),
         Err(PlanFault::Refused(refusal)) => {
             refusal.push(text)?;
-            Ok(Answer::Refused)
+            return Ok(Answer::Refused);
+        }
+    };
+    if let Some(place) = first_unknown(lines, questions) {
+        return Err(ExploreFault::NoName(place));
+    }
+    let answer = explore_plan(
+        rt, alloc, lines, &plan, limits, part, jobs, showing, questions, watch, text,
+    )?;
+    Ok(answer)
+}
+
+/// The place of the first question with a name that no line of the file gives.
+fn first_unknown(lines: &[Vec<u8>], questions: &[Question]) -> Option<usize>
+    ensures { MatchOption result (AreKnown lines.now questions.now) (IsUnknown lines.now questions.now) }
+{
+    for index in 0..questions.len() {
+        if !questions[index].is_of(lines) {
+            return Some(index);
         }
     }
+    None
 }
 
 /// What is left of the limits after the lines before the bus.
@@ -151,11 +176,12 @@ fn explore_plan<T: Threads + Sync, V: Watch>(
     part: Part,
     jobs: usize,
     showing: Showing,
+    questions: &[Question],
     watch: &V,
     text: &mut Text,
 ) -> Result<Answer, AllocError>
     ensures answer { IfOk result (IsAnswer plan.now.start plan.now.blocks.items part) }
-    ensures printed { IsPlan lines.now plan.now → IfOk result (λ answer. IsPrinted lines.now limits part showing answer text.old text.new) }
+    ensures printed { IsPlan lines.now plan.now → AreKnown lines.now questions.now → IfOk result (λ answer. IsPrinted lines.now limits part showing questions.now answer text.old text.new) }
 {
     let Some(left) = limits_left(limits, plan.before.len()) else {
         return refuse_most(text);
@@ -163,7 +189,7 @@ fn explore_plan<T: Threads + Sync, V: Watch>(
     let start = plan.start.copied(alloc)?;
     match explore_on(rt, alloc, start, &plan.blocks, left, part, jobs, watch) {
         Ok(found) => {
-            push_report(alloc, lines, plan, showing, &found, text)?;
+            push_report(alloc, lines, plan, showing, questions, &found, text)?;
             Ok(Answer::Holds)
         }
         Err(Stop::Breaks(order)) => {

@@ -1,9 +1,12 @@
 ghost use Rattle.std.specs.Prelude.{◌≡◌, ◌<◌, ◌+◌, ◌^◌, ◌++◌, [], ℕ, List, IfOk, OnOk, false, length, not, true, if◌then◌else◌};
-ghost use Rattle.i3c_tracks.specs.Ends.{AreEndTexts, AreShown, IsEndText, IsReport, numbers_text};
+ghost use Rattle.i3c_tracks.specs.Ends.{AreEndTexts, IsEndText, numbers_text};
+ghost use Rattle.i3c_tracks.specs.Reports.{AreShown, IsReport};
 ghost use Rattle.i3c_tracks.specs.Telling.{cut_before, head_text, like_text, line_at, orders_text, parted_text, parting, run_cuts, short_run_text};
 
 use crate::course::{Run, runs_of};
+use crate::groups::push_groups;
 use crate::plan::Plan;
+use crate::question::Question;
 use crate::showing::Showing;
 use i3c_explore::{Explored, Machine, Node};
 use i3c_lines::Name;
@@ -20,28 +23,33 @@ pub(crate) fn push_report(
     lines: &[Vec<u8>],
     plan: &Plan,
     showing: Showing,
+    questions: &[Question],
     found: &Explored<Scene>,
     text: &mut Text,
 ) -> Result<(), AllocError>
     requires { found.now.steps + length plan.now.before.items < 2 ^ 64 }
-    ensures { OnOk result ((said : List ℕ) × IsReport showing lines.now plan.now found.now.ends.items found.now.orders (found.now.steps + length plan.now.before.items) said × (text.new ≡ text.old ++ said)) }
+    ensures { OnOk result ((said : List ℕ) × IsReport showing questions.now lines.now plan.now found.now.ends.items found.now.orders (found.now.steps + length plan.now.before.items) said × (text.new ≡ text.old ++ said)) }
 {
     let steps = found.steps + plan.before.len() as u64;
     push_numbers(found.orders, steps, found.ends.len() as u64, text)?;
-    push_shown(alloc, lines, plan, showing, &found.ends, text)
+    push_shown(alloc, lines, plan, showing, questions, &found.ends, text)
 }
 
-/// Appends what is shown of the ends.
+/// Appends what is shown of the ends: in groups, if something is asked of them.
 fn push_shown(
     alloc: Global,
     lines: &[Vec<u8>],
     plan: &Plan,
     showing: Showing,
+    questions: &[Question],
     ends: &[Node<Scene>],
     text: &mut Text,
 ) -> Result<(), AllocError>
-    ensures { OnOk result ((said : List ℕ) × AreShown showing lines.now plan.now ends.now said × (text.new ≡ text.old ++ said)) }
+    ensures { OnOk result ((said : List ℕ) × AreShown showing questions.now lines.now plan.now ends.now said × (text.new ≡ text.old ++ said)) }
 {
+    if !questions.is_empty() {
+        return push_groups(alloc, lines, plan, showing, questions, ends, text);
+    }
     match showing {
         Showing::Ends => push_ends(alloc, lines, plan, ends, text),
         Showing::Numbers => Ok(()),
@@ -86,7 +94,7 @@ fn push_ends(
 }
 
 /// Appends a number of orders.
-fn push_orders(orders: Option<u64>, text: &mut Text) -> Result<(), AllocError>
+pub(crate) fn push_orders(orders: Option<u64>, text: &mut Text) -> Result<(), AllocError>
     ensures { OnOk result (text.new ≡ text.old ++ orders_text orders) }
 {
     match orders {
@@ -115,7 +123,7 @@ fn push_head(
 }
 
 /// Appends an end: its number, the bus as it is, and the first order that leads there.
-fn push_end(
+pub(crate) fn push_end(
     alloc: Global,
     lines: &[Vec<u8>],
     plan: &Plan,

@@ -1,16 +1,15 @@
 -- What a run of the program came to, and its exit status.
 use Rattle.std.specs.Prelude.{ℕ, Bool, true, false, Result, Ok, Err}
 use Rattle.i3c_cli.specs.declared.fault.Fault.{Fault}
-use Rattle.i3c_cli.specs.Endings.{tally_status, told_as}
-use Rattle.i3c_streams.specs.declared.faults.ScriptFault.{ScriptFault}
+use Rattle.i3c_cli.specs.Endings.{tally_status}
 use Rattle.i3c_streams.specs.declared.tally.Tally.{Tally}
 use Rattle.i3c_tracks.specs.declared.answer.Answer.{Answer}
 use Rattle.i3c_tracks.specs.declared.showing.Showing.{Showing}
 use Rattle.i3cbus.specs.declared.ending.Ending.{Ending}
 
 -- an exploration's own fault comes first; output that isn't taken to its end is lost
-abbrev pub explore_ending : Result Answer ScriptFault → Bool → Result Ending Fault
-explore_ending (Err fault) flushed = Err (told_as fault)
+abbrev pub explore_ending : Result Answer Fault → Bool → Result Ending Fault
+explore_ending (Err fault) flushed = Err fault
 explore_ending (Ok answer) true = Ok (Ending.Explored answer)
 explore_ending (Ok answer) false = Err Fault.Write
 

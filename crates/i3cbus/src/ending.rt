@@ -2,7 +2,7 @@ ghost use Rattle.std.specs.Prelude.{◌≡◌};
 ghost use Rattle.i3cbus.specs.Endings.{exit_status, explore_ending, lines_ending};
 
 use i3c_cli::{BREAKS, DONE, FAULT, Fault, REFUSED, tally_status};
-use i3c_streams::{ScriptFault, Tally};
+use i3c_streams::Tally;
 use i3c_tracks::Answer;
 
 /// How a run of the program ended.
@@ -15,10 +15,7 @@ pub(crate) enum Ending {
 }
 
 /// The ending of an exploration: its answer, and whether its output was taken whole.
-pub(crate) fn explore_ending(
-    outcome: Result<Answer, ScriptFault>,
-    flushed: bool,
-) -> Result<Ending, Fault>
+pub(crate) fn explore_ending(outcome: Result<Answer, Fault>, flushed: bool) -> Result<Ending, Fault>
     ensures { result ≡ explore_ending outcome flushed }
 {
     let answer = outcome?;

@@ -5,10 +5,12 @@ use crate::ending::{Ending, explore_ending, lines_ending, status_of};
 use crate::stack::make_stack;
 use crate::watcher::Watcher;
 use i3c_cli::{
-    Fault, Output, print_fault, print_version, reading_fault, run_capture, run_file, run_stress,
+    Fault, Output, owned_text, print_fault, print_version, reading_fault, run_capture, run_file,
+    run_stress,
 };
 use i3c_task::{Exploring, STANDARD_INPUT, Task, task_named};
-use i3c_tracks::{Showing, run_explore};
+use i3c_tracks::{Answer, ExploreFault, Question, Showing, run_explore};
+use std::alloc::Global;
 use std::io::{Read, Write};
 use std::rt::{Env, Files};
 use std::sync::Wait;
@@ -53,22 +55,23 @@ where
     }
 }
 
-/// Explores a file, or standard input.
+/// Explores a file, or standard input. What is asked of its ends is judged before it is opened.
 #[inline(never)]
 fn run_exploration<R>(
     rt: &R,
-    exploring: &Exploring,
+    exploring: &Exploring<'_>,
     watcher: &Watcher<'_, R>,
     file: &str,
 ) -> Result<Ending, Fault>
 where
     R: Files + Input + Print + Eprint + AllocGlobal + Threads + Sync,
 {
+    let questions = questions_of(rt.alloc(), &exploring.by)?;
     if file == STANDARD_INPUT {
-        return explore_from(rt, exploring, watcher, &mut rt.reader());
+        return explore_from(rt, exploring, &questions, watcher, &mut rt.reader());
     }
     match fs::open(rt, file) {
-        Ok(mut input) => explore_from(rt, exploring, watcher, &mut input),
+        Ok(mut input) => explore_from(rt, exploring, &questions, watcher, &mut input),
         Err(error) => Err(reading_fault(&error)),
     }
 }
@@ -84,32 +87,64 @@ fn words_given<R: Env + AllocGlobal>(rt: &R) -> Result<Vec<String>, Fault> {
 /// Explores the file of a reader.
 fn explore_from<R: Files + Print + Eprint + AllocGlobal + Threads + Sync, S: Read>(
     rt: &R,
-    exploring: &Exploring,
+    exploring: &Exploring<'_>,
+    questions: &[Question],
     watcher: &Watcher<'_, R>,
     input: &mut S,
 ) -> Result<Ending, Fault> {
     let mut printed = Output::new(rt)?;
     let alloc = rt.alloc();
     let showing = showing_of(exploring.quiet);
-    let Exploring {
-        limits,
-        part,
-        jobs,
-        ..
-    } = *exploring;
     let outcome = run_explore(
         rt,
         alloc,
         input,
         &mut printed,
-        limits,
-        part,
-        jobs,
+        exploring.limits,
+        exploring.part,
+        exploring.jobs,
         showing,
+        questions,
         watcher,
     );
     let flushed = printed.flush().is_ok();
-    explore_ending(outcome, flushed)
+    explore_ending(told(alloc, &exploring.by, outcome), flushed)
+}
+
+/// What is asked of each end.
+fn questions_of(alloc: Global, texts: &[&str]) -> Result<Vec<Question>, Fault> {
+    let mut questions = Vec::new(alloc);
+    for index in 0..texts.len() {
+        let question = question_of(alloc, texts[index])?;
+        if questions.push(question).is_err() {
+            return Err(Fault::Memory);
+        }
+    }
+    Ok(questions)
+}
+
+/// What a text asks of each end.
+fn question_of(alloc: Global, text: &str) -> Result<Question, Fault> {
+    match Question::of(alloc, text.as_bytes())? {
+        Some(question) => Ok(question),
+        None => Err(Fault::NoFact(owned_text(alloc, text.as_bytes())?)),
+    }
+}
+
+/// The answer, or the program's fault for that of an exploration.
+fn told(
+    alloc: Global,
+    texts: &[&str],
+    outcome: Result<Answer, ExploreFault>,
+) -> Result<Answer, Fault> {
+    match outcome {
+        Ok(answer) => Ok(answer),
+        Err(ExploreFault::Script(fault)) => Err(fault.into()),
+        Err(ExploreFault::NoName(place)) => match texts.get(place) {
+            Some(text) => Err(Fault::NoName(owned_text(alloc, text.as_bytes())?)),
+            None => Err(Fault::NoName(String::new(alloc))),
+        },
+    }
 }
 
 /// What is printed where all holds.

@@ -15,6 +15,7 @@ use Rattle.i3c_scene.specs.Scenes.{Seen}
 use Rattle.i3c_scene.specs.Trying.{LineBreaks, LineSteps}
 use Rattle.i3c_tracks.specs.declared.answer.Answer.{Answer}
 use Rattle.i3c_tracks.specs.declared.plan.Plan.{Plan}
+use Rattle.i3c_tracks.specs.declared.question.Question.{Question}
 use Rattle.i3c_tracks.specs.declared.showing.Showing.{Showing}
 use Rattle.i3c_tracks.specs.declared.refusal.Reason.{Reason}
 use Rattle.i3c_tracks.specs.Answering.{IsPrinted}
@@ -46,7 +47,7 @@ pub push_report-requires : goal.push_report-requires
 push_report-requires g c = omega (arith, c.in-Some.ensures.steps, c.in-Ok.ensures.within, c.len.ensures)
 
 pub returns-in_ok-push_report-in-Ok-clause-printed : goal.returns-in_ok-push_report-in-Ok-clause-printed
-returns-in_ok-push_report-in-Ok-clause-printed g c is =
+returns-in_ok-push_report-in-Ok-clause-printed g c is known =
     let (said, report, put) = c.in_ok-push_report-in-Ok.ensures in
     let plan = c.args.plan.now in
     let part = c.args.part in
@@ -64,10 +65,10 @@ returns-in_ok-push_report-in-Ok-clause-printed g c is =
     (subst (λ (s : Seen). IsByLayers LineSteps latest_of part plan.blocks.items s c.in-Some.left.states ends ran) c.in_ok-start.ensures
     (subst (λ (bs : List (Vec (Vec Line))). IsByLayers LineSteps latest_of part bs c.in_ok-start.start c.in-Some.left.states ends ran) c.deref.ensures.value c.in-Ok.ensures.layers)) in
     let within : ran + length plan.before.items ≤ c.args.limits.steps = omega (arith, c.in-Some.ensures.steps, c.in-Ok.ensures.within, c.len.ensures) in
-    (said, record { plan = plan; is = is; ends = ends; orders = orders; ran = ran; leads = leads; layers = layers; within = within; report = report }, put)
+    (said, record { plan = plan; is = is; known = known; ends = ends; orders = orders; ran = ran; leads = leads; layers = layers; within = within; report = report }, put)
 
 pub returns-in_ok-push_broken-in-Err-Breaks-clause-printed : goal.returns-in_ok-push_broken-in-Err-Breaks-clause-printed
-returns-in_ok-push_broken-in-Err-Breaks-clause-printed g c is =
+returns-in_ok-push_broken-in-Err-Breaks-clause-printed g c is known =
     let order = c.in-Err-Breaks.order in
     let plan = c.args.plan.now in
     let shortest = subst (λ (s : Seen). IsShortestInPart LineSteps LineBreaks c.args.part plan.blocks.items s order.items) c.in_ok-start.ensures
@@ -78,15 +79,15 @@ returns-in_ok-push_broken-in-Err-Breaks-clause-printed g c is =
     (script_text c.args.lines.now plan.before.items runs number there, record { plan = plan; is = is; order = order.items; shortest = shortest; runs = runs; are = are; number = number; there = there; broken = broken; script = refl }, put)
 
 -- a file with a plan, where a limit was reached
-limited : {E : Type 0} (lines : List (Vec ℕ)) (limits : Limits) (part : Part) (showing : Showing) (plan : Plan) (result : Result Answer E) (old new : List ℕ) → IsPlan lines plan → IfOk result (λ (answer : Answer). answer ≡ Answer.Refused)
-    → OnOk result (new ≡ old ++ refusal_line (at_end Reason.Most)) → IfOk result (λ (answer : Answer). IsPrinted lines limits part showing answer old new)
-limited lines limits part showing plan (Ok Answer.Refused) old new is refused put = (at_end Reason.Most, inr (plan, is, refl), put)
-limited lines limits part showing plan (Ok Answer.Holds) old new is refused put = absurd cc
-limited lines limits part showing plan (Ok Answer.Breaks) old new is refused put = absurd cc
-limited lines limits part showing plan (Err e) old new is refused put = tt
+limited : {E : Type 0} (lines : List (Vec ℕ)) (limits : Limits) (part : Part) (showing : Showing) (questions : List Question) (plan : Plan) (result : Result Answer E) (old new : List ℕ) → IsPlan lines plan → IfOk result (λ (answer : Answer). answer ≡ Answer.Refused)
+    → OnOk result (new ≡ old ++ refusal_line (at_end Reason.Most)) → IfOk result (λ (answer : Answer). IsPrinted lines limits part showing questions answer old new)
+limited lines limits part showing questions plan (Ok Answer.Refused) old new is refused put = (at_end Reason.Most, inr (plan, is, refl), put)
+limited lines limits part showing questions plan (Ok Answer.Holds) old new is refused put = absurd cc
+limited lines limits part showing questions plan (Ok Answer.Breaks) old new is refused put = absurd cc
+limited lines limits part showing questions plan (Err e) old new is refused put = tt
 
 pub returns-in-Err-Most-clause-printed : goal.returns-in-Err-Most-clause-printed
-returns-in-Err-Most-clause-printed g c is = limited c.args.lines.now c.args.limits c.args.part c.args.showing c.args.plan.now c.refuse_most-in-Err-Most.result c.args.text.now c.refuse_most-in-Err-Most.new.text is c.refuse_most-in-Err-Most.ensures.answer c.refuse_most-in-Err-Most.ensures.printed
+returns-in-Err-Most-clause-printed g c is known = limited c.args.lines.now c.args.limits c.args.part c.args.showing c.args.questions.now c.args.plan.now c.refuse_most-in-Err-Most.result c.args.text.now c.refuse_most-in-Err-Most.new.text is c.refuse_most-in-Err-Most.ensures.answer c.refuse_most-in-Err-Most.ensures.printed
 
 pub returns-in_default-clause-printed : goal.returns-in_default-clause-printed
-returns-in_default-clause-printed g c is = limited c.args.lines.now c.args.limits c.args.part c.args.showing c.args.plan.now c.refuse_most.result c.args.text.now c.refuse_most.new.text is c.refuse_most.ensures.answer c.refuse_most.ensures.printed
+returns-in_default-clause-printed g c is known = limited c.args.lines.now c.args.limits c.args.part c.args.showing c.args.questions.now c.args.plan.now c.refuse_most.result c.args.text.now c.refuse_most.new.text is c.refuse_most.ensures.answer c.refuse_most.ensures.printed
