@@ -1,8 +1,7 @@
 -- The bytes of a file, as they are read.
-use Rattle.std.proofs.Common.{◌≡◌, ◌≤◌, ◌∙◌, ℕ, All, List, [], ◌∷◌, ◌++◌, length, arith, Option, Some, None, IfSome, ap, append_assoc, refl, subst, sym}
+use Rattle.std.proofs.Common.{◌≡◌, ◌≤◌, ◌∙◌, ℕ, All, List, [], ◌∷◌, ◌++◌, length, arith, Option, IfSome, ap, append_assoc, refl, subst, sym}
 use Rattle.std.specs.Global.{Vec}
 use Rattle.std.proofs.lemmas.List.Elements.{All-push}
-use Rattle.std.specs.Io.KnownBytes.{Consumes}
 use Rattle.i3c_streams.specs.declared.script_lines.Reading.{Reading}
 use Rattle.i3c_streams.specs.declared.script_lines.ScriptLines.{ScriptLines}
 use Rattle.i3c_streams.specs.Lines.{GivesLine, IsGivenOut, IsReadAs, IsReadFrom, given, line_in_hand}

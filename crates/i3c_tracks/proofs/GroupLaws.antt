@@ -1,9 +1,8 @@
 -- Which questions hold at an end, and the groups that are told one after another.
 use Rattle.std.proofs.Common.{◌≡◌, ◌∙◌, ◌<◌, ◌≤◌, ◌+◌, ◌^◌, ◌++◌, ◌&&◌, ℕ, Bool, cond, false, true, not, List, [], ◌∷◌, Option, None, Some, ap, arith, drop, get_or, inl, inr, length, map, min, refl, subst, suc, sym, take}
 use Rattle.std.specs.Global.{Vec}
-use Rattle.std.specs.Prelude.{count_by, filter, if◌then◌else◌, slice_get}
+use Rattle.std.specs.Prelude.{count_by, if◌then◌else◌, slice_get}
 use Rattle.std.specs.Cmp.Lexicographic.{pointwise}
-use Rattle.std.specs.List.{list_any}
 use Rattle.std.proofs.lemmas.List.{append-nil, append_assoc, drop_more, get_or-map, length-drop}
 use Rattle.std.proofs.lemmas.Option.{slice_get_cases, slice_get_read}
 use mathlib.Core.Bool.{beq}

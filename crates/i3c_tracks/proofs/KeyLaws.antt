@@ -1,10 +1,9 @@
 -- Lists that are made one element after another, keys that are compared, and sums that may be over what is told.
-use Rattle.std.proofs.Common.{◌≡◌, ◌∙◌, ◌<◌, ◌≤◌, ◌+◌, ◌^◌, ◌++◌, ◌&&◌, ◌||◌, ℕ, Bool, cond, false, true, not, List, [], ◌∷◌, Option, None, Some, ap, arith, drop, get_or, length, map, refl, suc, sym, take}
+use Rattle.std.proofs.Common.{◌≡◌, ◌∙◌, ◌<◌, ◌≤◌, ◌+◌, ◌^◌, ◌++◌, ◌||◌, ℕ, Bool, cond, false, true, List, [], ◌∷◌, Option, None, Some, ap, arith, drop, get_or, length, map, refl, suc, sym, take}
 use Rattle.std.specs.Prelude.{count_by, filter}
 use Rattle.std.specs.Cmp.Lexicographic.{pointwise}
 use Rattle.std.specs.List.{list_any}
-use Rattle.std.proofs.lemmas.Bool.Decides.{nat_tests}
-use Rattle.std.proofs.lemmas.List.{at_drop_more, get_or-map, get_or-take, length-map, length-take, map_more, map_push, take_all}
+use Rattle.std.proofs.lemmas.List.{at_drop_more, get_or-map, get_or-take, length-map, length-take, map_more, map_push}
 use Rattle.std.proofs.lemmas.List.Folds.{list_any_at, list_any_more}
 use Rattle.std.proofs.lemmas.List.Sums.{length-filter}
 use mathlib.Core.Bool.{beq}

@@ -1,5 +1,5 @@
 -- Ends in groups, by the facts that hold there.
-use Rattle.std.specs.Prelude.{◌≡◌, ◌+◌, ℕ, Bool, true, false, not, List, [], ◌∷◌, ◌++◌, Option, Some, codes, filter, if◌then◌else◌, length, map, slice_get, slice_index_or, suc, take, zero}
+use Rattle.std.specs.Prelude.{◌≡◌, ℕ, Bool, true, false, not, List, [], ◌∷◌, ◌++◌, Option, Some, codes, filter, if◌then◌else◌, length, map, slice_get, slice_index_or, suc, take, zero}
 use Rattle.std.specs.Fmt.{decimal}
 use Rattle.std.specs.Global.{Vec}
 use Rattle.std.specs.List.{list_any}

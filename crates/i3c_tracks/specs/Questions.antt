@@ -12,6 +12,7 @@ use Rattle.i3c_lines.specs.Forms.{IsCommand}
 use Rattle.i3c_lines.specs.Naming.{is_same}
 use Rattle.i3c_lines.specs.Namings.{name_given}
 use Rattle.i3c_scene.specs.declared.risk.Risk.{Risk}
+use Rattle.i3c_streams.specs.declared.faults.ScriptFault.{ScriptFault}
 use Rattle.i3c_tracks.specs.declared.explore_fault.ExploreFault.{ExploreFault}
 use Rattle.i3c_tracks.specs.declared.question.Question.{Question}
 use Rattle.i3c_tracks.specs.Planning.{AreLines, Step, expectation}
@@ -70,9 +71,9 @@ AreKnown lines questions = All (λ (question : Question). AreGiven lines questio
 abbrev pub IsUnknown : List (Vec ℕ) → List Question → ℕ → Type 0
 IsUnknown lines questions place = (question : Question) × (slice_get questions place ≡ Some question) × (AreGiven lines question.facts → ⊥)
 
--- a fault that is about a name is told of a question with such a name
+-- a file that was read has a fault: there was no memory, or a question has a name that no line gives
 abbrev pub IsFaultOf : List (Vec ℕ) → List Question → ExploreFault → Type 0
-IsFaultOf lines questions (ExploreFault.Script fault) = ⊤
+IsFaultOf lines questions (ExploreFault.Script fault) = fault ≡ ScriptFault.Memory
 IsFaultOf lines questions (ExploreFault.NoName place) = IsUnknown lines questions place
 
 -- the same, of a file

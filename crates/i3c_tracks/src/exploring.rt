@@ -62,12 +62,14 @@ pub fn run_explore<T: Threads + Sync, R: Read, W: Write, V: Watch>(
         Err(fault) => return Err(ExploreFault::Script(fault)),
     };
     let mut text = Text::new(alloc);
-    let answer = answer_file(
+    match answer_file(
         rt, alloc, &lines, limits, part, jobs, showing, questions, watch, &mut text,
-    )?;
-    match write_out(text.as_bytes(), writer) {
-        Ok(()) => Ok(answer),
-        Err(fault) => Err(ExploreFault::Script(fault)),
+    ) {
+        Ok(answer) => match write_out(text.as_bytes(), writer) {
+            Ok(()) => Ok(answer),
+            Err(fault) => Err(ExploreFault::Script(fault)),
+        },
+        Err(fault) => Err(fault),
     }
 }
 
@@ -125,21 +127,46 @@ fn answer_file<T: Threads + Sync, V: Watch>(
     ensures printed { IfOk result (λ answer. IsPrinted lines.now limits part showing questions.now answer text.old text.new) }
     ensures fault { IfErr result (IsFaultOf lines.now questions.now) }
 {
-    let plan = match read_plan(alloc, lines) {
-        Ok(plan) => plan,
-        Err(PlanFault::Memory) => return Err(ExploreFault::Script(ScriptFault::Memory)),
-        Err(PlanFault::Refused(refusal)) => {
-            refusal.push(text)?;
-            return Ok(Answer::Refused);
-        }
-    };
-    if let Some(place) = first_unknown(lines, questions) {
-        return Err(ExploreFault::NoName(place));
+    match read_plan(alloc, lines) {
+        Ok(plan) => answer_plan(
+            rt, alloc, lines, &plan, limits, part, jobs, showing, questions, watch, text,
+        ),
+        Err(PlanFault::Memory) => Err(ExploreFault::Script(ScriptFault::Memory)),
+        Err(PlanFault::Refused(refusal)) => match refusal.push(text) {
+            Ok(()) => Ok(Answer::Refused),
+            Err(_) => Err(ExploreFault::Script(ScriptFault::Memory)),
+        },
     }
-    let answer = explore_plan(
-        rt, alloc, lines, &plan, limits, part, jobs, showing, questions, watch, text,
-    )?;
-    Ok(answer)
+}
+
+/// Explores the plan of a file, unless a question has a name that no line gives, and appends what is printed of it.
+fn answer_plan<T: Threads + Sync, V: Watch>(
+    rt: &T,
+    alloc: Global,
+    lines: &[Vec<u8>],
+    plan: &Plan,
+    limits: Limits,
+    part: Part,
+    jobs: usize,
+    showing: Showing,
+    questions: &[Question],
+    watch: &V,
+    text: &mut Text,
+) -> Result<Answer, ExploreFault>
+    requires { IsPlan lines.now plan.now }
+    ensures answer { IfOk result (IsExplored lines.now part) }
+    ensures printed { IfOk result (λ answer. IsPrinted lines.now limits part showing questions.now answer text.old text.new) }
+    ensures fault { IfErr result (IsFaultOf lines.now questions.now) }
+{
+    match first_unknown(lines, questions) {
+        Some(place) => Err(ExploreFault::NoName(place)),
+        None => match explore_plan(
+            rt, alloc, lines, plan, limits, part, jobs, showing, questions, watch, text,
+        ) {
+            Ok(answer) => Ok(answer),
+            Err(_) => Err(ExploreFault::Script(ScriptFault::Memory)),
+        },
+    }
 }
 
 /// The place of the first question with a name that no line of the file gives.

@@ -1,5 +1,5 @@
 -- A question has a name that no line gives, or none has.
-use Rattle.std.proofs.Common.{◌≡◌, ◌∙◌, arith, false, length, refl, rules, subst, sym, true}
+use Rattle.std.proofs.Common.{◌≡◌, ◌∙◌, arith, false, length, refl, rules, subst, sym}
 use Rattle.std.proofs.lemmas.Bool.{false≢true}
 use Rattle.std.proofs.lemmas.List.{take_all}
 use Rattle.std.proofs.lemmas.Option.{slice_get_read}

@@ -1,7 +1,6 @@
 -- No key before a place is like the one there, or one is.
-use Rattle.std.proofs.Common.{◌≡◌, ◌<◌, Bool, List, [], ap, arith, false, get_or, length, map, not, subst, sym, take, true}
+use Rattle.std.proofs.Common.{◌<◌, Bool, List, [], ap, arith, false, get_or, length, map, not, sym, true}
 use Rattle.std.specs.Global.{Vec}
-use Rattle.std.specs.List.{list_any}
 use Rattle.std.proofs.lemmas.List.{length-map}
 use Rattle.i3c_tracks.specs.Groups.{are_alike}
 use Rattle.i3c_tracks.proofs.GroupLaws.{alike_at}

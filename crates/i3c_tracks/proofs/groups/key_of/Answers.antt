@@ -1,5 +1,5 @@
 -- One question more.
-use Rattle.std.proofs.Common.{◌≡◌, ◌∙◌, ◌≤◌, List, ap, arith, length, map}
+use Rattle.std.proofs.Common.{◌∙◌, ◌≤◌, List, ap, arith, length, map}
 use Rattle.std.proofs.lemmas.List.{take_all}
 use Rattle.i3c_tracks.specs.declared.question.Question.{Question}
 use Rattle.i3c_tracks.specs.Groups.{holds_in}

@@ -1,5 +1,5 @@
 -- One end more.
-use Rattle.std.proofs.Common.{◌≡◌, ◌∙◌, Bool, List, ap, map, sym}
+use Rattle.std.proofs.Common.{◌∙◌, Bool, List, ap, map, sym}
 use Rattle.std.specs.Global.{Vec}
 use Rattle.std.proofs.lemmas.List.{take_all}
 use Rattle.i3c_explore.specs.declared.node.Node.{Node}

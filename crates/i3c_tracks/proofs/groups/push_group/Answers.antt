@@ -1,7 +1,5 @@
 -- The head, what holds, and the example make the group.
-use Rattle.std.proofs.Common.{arith}
 use Rattle.std.proofs.lemmas.Result.{on_ok_weaker}
-use Rattle.i3c_tracks.specs.Groups.{key_of}
 use Rattle.i3c_tracks.proofs.GroupLaws.{group_told}
 use Rattle.i3c_tracks.proofs.groups.push_group.Goals as goal
 

@@ -1,5 +1,5 @@
 -- One key more, which is the same or isn't.
-use Rattle.std.proofs.Common.{◌≡◌, ◌∙◌, ◌<◌, ◌+◌, Bool, List, [], ap, arith, false, length, map, sym, true}
+use Rattle.std.proofs.Common.{◌∙◌, ◌<◌, ◌+◌, Bool, List, [], ap, arith, false, length, map, sym, true}
 use Rattle.std.specs.Global.{Vec}
 use Rattle.std.proofs.lemmas.List.{length-map}
 use Rattle.std.proofs.lemmas.List.Sums.{count_by_more_no, count_by_more_yes}

@@ -1,5 +1,5 @@
 -- No line so far gives the name, or one does.
-use Rattle.std.proofs.Common.{◌≡◌, ℕ, ap, false, refl, subst, sym, true}
+use Rattle.std.proofs.Common.{ℕ, refl, subst, sym}
 use Rattle.std.specs.Global.{Vec}
 use Rattle.std.specs.Prelude.{All}
 use Rattle.std.proofs.lemmas.List.Elements.{All-contains, All-more}

@@ -1,5 +1,5 @@
 -- A text that isn't expected asks nothing, and no more does one about the line before.
-use Rattle.std.proofs.Common.{◌≡◌, ◌∙◌, arith, false, rules, subst, sym, true}
+use Rattle.std.proofs.Common.{◌≡◌, ◌∙◌, arith, false, rules, subst, sym}
 use Rattle.std.proofs.lemmas.Bool.{false≢true}
 use Rattle.i3c_tracks.specs.Questions.{AreOfEnds}
 use Rattle.i3c_tracks.proofs.QuestionLaws.{not_of_ends}
