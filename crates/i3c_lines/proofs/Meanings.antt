@@ -25,8 +25,7 @@ use Rattle.i3c_lines.specs.Forms.{AreAddress, AreByte, AreWritten, IsForm, IsFra
 use Rattle.i3c_lines.specs.Data.{length_token, datum_name}
 use Rattle.i3c_lines.specs.Naming.{letters}
 use Rattle.i3c_lines.specs.Policies.{AcceptEach, Accepts, IsPolicy, each_kind}
-use Rattle.i3c_lines.specs.Sending.{bare, sent_of}
-use Rattle.i3c_lines.specs.Parsing.{Reads}
+use Rattle.i3c_lines.specs.Sending.{bare}
 use Rattle.i3c_lines.specs.Tokens.{IsDecimal, IsDecimalDigit, pair_values}
 
 -- a name is known by its letters
@@ -421,42 +420,3 @@ as_meant tokens command form = subst (λ c. IsForm tokens c) (sym (meant_is toke
 pub either : (b : Bool) (one other : Command) (tokens : List (List ℕ)) → IsForm tokens (cond b one other) → IsForm tokens one ⊎ IsForm tokens other
 either true one other tokens form = inl form
 either false one other tokens form = inr form
-
-some_sent : (sent : Sent) → sent_of (bare sent) ≡ None → ⊥
-some_sent (Sent.Frame frame) e = absurd cc
-some_sent (Sent.HandOver to) e = absurd cc
-some_sent Sent.Open e = absurd cc
-some_sent Sent.Round e = absurd cc
-some_sent Sent.End e = absurd cc
-some_sent Sent.Daa e = absurd cc
-
--- tokens of a command that no controller sends are no controller's line
-none_sent : (tokens : List (List ℕ)) (command : Command) → IsForm tokens command → sent_of command ≡ None → (sent : Sent) → IsSentForm tokens sent → ⊥
-none_sent tokens command form none sent is = some_sent sent (ap sent_of (sym (sent_is tokens sent is) ∙ meant_is tokens command form) ∙ none)
-
--- a controller's line is read by the command of its tokens
-pub sent_read : (tokens : List (List ℕ)) (command : Command) → IsForm tokens command → Reads IsSentForm tokens (sent_of command)
-sent_read tokens (Command.Frame frame) form = form
-sent_read tokens (Command.HandOver to) form = form
-sent_read tokens Command.Open form = form
-sent_read tokens Command.Round form = form
-sent_read tokens Command.End form = form
-sent_read tokens Command.Daa form = form
-sent_read tokens (Command.As name sent) form = none_sent tokens (Command.As name sent) form refl
-sent_read tokens (Command.Legacy name address lvr) form = none_sent tokens (Command.Legacy name address lvr) form refl
-sent_read tokens (Command.Declare address identity) form = none_sent tokens (Command.Declare address identity) form refl
-sent_read tokens (Command.Main name setup) form = none_sent tokens (Command.Main name setup) form refl
-sent_read tokens (Command.Attach name setup) form = none_sent tokens (Command.Attach name setup) form refl
-sent_read tokens (Command.DropOff name) form = none_sent tokens (Command.DropOff name) form refl
-sent_read tokens (Command.Raise name byte) form = none_sent tokens (Command.Raise name byte) form refl
-sent_read tokens (Command.AskJoin name) form = none_sent tokens (Command.AskJoin name) form refl
-sent_read tokens (Command.AskRole name) form = none_sent tokens (Command.AskRole name) form refl
-sent_read tokens (Command.Policy policy) form = none_sent tokens (Command.Policy policy) form refl
-sent_read tokens (Command.PolicyBut kinds but) form = none_sent tokens (Command.PolicyBut kinds but) form refl
-sent_read tokens (Command.Cut name bit) form = none_sent tokens (Command.Cut name bit) form refl
-sent_read tokens Command.Show form = none_sent tokens Command.Show form refl
-sent_read tokens Command.ShowAll form = none_sent tokens Command.ShowAll form refl
-sent_read tokens (Command.ShowFrom first) form = none_sent tokens (Command.ShowFrom first) form refl
-sent_read tokens (Command.Forget last) form = none_sent tokens (Command.Forget last) form refl
-sent_read tokens Command.Symbols form = none_sent tokens Command.Symbols form refl
-sent_read tokens (Command.Frames count) form = none_sent tokens (Command.Frames count) form refl

@@ -169,13 +169,6 @@ over_told questions ends key i end sum own next is large =
 pub size_is : (keys : List (List Bool)) (questions : List Question) (ends : List (Node Seen)) (key : List Bool) → keys ≡ keys_of questions ends → count_by (λ (one : List Bool). are_alike one key) keys ≡ length (group_of questions key ends)
 size_is keys questions ends key same = ap (λ (ks : List (List Bool)). count_by (λ (one : List Bool). are_alike one key) ks) same ∙ count_images (key_of questions) (λ (one : List Bool). are_alike one key) ends
 
--- the lines of the questions that are left
-pub answers_more : (questions : List Question) (key : List Bool) (i : ℕ) (question : Question) (held : Bool) → i < length questions → question ≡ get_or questions i question → i < length key → held ≡ get_or key i held
-    → answers_text (drop i questions) (drop i key) ≡ answer_text question held ++ answers_text (drop (i + 1) questions) (drop (i + 1) key)
-answers_more questions key i question held lt is lt' is' =
-    ap (λ (qs : List Question). answers_text qs (drop i key)) (drop_more questions i question lt ∙ ap (λ (q : Question). q ∷ drop (i + 1) questions) (sym is))
-    ∙ ap (λ (k : List Bool). answers_text (question ∷ drop (i + 1) questions) k) (drop_more key i held lt' ∙ ap (λ (h : Bool). h ∷ drop (i + 1) key) (sym is'))
-
 -- no question is left, or no answer
 pub no_answers : (questions : List Question) (key : List Bool) (i : ℕ) → min (length questions) (length key) ≤ i → answers_text (drop i questions) (drop i key) ≡ []
 no_answers questions key i few = go (drop i questions) (drop i key) (omega (arith, length-drop {A = Question}, length-drop {A = Bool}))

@@ -11,12 +11,6 @@ use Rattle.i3c_tracks.specs.Questions.{AreAsked, AreBehind, AreOfEnds}
 pub not_behind : (text line : List ℕ) → line ≡ codes "expect " ++ text → ((mark : Mark) → IsMark line mark → ⊥) → (claims : List Claim) → AreBehind text claims → ⊥
 not_behind text line is none claims there = none (Mark.Expect claims) (subst (λ (l : List ℕ). IsMark l (Mark.Expect claims)) (sym is) there)
 
--- what the mark of a text's line expects
-pub behind : (text line : List ℕ) (mark : Mark) (read : Option (List Claim)) → line ≡ codes "expect " ++ text → IsMark line mark → MatchOption read ((claims : List Claim) → mark ≡ Mark.Expect claims → ⊥) (λ claims. mark ≡ Mark.Expect claims)
-    → MatchOption read ((claims : List Claim) → AreBehind text claims → ⊥) (AreBehind text)
-behind text line mark None is marks none = λ claims there. none claims (one_mark line mark (Mark.Expect claims) marks (subst (λ (l : List ℕ). IsMark l (Mark.Expect claims)) (sym is) there))
-behind text line mark (Some claims) is marks same = subst (λ (l : List ℕ). IsMark l (Mark.Expect claims)) is (subst (λ (m : Mark). IsMark line m) same marks)
-
 same_claims : (one other : List Claim) → Mark.Expect one ≡ Mark.Expect other → one ≡ other
 same_claims one other is = cc
 
