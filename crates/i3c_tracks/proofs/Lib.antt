@@ -3,3 +3,4 @@ mod Reading
 mod OnePlan
 mod CourseLaws
 mod EndLaws
+mod UnexpectedLaws

@@ -5,6 +5,7 @@ pub mod Drafting
 pub mod Telling
 pub mod Courses
 pub mod Ends
+pub mod Unexpected
 pub mod Answering
 pub mod Taking
 pub mod Laws

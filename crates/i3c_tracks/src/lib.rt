@@ -20,6 +20,7 @@ mod plan;
 mod refusal;
 mod report;
 mod showing;
+mod unexpected;
 
 pub use answer::Answer;
 pub use exploring::run_explore;
