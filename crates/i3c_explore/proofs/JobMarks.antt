@@ -1,0 +1,85 @@
+-- The marks that all jobs make.
+use Rattle.std.proofs.Common.{◌≡◌, ◌∙◌, ◌<◌, ◌==◌, ◌+◌, ℕ, suc, Bool, List, [], ◌∷◌, Result, Ok, Err, IfOk, Some, ap, arith, eq-eqb, get_or, inl, inr, length, refl, subst, sym}
+use Rattle.std.specs.Global.{Vec}
+use Rattle.std.specs.List.{slice_get}
+use Rattle.std.proofs.lemmas.Bool.Decides.{eqb_tells}
+use Rattle.std.proofs.lemmas.Option.{get_or_from_slice_get, slice_get_within}
+use Rattle.i3c_explore.specs.declared.layer.Layer.{Layer}
+use Rattle.i3c_explore.specs.declared.node.Node.{Node}
+use Rattle.i3c_explore.specs.declared.owners.Owners.{Owners}
+use Rattle.i3c_explore.specs.declared.jobs.Job.{Job}
+use Rattle.i3c_explore.specs.declared.stop.Stop.{Stop}
+use Rattle.i3c_explore.specs.Jobs.{AreJobs, AreJoined, IsMarkedByJobs, IsMarkedIn}
+use Rattle.i3c_explore.specs.Notes.{AreMarks, IsNotedBehind}
+use Rattle.i3c_explore.specs.Owners.{AreOwned, own, owner}
+use Rattle.i3c_explore.proofs.Lists.{get_below}
+use Rattle.i3c_explore.proofs.Owning.{chosen, line_as, no_line, not_chosen, owner_within}
+
+-- each job has the number of its place
+job_at : {S : Type 0} (jobs : List (Job S)) (from to i : ℕ) (default : Job S) → AreJobs jobs from to → i < length jobs → (get_or jobs i default).number ≡ from + i
+job_at [] from to i default are lt = absurd (omega arith)
+job_at (job ∷ jobs) from to 0 default (at, rest) lt = omega arith
+job_at (job ∷ jobs) from to (suc i) default (at, rest) lt = let e = job_at jobs (suc from) to i default rest (omega arith) in omega arith
+
+job_count : {S : Type 0} (jobs : List (Job S)) (from to : ℕ) → AreJobs jobs from to → from + length jobs ≡ to
+job_count [] from to are = omega arith
+job_count (job ∷ jobs) from to (at, rest) = let e = job_count jobs (suc from) to rest in omega arith
+
+-- where layers were joined, each job made one
+made_at : {S : Type 0} (old new : List (Node S)) (made : List (Result (Layer S) Stop)) (i : ℕ) → AreJoined old made new → i < length made → (layer : Layer S) × (slice_get made i ≡ Some (Ok layer))
+made_at old new [] i joined lt = absurd (omega arith)
+made_at old new (Err stop ∷ made) i never lt = absurd never
+made_at old new (Ok layer ∷ made) 0 (mid, put, more) lt = (layer, refl)
+made_at old new (Ok layer ∷ made) (suc i) (mid, put, more) lt = made_at mid new made i more (omega arith)
+
+-- a line that a job runs is one of the lines
+noted_all : {S L : Type 0} (notes : S → L → ℕ → Type 0) (owners : Owners) (tracks job : ℕ) (lines : ℕ → List L) (layer : List (Node S)) (count t k : ℕ)
+    → IsNotedBehind notes (own owners tracks job lines) layer count t k → IsNotedBehind notes (λ _. lines) layer count t k
+noted_all notes owners tracks job lines layer count t k (i, lt, (n, is, (place, line, next, noted))) =
+    let mine = own owners tracks job lines i in
+    elim (eqb_tells (owner owners tracks i t) job) [
+      | inl (takes, _) ↦ (i, lt, (n, is, (place, line, line_as mine lines n.places.items t line (chosen (owner owners tracks i t == job) (lines t) takes) next, noted)))
+      | inr (other, _) ↦ absurd (no_line mine n.places.items t line (not_chosen (owner owners tracks i t == job) (lines t) other) next)
+    ]
+
+-- and each of the lines is run by a job
+noted_by : {S L : Type 0} (notes : S → L → ℕ → Type 0) (owners : Owners) (tracks jobs : ℕ) (lines : ℕ → List L) (layer : List (Node S)) (count t k : ℕ) → AreOwned owners.jobs.items jobs → 0 < jobs
+    → IsNotedBehind notes (λ _. lines) layer count t k → (job : ℕ) × (job < jobs) × IsNotedBehind notes (own owners tracks job lines) layer count t k
+noted_by notes owners tracks jobs lines layer count t k owned some (i, lt, (n, is, (place, line, next, noted))) =
+    let job = owner owners tracks i t in
+    let takes = eq-eqb job job refl in (
+      job,
+      owner_within owners tracks jobs i t owned some,
+      (i, lt, (n, is, (place, line, line_as lines (own owners tracks job lines i) n.places.items t line (sym (chosen (job == job) (lines t) takes)) next, noted))),
+    )
+
+-- what is marked in the layer that a job made
+marked_only : {S L : Type 0} (tracks : List (Vec L)) (Noted : ℕ → ℕ → Type 0) (one : Result (Layer S) Stop) (t k : ℕ) → IfOk one (λ (next : Layer S). AreMarks tracks Noted next.noted.items) → IsMarkedIn one t k → Noted t k
+marked_only tracks Noted (Ok next) t k marks is = marks.only t k is
+marked_only tracks Noted (Err stop) t k marks is = absurd is
+
+-- the marks of all jobs tell what is noted behind the layer
+pub jobs_mark : {S L : Type 0} (notes : S → L → ℕ → Type 0) (tracks : List (Vec L)) (lines : ℕ → List L) (owners : Owners) (layer joined : List (Node S)) (jobs : List (Job S)) (made : List (Result (Layer S) Stop)) (count : ℕ) (noted : List (Vec Bool))
+    → length made ≡ length jobs
+    → ((i : ℕ) → i < length jobs → (job : Job S) (one : Result (Layer S) Stop) → IfOk (get_or made i one) (λ (next : Layer S). AreMarks tracks (IsNotedBehind notes (own owners (length tracks) (get_or jobs i job).number lines) layer (length layer)) next.noted.items))
+    → AreJobs jobs 0 count → AreOwned owners.jobs.items count → 0 < count → AreJoined [] made joined → AreMarks tracks (IsMarkedByJobs made (length made)) noted
+    → AreMarks tracks (IsNotedBehind notes (λ _. lines) layer (length layer)) noted
+jobs_mark {S} {L} notes tracks lines owners layer joined jobs made count noted len each are owned some all marks = record {
+  shape = marks.shape;
+  only = λ t k is.
+      let (i, lt, (one, at, here)) = marks.only t k is in
+      let (job, _) = get_below jobs i (omega arith) in
+      let mine = IsNotedBehind notes (own owners (length tracks) (get_or jobs i job).number lines) layer (length layer) in
+      let by = subst (λ (r : Result (Layer S) Stop). IfOk r (λ (next : Layer S). AreMarks tracks mine next.noted.items)) (get_or_from_slice_get made i one one at) (each i (omega arith) job one) in
+      noted_all notes owners (length tracks) (get_or jobs i job).number lines layer (length layer) t k (marked_only tracks mine one t k by here);
+  each = λ t k is within.
+      let (i, below, mine) = noted_by notes owners (length tracks) count lines layer (length layer) t k owned some is in
+      let size = job_count jobs 0 count are in
+      let (next, at) = made_at [] joined made i all (omega arith) in
+      let (job, _) = get_below jobs i (omega arith) in
+      let number : i ≡ (get_or jobs i job).number = let e = job_at jobs 0 count i job are (omega arith) in omega arith in
+      let by = subst (λ (r : Result (Layer S) Stop). IfOk r (λ (next : Layer S). AreMarks tracks (IsNotedBehind notes (own owners (length tracks) (get_or jobs i job).number lines) layer (length layer)) next.noted.items))
+          (get_or_from_slice_get made i (Ok next) (Ok next) at) (each i (omega arith) job (Ok next)) in
+      let marked = by.each t k (subst (λ (j : ℕ). IsNotedBehind notes (own owners (length tracks) j lines) layer (length layer) t k) number mine) within in
+      marks.each t k (i, omega arith, (Ok next, at, marked)) within;
+}
