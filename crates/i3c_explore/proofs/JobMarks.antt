@@ -1,24 +1,26 @@
 -- The marks that all jobs make.
-use Rattle.std.proofs.Common.{◌≡◌, ◌∙◌, ◌<◌, ◌==◌, ◌+◌, ℕ, suc, Bool, List, [], ◌∷◌, Result, Ok, Err, IfOk, Some, ap, arith, eq-eqb, get_or, inl, inr, length, refl, subst, sym}
+use Rattle.std.proofs.Common.{◌≡◌, ◌∙◌, ◌<◌, ◌==◌, ◌+◌, ℕ, suc, zero, Bool, List, [], ◌∷◌, Result, Ok, Err, IfOk, Some, ap, arith, eq-eqb, get_or, inl, inr, length, refl, subst, sym}
 use Rattle.std.specs.Global.{Vec}
 use Rattle.std.specs.List.{slice_get}
 use Rattle.std.proofs.lemmas.Bool.Decides.{eqb_tells}
-use Rattle.std.proofs.lemmas.Option.{get_or_from_slice_get, slice_get_within}
+use Rattle.std.proofs.lemmas.Option.{get_or_from_slice_get, same_Some, slice_get_within}
 use Rattle.i3c_explore.specs.declared.layer.Layer.{Layer}
 use Rattle.i3c_explore.specs.declared.node.Node.{Node}
 use Rattle.i3c_explore.specs.declared.owners.Owners.{Owners}
 use Rattle.i3c_explore.specs.declared.jobs.Job.{Job}
 use Rattle.i3c_explore.specs.declared.stop.Stop.{Stop}
 use Rattle.i3c_explore.specs.Jobs.{AreJobs, AreJoined, IsMarkedByJobs, IsMarkedIn}
-use Rattle.i3c_explore.specs.Notes.{AreMarks, IsNotedBehind}
+use Rattle.i3c_explore.specs.Notes.{AreMarks, IsMarked, IsNotedBehind, Marks}
 use Rattle.i3c_explore.specs.Owners.{AreOwned, own, owner}
+use Rattle.i3c_explore.specs.Parts.{Part, opening}
 use Rattle.i3c_explore.proofs.Lists.{get_below}
+use Rattle.i3c_explore.proofs.Marking.{marks_both, marks_joined, marks_none}
 use Rattle.i3c_explore.proofs.Owning.{chosen, line_as, no_line, not_chosen, owner_within}
 
 -- each job has the number of its place
 job_at : {S : Type 0} (jobs : List (Job S)) (from to i : ℕ) (default : Job S) → AreJobs jobs from to → i < length jobs → (get_or jobs i default).number ≡ from + i
 job_at [] from to i default are lt = absurd (omega arith)
-job_at (job ∷ jobs) from to 0 default (at, rest) lt = omega arith
+job_at (job ∷ jobs) from to zero default (at, rest) lt = omega arith
 job_at (job ∷ jobs) from to (suc i) default (at, rest) lt = let e = job_at jobs (suc from) to i default rest (omega arith) in omega arith
 
 job_count : {S : Type 0} (jobs : List (Job S)) (from to : ℕ) → AreJobs jobs from to → from + length jobs ≡ to
@@ -29,7 +31,7 @@ job_count (job ∷ jobs) from to (at, rest) = let e = job_count jobs (suc from) 
 made_at : {S : Type 0} (old new : List (Node S)) (made : List (Result (Layer S) Stop)) (i : ℕ) → AreJoined old made new → i < length made → (layer : Layer S) × (slice_get made i ≡ Some (Ok layer))
 made_at old new [] i joined lt = absurd (omega arith)
 made_at old new (Err stop ∷ made) i never lt = absurd never
-made_at old new (Ok layer ∷ made) 0 (mid, put, more) lt = (layer, refl)
+made_at old new (Ok layer ∷ made) zero (mid, put, more) lt = (layer, refl)
 made_at old new (Ok layer ∷ made) (suc i) (mid, put, more) lt = made_at mid new made i more (omega arith)
 
 -- a line that a job runs is one of the lines
@@ -83,3 +85,25 @@ jobs_mark {S} {L} notes tracks lines owners layer joined jobs made count noted l
       let marked = by.each t k (subst (λ (j : ℕ). IsNotedBehind notes (own owners (length tracks) j lines) layer (length layer) t k) number mine) within in
       marks.each t k (i, omega arith, (Ok next, at, marked)) within;
 }
+
+pub jobs_marked_none : {S : Type 0} (layers : List (Result (Layer S) Stop)) (marks : List (Vec Bool)) → Marks (IsMarkedByJobs layers 0) marks marks
+jobs_marked_none layers marks = marks_none (IsMarkedByJobs layers 0) marks (λ t k (i, lt, more). omega arith)
+
+-- the marks of one more job are added
+pub jobs_marked_next : {S : Type 0} (layers : List (Result (Layer S) Stop)) (at : ℕ) (one : Result (Layer S) Stop) (old mid new : List (Vec Bool)) → slice_get layers at ≡ Some one
+    → Marks (IsMarkedByJobs layers at) old mid → Marks (IsMarkedIn one) mid new → Marks (IsMarkedByJobs layers (at + 1)) old new
+jobs_marked_next {S} layers at one old mid new is first second =
+    marks_both (IsMarkedByJobs layers at) (IsMarkedIn one) (IsMarkedByJobs layers (at + 1)) old mid new
+    (λ t k (i, lt, (made, there, marked)). elim (eqb_tells i at) [
+      | inl (_, same) ↦ (
+          let alike : made ≡ one = same_Some made one (sym there ∙ subst (λ (j : ℕ). slice_get layers j ≡ Some one) (sym same) is) in
+          inr (subst (λ (r : Result (Layer S) Stop). IsMarkedIn r t k) alike marked)
+          )
+      | inr (_, other) ↦ inl (i, omega arith, (made, there, marked))
+    ])
+    (λ t k (i, lt, more). (i, omega arith, more)) (λ t k marked. (at, omega arith, (one, is, marked))) first second
+
+-- what is known of a layer with the marks of those before it
+pub joined_ok : {S L : Type 0} (notes : S → L → ℕ → Type 0) (part : Part) (tracks : List (Vec L)) (layer : List (Node S)) (made new : Layer S) (old : List (Vec Bool)) → AreMarks tracks (IsNotedBehind notes (λ _. opening part tracks) layer (length layer)) made.noted.items
+    → Marks (IsMarked made.noted.items) old new.noted.items → Marks (IsNotedBehind notes (λ _. opening part tracks) layer (length layer)) old new.noted.items
+joined_ok notes part tracks layer made new old are marks = marks_joined notes part tracks layer (length layer) made.noted.items old new.noted.items are marks

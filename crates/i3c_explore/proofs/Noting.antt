@@ -1,12 +1,15 @@
 -- The marks of a block, layer by layer, and those of all blocks.
-use Rattle.std.proofs.Common.{◌≡◌, ◌⊎◌, ◌∙◌, ◌<◌, ◌≤◌, ◌+◌, ℕ, suc, Bool, true, List, [], ◌∷◌, ◌++◌, Some, ap, arith, get_or, inl, inr, length, length-append, refl, subst, sym}
+use Rattle.std.proofs.Common.{◌≡◌, ◌⊎◌, ◌∙◌, ◌<◌, ◌≤◌, ◌+◌, ℕ, suc, zero, Bool, true, List, [], ◌∷◌, ◌++◌, Some, ap, arith, get_or, inl, inr, length, length-append, refl, subst, sym}
 use Rattle.std.specs.Global.{Vec}
 use Rattle.std.specs.List.{Contains, slice_get}
 use Rattle.std.proofs.lemmas.Bool.Decides.{eqb_tells, leb_tells}
 use Rattle.std.proofs.lemmas.Option.{slice_get_past, slice_get_within}
+use Rattle.i3c_explore.specs.declared.layer.Layer.{Layer}
+use Rattle.i3c_explore.specs.declared.limits.Limits.{Limits}
 use Rattle.i3c_explore.specs.declared.node.Node.{Node}
 use Rattle.i3c_explore.specs.declared.turn.Turn.{Turn}
 use Rattle.i3c_explore.specs.Blocks.{IsBegun, LeadsOn, block, tracks_in}
+use Rattle.i3c_explore.specs.Explorations.{IsMadeBy}
 use Rattle.i3c_explore.specs.Layers.{IsNextAt}
 use Rattle.i3c_explore.specs.Notes.{BlockIsNoted, EndsAt, EndsIn, HasShape, IsMarked, IsNoted, IsNotedBehind, IsNotedIn, IsTold, IsUnmarked, Marks, Notes, NotesOn}
 use Rattle.i3c_explore.specs.Orders.{IsDetermined, IsNext, IsPrefix, Leads, track, turns_of}
@@ -17,6 +20,7 @@ use Rattle.i3c_explore.proofs.Covering.{leads_once}
 use Rattle.i3c_explore.proofs.Lists.{contains_get, get_contains, get_push}
 use Rattle.i3c_explore.proofs.Opening.{InPart, in_block, in_part_before, of_block, opened, opened_in_part, opening_has, opens}
 use Rattle.i3c_explore.proofs.Turns.{breaks_prefix, prefix_before}
+use Rattle.i3c_explore.proofs.Underway.{IsUnderway, held_by}
 
 -- the marks of a block tell the lines that are noted in orders of a part with at most `count` turns
 pub record AreNotedSo {S L : Type 0} (steps : S → L → ℕ → S → Type 0) (notes : S → L → ℕ → Type 0) (part : Part) (tracks : List (Vec L)) (starts : List (Node S)) (count : ℕ) (marks : List (Vec Bool)) : Type 0 where
@@ -123,7 +127,7 @@ told_first steps notes part blocks start noted none =
 
 before_push : {A : Type 0} (xs : List A) (y : A) (k : ℕ) → k < length xs → slice_get (xs ++ y ∷ []) k ≡ slice_get xs k
 before_push [] y k lt = absurd (omega arith)
-before_push (x ∷ xs) y 0 lt = refl
+before_push (x ∷ xs) y zero lt = refl
 before_push (x ∷ xs) y (suc k) lt = before_push xs y k (omega arith)
 
 -- the marks of the newest block, and of the ones before it
@@ -207,3 +211,24 @@ shape_all {L} blocks noted sized shape b = elim (leb_tells (suc b) (length block
       subst (λ (m : List (Vec Bool)). HasShape (block blocks b) m) (sym (ap tracks_in (slice_get_past noted b (omega arith))))
       (subst (λ (m : List (Vec L)). HasShape m []) (sym (ap tracks_in (slice_get_past blocks b (omega arith)))) (refl, λ t. refl))
 ]
+
+-- one more layer of a block that is underway
+pub noted_on : {S L : Type 0} (steps : S → L → ℕ → S → Type 0) (last : S → L → ℕ) (notes : S → L → ℕ → Type 0) (part : Part) (tracks : List (Vec L)) (starts : Layer S) (count : ℕ) (layer : List (Node S)) (left : Limits) (old first made new : Vec (Vec Bool))
+    → IsUnderway steps last part tracks starts count layer left → first ≡ old → new ≡ made → Marks (IsNotedBehind notes (λ _. opening (part_at part count) tracks) layer (length layer)) first.items made.items
+    → AreNotedSo steps notes part tracks starts.nodes.items count old.items → AreNotedSo steps notes part tracks starts.nodes.items (count + 1) new.items
+noted_on {S} {L} steps last notes part tracks starts count layer left old first made new underway begun kept marks was =
+    let same : suc count ≡ count + 1 = omega arith in
+    let from = subst (λ (v : Vec (Vec Bool)). Marks (IsNotedBehind notes (λ _. opening (part_at part count) tracks) layer (length layer)) v.items made.items) begun marks in
+    subst (λ (v : Vec (Vec Bool)). AreNotedSo steps notes part tracks starts.nodes.items (count + 1) v.items) (sym kept)
+    (subst (λ (k : ℕ). AreNotedSo steps notes part tracks starts.nodes.items k made.items) same (noted_next steps notes part tracks starts.nodes.items layer count old.items made.items underway.reached underway.held from was))
+
+-- the last layer of a block
+pub noted_end : {S L : Type 0} (steps : S → L → ℕ → S → Type 0) (last : S → L → ℕ) (notes : S → L → ℕ → Type 0) (part : Part) (tracks : List (Vec L)) (starts : Layer S) (count : ℕ) (layer : List (Node S)) (left : Limits) (next : Layer S) (old first : Vec (Vec Bool))
+    → IsUnderway steps last part tracks starts count layer left → IsMadeBy steps last tracks (part_at part count) (λ _. opening (part_at part count) tracks) layer left next → length next.nodes.items ≡ 0
+    → first ≡ old → Marks (IsNotedBehind notes (λ _. opening (part_at part count) tracks) layer (length layer)) first.items next.noted.items
+    → AreNotedSo steps notes part tracks starts.nodes.items count old.items → BlockIsNoted steps notes part tracks starts.nodes.items next.noted.items
+noted_end {S} {L} steps last notes part tracks starts count layer left next old first underway made empty begun marks was =
+    let same : count + 1 ≡ suc count = omega arith in
+    noted_over steps notes part tracks starts.nodes.items next.nodes.items count next.noted.items (held_by steps last part tracks starts count layer left next underway made) empty
+    (subst (λ (k : ℕ). AreNotedSo steps notes part tracks starts.nodes.items k next.noted.items) same
+    (noted_on steps last notes part tracks starts count layer left old first next.noted next.noted underway begun refl marks was))

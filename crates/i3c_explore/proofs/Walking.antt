@@ -1,5 +1,5 @@
 -- Blocks that are run one after another, up to the answer.
-use Rattle.std.proofs.Common.{◌≡◌, ◌∙◌, ◌<◌, ◌+◌, ◌-◌, ℕ, suc, List, [], Some, Err, ap, arith, inl, inr, length, refl, subst, sym}
+use Rattle.std.proofs.Common.{◌≡◌, ◌∙◌, ◌<◌, ◌+◌, ◌-◌, ◌++◌, ◌∷◌, ℕ, suc, Bool, List, [], Some, Err, ap, arith, inl, inr, length, refl, subst, sym}
 use Rattle.std.specs.Global.{Vec}
 use Rattle.std.proofs.lemmas.Bool.Decides.{eqb_tells}
 use Rattle.i3c_explore.specs.declared.layer.Layer.{Layer}
@@ -13,7 +13,7 @@ use Rattle.i3c_explore.specs.Blocks.{IsBegun, LeadsOn, block}
 use Rattle.i3c_explore.specs.Counts.{IsShared}
 use Rattle.i3c_explore.specs.Explorations.{AllLeadTo, BlockLeadsTo, Explores}
 use Rattle.i3c_explore.specs.Layers.{IsAlone}
-use Rattle.i3c_explore.specs.Notes.{HasShape, IsUnmarked}
+use Rattle.i3c_explore.specs.Notes.{BlockIsNoted, HasShape, IsUnmarked}
 use Rattle.i3c_explore.specs.Numbers.{IsNumber}
 use Rattle.i3c_explore.specs.Parts.{HasOrder, IsOfPart, Part, block_part, fork}
 use Rattle.i3c_explore.specs.Runs.{AreRun}
@@ -21,7 +21,7 @@ use Rattle.i3c_explore.specs.Shares.{all_below}
 use Rattle.i3c_explore.specs.Stops.{StopsIn}
 use Rattle.i3c_explore.proofs.Courses.{CoursesLead, HoldCourses, ReachCourses, begun_within, hold_first, hold_next, lead_first, lead_next, leads_on_once, none_breaks, reach_first, reach_next, shortest_break}
 use Rattle.i3c_explore.proofs.Layering.{AreRunSo, run_exceeds, run_first, run_next}
-use Rattle.i3c_explore.proofs.Noting.{AreTold, ends_within, shape_all}
+use Rattle.i3c_explore.proofs.Noting.{AreTold, ends_within, shape_all, told_next}
 use Rattle.i3c_explore.proofs.Parting.{none_counted}
 use Rattle.i3c_explore.proofs.Totals.{SharesCourses, all_counted, share_next, share_start}
 
@@ -115,3 +115,12 @@ walked_none {S} {L} steps last breaks notes part blocks start limits found never
       every = λ determined course begun (_, has) led b t k at. absurd (never has);
       shape = (sized, shape);
     }
+
+-- the marks of one more block
+pub walked_told : {S L : Type 0} (steps : S → L → ℕ → S → Type 0) (last : S → L → ℕ) (notes : S → L → ℕ → Type 0) (part : Part) (blocks : List (Vec (Vec L))) (start : S) (limits : Limits) (count : ℕ) (starts : Layer S) (marks : Vec (Vec Bool)) (noted new : List (Vec (Vec Bool))) → count < length blocks
+    → IsWalked steps last part blocks start limits count starts.nodes.items starts.limits → BlockIsNoted steps notes (block_part part (fork blocks) count) (block blocks count) starts.nodes.items marks.items
+    → new ≡ noted ++ marks ∷ [] → AreTold steps notes part blocks start count noted → AreTold steps notes part blocks start (count + 1) new
+walked_told {S} {L} steps last notes part blocks start limits count starts marks noted new there was done is told =
+    let next : suc count ≡ count + 1 = omega arith in
+    subst (λ (l : List (Vec (Vec Bool))). AreTold steps notes part blocks start (count + 1) l) (sym is)
+    (subst (λ (k : ℕ). AreTold steps notes part blocks start k (noted ++ marks ∷ [])) next (told_next steps notes part blocks start count starts.nodes.items noted marks there was.reached was.held done told))

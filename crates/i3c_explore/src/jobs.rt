@@ -1,7 +1,7 @@
-ghost use Rattle.std.specs.Prelude.{◌<◌, IfOk, length};
+ghost use Rattle.std.specs.Prelude.{◌≡◌, ◌<◌, IfOk, length};
 ghost use Rattle.i3c_explore.specs.Explorations.{IsMadeBy, MakesNext};
 ghost use Rattle.i3c_explore.specs.Nexts.{ArePlaced};
-ghost use Rattle.i3c_explore.specs.Notes.{AreMarks, IsNotedBehind, Marks};
+ghost use Rattle.i3c_explore.specs.Notes.{AreMarks, IsMarked, IsNotedBehind, Marks};
 ghost use Rattle.i3c_explore.specs.Parts.{opening};
 ghost use Rattle.i3c_explore.specs.Jobs.{AreJobs, IsMarkedByJobs, IsMarkedIn};
 ghost use Rattle.i3c_explore.specs.Owners.{own};
@@ -197,6 +197,19 @@ where
     }
 }
 
+/// A layer that jobs made, with the marks of the layers before it.
+fn with_marks<M: Machine>(made: Layer<M>, before: Vec<Vec<bool>>) -> Layer<M>
+    ensures nodes { result.nodes ≡ made.nodes }
+    ensures limits { result.limits ≡ made.limits }
+    ensures noted { Marks (IsMarked made.noted.items) before.items result.noted.items }
+{
+    let mut next = made;
+    let mut noted = before;
+    add(&mut noted, &next.noted);
+    next.noted = noted;
+    next
+}
+
 /// The layer that follows all nodes of a layer, by up to `jobs` jobs. Where one of them finds a break or reaches a limit,
 /// one thread makes the layer again from its first node, so that each number of jobs answers the same.
 pub(crate) fn next_by_jobs<R: Threads + Sync, M: Machine + Send + Sync, W: Watch>(
@@ -221,16 +234,15 @@ where
     let Handed {
         mut spares,
         codes,
-        mut noted,
+        noted,
     } = handed;
     let useful = jobs.min(layer.len() / FEW);
     if useful > 1 {
         let lent = mem::replace(&mut spares, Vec::new(alloc));
-        if let Ok(mut next) = by_owners(
+        if let Ok(made) = by_owners(
             rt, alloc, useful, layer, limits, tracks, part, lent, codes,
         ) {
-            add(&mut noted, &next.noted);
-            next.noted = noted;
+            let next = with_marks(made, noted);
             view.tell(layer, &next.nodes, next.limits);
             return Ok(next);
         }

@@ -217,7 +217,8 @@ fn explore_by<
 {
     let split = fork(blocks);
     if !part.has_orders(split, blocks.len()) {
-        return Ok(nothing(alloc, blocks)?);
+        let none = nothing(alloc, blocks)?;
+        return Ok(none);
     }
     if limits.states == 0 {
         return Err(Stop::Most);
