@@ -25,7 +25,7 @@ returns-in-Ok-clause-made g c =
     let ran : (i : ℕ) → i < length all → (job : Job g.row.M.Denot) (one : Result (Layer g.row.M.Denot) Stop) → IfOk (get_or made i one) (IsMadeBy steps last tracks part (own owners count (get_or all i job).number lines) layer limits) =
     λ i lt job one.
     let (_, call) = c.in_ok-layers.ensures.each i one lt in
-    subst (λ (r : Job g.row.M.Denot). IfOk (get_or made i one) (IsMadeBy steps last tracks part (own owners count r.number lines) layer limits)) (sym (call.job_is job)) call.call.met.made in
+    subst (λ (r : Job g.row.M.Denot). IfOk (get_or made i one) (IsMadeBy steps last tracks part (own owners count r.number lines) layer limits)) (sym (call.job_is job)) call.call.met.0 in
     let followed = jobs_follow steps tracks lines owners layer all made 0 jobs [] joined sized (λ i lt job one. made_follow steps last tracks part (own owners count (get_or all i job).number lines) layer limits (get_or made i one) (ran i lt job one))
     c.in_ok-all.ensures are (next_idle steps tracks lines (own_below owners count 0 lines) layer 0 (length layer) [] refl none) in
     let run = jobs_run last lines owners count layer limits all made 0 jobs [] joined sized (λ i lt job one. made_within steps last tracks part (own owners count (get_or all i job).number lines) layer limits (get_or made i one) (ran i lt job one))
@@ -47,5 +47,5 @@ returns-in-Ok-clause-noted g c =
         → IfOk (get_or made i one) (λ (next : Layer g.row.M.Denot). AreMarks tracks (IsNotedBehind g.M.Machine.notes (own owners count (get_or all i job).number lines) layer (length layer)) next.noted.items) =
     λ i lt job one.
     let (_, call) = c.in_ok-layers.ensures.each i one lt in
-    subst (λ (r : Job g.row.M.Denot). IfOk (get_or made i one) (λ (next : Layer g.row.M.Denot). AreMarks tracks (IsNotedBehind g.M.Machine.notes (own owners count r.number lines) layer (length layer)) next.noted.items)) (sym (call.job_is job)) call.call.met.noted in
+    subst (λ (r : Job g.row.M.Denot). IfOk (get_or made i one) (λ (next : Layer g.row.M.Denot). AreMarks tracks (IsNotedBehind g.M.Machine.notes (own owners count r.number lines) layer (length layer)) next.noted.items)) (sym (call.job_is job)) call.call.met.1 in
     jobs_mark g.M.Machine.notes tracks lines owners layer joined all made c.args.jobs c.in_ok-noted.noted.items sized marked c.in_ok-all.ensures c.in_ok-owners.ensures c.requires.some are c.in_ok-noted.ensures
