@@ -1,8 +1,9 @@
-use Rattle.std.proofs.Common.{◌≡◌, ◌<◌, ℕ, [], IfOk, Result, get_or, length, refl, rules, subst, sym}
+use Rattle.std.proofs.Common.{◌≡◌, ◌<◌, ℕ, List, [], IfOk, Result, get_or, length, refl, rules, subst, sym}
 use Rattle.i3c_explore.specs.declared.jobs.Job.{Job}
 use Rattle.i3c_explore.specs.declared.layer.Layer.{Layer}
 use Rattle.i3c_explore.specs.declared.stop.Stop.{Stop}
 use Rattle.i3c_explore.specs.Explorations.{IsMadeBy}
+use Rattle.i3c_explore.specs.Jobs.{IsMarkedByJobs}
 use Rattle.i3c_explore.specs.Notes.{AreMarks, IsNotedBehind}
 use Rattle.i3c_explore.specs.Owners.{own, own_below}
 use Rattle.i3c_explore.specs.Parts.{opening}
@@ -48,4 +49,5 @@ returns-in-Ok-clause-noted g c =
     λ i lt job one.
     let (_, call) = c.in_ok-layers.ensures.each i one lt in
     subst (λ (r : Job g.row.M.Denot). IfOk (get_or made i one) (λ (next : Layer g.row.M.Denot). AreMarks tracks (IsNotedBehind g.M.Machine.notes (own owners count r.number lines) layer (length layer)) next.noted.items)) (sym (call.job_is job)) call.call.met.1 in
-    jobs_mark g.M.Machine.notes tracks lines owners layer joined all made c.args.jobs c.in_ok-noted.noted.items sized marked c.in_ok-all.ensures c.in_ok-owners.ensures c.requires.some are c.in_ok-noted.ensures
+    jobs_mark g.M.Machine.notes tracks lines owners layer joined all made c.args.jobs c.in_ok-noted.noted.items sized marked c.in_ok-all.ensures c.in_ok-owners.ensures c.requires.some are
+    (subst (λ (l : List (Result (Layer g.row.M.Denot) Stop)). AreMarks tracks (IsMarkedByJobs l (length l)) c.in_ok-noted.noted.items) c.deref.ensures.value c.in_ok-noted.ensures)
