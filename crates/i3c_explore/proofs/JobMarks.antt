@@ -81,7 +81,7 @@ jobs_mark {S} {L} notes tracks lines owners layer joined jobs made count noted l
       let (job, _) = get_below jobs i (omega arith) in
       let number : i ≡ (get_or jobs i job).number = let e = job_at jobs 0 count i job are (omega arith) in omega arith in
       let by = subst (λ (r : Result (Layer S) Stop). IfOk r (λ (next : Layer S). AreMarks tracks (IsNotedBehind notes (own owners (length tracks) (get_or jobs i job).number lines) layer (length layer)) next.noted.items))
-          (get_or_from_slice_get made i (Ok next) (Ok next) at) (each i (omega arith) job (Ok next)) in
+      (get_or_from_slice_get made i (Ok next) (Ok next) at) (each i (omega arith) job (Ok next)) in
       let marked = by.each t k (subst (λ (j : ℕ). IsNotedBehind notes (own owners (length tracks) j lines) layer (length layer) t k) number mine) within in
       marks.each t k (i, omega arith, (Ok next, at, marked)) within;
 }

@@ -80,15 +80,7 @@ fn run<M: Machine>(
     if !next.limits.step() {
         return Err(Stop::Most);
     }
-    match run_line(
-        alloc,
-        node,
-        line,
-        turn,
-        again,
-        runner,
-        &mut next.noted,
-    ) {
+    match run_line(alloc, node, line, turn, again, runner, &mut next.noted) {
         Ok(()) => {}
         Err(stop) => return Err(stop),
     }

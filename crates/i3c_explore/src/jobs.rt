@@ -239,9 +239,7 @@ where
     let useful = jobs.min(layer.len() / FEW);
     if useful > 1 {
         let lent = mem::replace(&mut spares, Vec::new(alloc));
-        if let Ok(made) = by_owners(
-            rt, alloc, useful, layer, limits, tracks, part, lent, codes,
-        ) {
+        if let Ok(made) = by_owners(rt, alloc, useful, layer, limits, tracks, part, lent, codes) {
             let next = with_marks(made, noted);
             view.tell(layer, &next.nodes, next.limits);
             return Ok(next);

@@ -790,14 +790,16 @@ fn lines_of_each_block_are_told(rt: HostRuntime) -> Result<(), Fail> {
         ],
         WIDE,
     )?;
-    assert!(rt; notes(
-        &found,
-        &[
-            &[&[false, true], &[false]],
-            &[],
-            &[&[true, false], &[true], &[false]],
-        ],
-    ));
+    assert!(rt;
+        notes(
+            &found,
+            &[
+                &[&[false, true], &[false]],
+                &[],
+                &[&[true, false], &[true], &[false]],
+            ],
+        )
+    );
     Ok(())
 }
 

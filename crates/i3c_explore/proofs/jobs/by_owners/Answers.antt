@@ -45,7 +45,7 @@ returns-in-Ok-clause-noted g c =
     let (joined, are, _) = c.in-Ok.ensures.joined in
     let sized : length made ≡ length all = (let e = c.in_ok-layers.ensures.len in search rules) in
     let marked : (i : ℕ) → i < length all → (job : Job g.row.M.Denot) (one : Result (Layer g.row.M.Denot) Stop)
-        → IfOk (get_or made i one) (λ (next : Layer g.row.M.Denot). AreMarks tracks (IsNotedBehind g.M.Machine.notes (own owners count (get_or all i job).number lines) layer (length layer)) next.noted.items) =
+    → IfOk (get_or made i one) (λ (next : Layer g.row.M.Denot). AreMarks tracks (IsNotedBehind g.M.Machine.notes (own owners count (get_or all i job).number lines) layer (length layer)) next.noted.items) =
     λ i lt job one.
     let (_, call) = c.in_ok-layers.ensures.each i one lt in
     subst (λ (r : Job g.row.M.Denot). IfOk (get_or made i one) (λ (next : Layer g.row.M.Denot). AreMarks tracks (IsNotedBehind g.M.Machine.notes (own owners count r.number lines) layer (length layer)) next.noted.items)) (sym (call.job_is job)) call.call.met.1 in
