@@ -1,20 +1,20 @@
 -- The marks that all jobs make.
-use Rattle.std.proofs.Common.{◌≡◌, ◌∙◌, ◌<◌, ◌==◌, ◌+◌, ℕ, suc, zero, Bool, List, [], ◌∷◌, Result, Ok, Err, IfOk, Some, ap, arith, eq-eqb, get_or, inl, inr, length, refl, subst, sym}
+use Rattle.std.proofs.Common.{◌≡◌, ◌∙◌, ◌<◌, ◌==◌, ◌+◌, ℕ, suc, zero, Bool, List, [], ◌∷◌, Result, Ok, Err, IfOk, Some, arith, eq-eqb, get_or, inl, inr, length, refl, subst, sym}
 use Rattle.std.specs.Global.{Vec}
 use Rattle.std.specs.List.{slice_get}
 use Rattle.std.proofs.lemmas.Bool.Decides.{eqb_tells}
-use Rattle.std.proofs.lemmas.Option.{get_or_from_slice_get, same_Some, slice_get_within}
+use Rattle.std.proofs.lemmas.Option.{get_or_from_slice_get, same_Some}
 use Rattle.i3c_explore.specs.declared.layer.Layer.{Layer}
 use Rattle.i3c_explore.specs.declared.node.Node.{Node}
 use Rattle.i3c_explore.specs.declared.owners.Owners.{Owners}
 use Rattle.i3c_explore.specs.declared.jobs.Job.{Job}
 use Rattle.i3c_explore.specs.declared.stop.Stop.{Stop}
 use Rattle.i3c_explore.specs.Jobs.{AreJobs, AreJoined, IsMarkedByJobs, IsMarkedIn}
-use Rattle.i3c_explore.specs.Notes.{AreMarks, IsMarked, IsNotedBehind, Marks}
+use Rattle.i3c_explore.specs.Notes.{Adds, AreMarks, IsMarked, IsNotedBehind, IsQuietBehind, Marks}
 use Rattle.i3c_explore.specs.Owners.{AreOwned, own, owner}
 use Rattle.i3c_explore.specs.Parts.{Part, opening}
 use Rattle.i3c_explore.proofs.Lists.{get_below}
-use Rattle.i3c_explore.proofs.Marking.{marks_both, marks_joined, marks_none}
+use Rattle.i3c_explore.proofs.Marking.{adds_both, adds_none, marks_joined}
 use Rattle.i3c_explore.proofs.Owning.{chosen, line_as, no_line, not_chosen, owner_within}
 
 -- each job has the number of its place
@@ -44,56 +44,51 @@ noted_all notes owners tracks job lines layer count t k (i, lt, (n, is, (place, 
       | inr (other, _) ↦ absurd (no_line mine n.places.items t line (not_chosen (owner owners tracks i t == job) (lines t) other) next)
     ]
 
--- and each of the lines is run by a job
-noted_by : {S L : Type 0} (notes : S → L → ℕ → Type 0) (owners : Owners) (tracks jobs : ℕ) (lines : ℕ → List L) (layer : List (Node S)) (count t k : ℕ) → AreOwned owners.jobs.items jobs → 0 < jobs
-    → IsNotedBehind notes (λ _. lines) layer count t k → (job : ℕ) × (job < jobs) × IsNotedBehind notes (own owners tracks job lines) layer count t k
-noted_by notes owners tracks jobs lines layer count t k owned some (i, lt, (n, is, (place, line, next, noted))) =
-    let job = owner owners tracks i t in
-    let takes = eq-eqb job job refl in (
-      job,
-      owner_within owners tracks jobs i t owned some,
-      (i, lt, (n, is, (place, line, line_as lines (own owners tracks job lines i) n.places.items t line (sym (chosen (job == job) (lines t) takes)) next, noted))),
-    )
-
 -- what is marked in the layer that a job made
-marked_only : {S L : Type 0} (tracks : List (Vec L)) (Noted : ℕ → ℕ → Type 0) (one : Result (Layer S) Stop) (t k : ℕ) → IfOk one (λ (next : Layer S). AreMarks tracks Noted next.noted.items) → IsMarkedIn one t k → Noted t k
-marked_only tracks Noted (Ok next) t k marks is = marks.only t k is
-marked_only tracks Noted (Err stop) t k marks is = absurd is
+marked_only : {S L : Type 0} (tracks : List (Vec L)) (Noted Quiet : ℕ → ℕ → Type 0) (one : Result (Layer S) Stop) (t k : ℕ) → IfOk one (λ (next : Layer S). AreMarks tracks Noted Quiet next.noted.items) → IsMarkedIn one t k → Noted t k
+marked_only tracks Noted Quiet (Ok next) t k marks is = marks.only t k is
+marked_only tracks Noted Quiet (Err stop) t k marks is = absurd is
 
--- the marks of all jobs tell what is noted behind the layer
-pub jobs_mark : {S L : Type 0} (notes : S → L → ℕ → Type 0) (tracks : List (Vec L)) (lines : ℕ → List L) (owners : Owners) (layer joined : List (Node S)) (jobs : List (Job S)) (made : List (Result (Layer S) Stop)) (count : ℕ) (noted : List (Vec Bool))
+-- the marks of all jobs tell what is noted behind the layer: each line is run by a job
+pub jobs_mark : {S L : Type 0} (notes quiet : S → L → ℕ → Type 0) (tracks : List (Vec L)) (lines : ℕ → List L) (owners : Owners) (layer joined : List (Node S)) (jobs : List (Job S)) (made : List (Result (Layer S) Stop)) (count : ℕ) (noted : List (Vec Bool))
     → length made ≡ length jobs
-    → ((i : ℕ) → i < length jobs → (job : Job S) (one : Result (Layer S) Stop) → IfOk (get_or made i one) (λ (next : Layer S). AreMarks tracks (IsNotedBehind notes (own owners (length tracks) (get_or jobs i job).number lines) layer (length layer)) next.noted.items))
-    → AreJobs jobs 0 count → AreOwned owners.jobs.items count → 0 < count → AreJoined [] made joined → AreMarks tracks (IsMarkedByJobs made (length made)) noted
-    → AreMarks tracks (IsNotedBehind notes (λ _. lines) layer (length layer)) noted
-jobs_mark {S} {L} notes tracks lines owners layer joined jobs made count noted len each are owned some all marks = record {
+    → ((i : ℕ) → i < length jobs → (job : Job S) (one : Result (Layer S) Stop)
+    → IfOk (get_or made i one) (λ (next : Layer S). AreMarks tracks (IsNotedBehind notes (own owners (length tracks) (get_or jobs i job).number lines) layer (length layer)) (IsQuietBehind quiet (own owners (length tracks) (get_or jobs i job).number lines) layer (length layer)) next.noted.items))
+    → AreJobs jobs 0 count → AreOwned owners.jobs.items count → 0 < count → AreJoined [] made joined → AreMarks tracks (IsMarkedByJobs made (length made)) (λ t k. IsMarkedByJobs made (length made) t k → ⊥) noted
+    → AreMarks tracks (IsNotedBehind notes (λ _. lines) layer (length layer)) (IsQuietBehind quiet (λ _. lines) layer (length layer)) noted
+jobs_mark {S} {L} notes quiet tracks lines owners layer joined jobs made count noted len each are owned some all marks = record {
   shape = marks.shape;
   only = λ t k is.
       let (i, lt, (one, at, here)) = marks.only t k is in
       let (job, _) = get_below jobs i (omega arith) in
       let mine = IsNotedBehind notes (own owners (length tracks) (get_or jobs i job).number lines) layer (length layer) in
-      let by = subst (λ (r : Result (Layer S) Stop). IfOk r (λ (next : Layer S). AreMarks tracks mine next.noted.items)) (get_or_from_slice_get made i one one at) (each i (omega arith) job one) in
-      noted_all notes owners (length tracks) (get_or jobs i job).number lines layer (length layer) t k (marked_only tracks mine one t k by here);
-  each = λ t k is within.
-      let (i, below, mine) = noted_by notes owners (length tracks) count lines layer (length layer) t k owned some is in
+      let still = IsQuietBehind quiet (own owners (length tracks) (get_or jobs i job).number lines) layer (length layer) in
+      let by = subst (λ (r : Result (Layer S) Stop). IfOk r (λ (next : Layer S). AreMarks tracks mine still next.noted.items)) (get_or_from_slice_get made i one one at) (each i (omega arith) job one) in
+      noted_all notes owners (length tracks) (get_or jobs i job).number lines layer (length layer) t k (marked_only tracks mine still one t k by here);
+  unmarked = λ t k within un i lt n is place line next way.
+      let j = owner owners (length tracks) i t in
+      let below = owner_within owners (length tracks) count i t owned some in
       let size = job_count jobs 0 count are in
-      let (next, at) = made_at [] joined made i all (omega arith) in
-      let (job, _) = get_below jobs i (omega arith) in
-      let number : i ≡ (get_or jobs i job).number = let e = job_at jobs 0 count i job are (omega arith) in omega arith in
-      let by = subst (λ (r : Result (Layer S) Stop). IfOk r (λ (next : Layer S). AreMarks tracks (IsNotedBehind notes (own owners (length tracks) (get_or jobs i job).number lines) layer (length layer)) next.noted.items))
-      (get_or_from_slice_get made i (Ok next) (Ok next) at) (each i (omega arith) job (Ok next)) in
-      let marked = by.each t k (subst (λ (j : ℕ). IsNotedBehind notes (own owners (length tracks) j lines) layer (length layer) t k) number mine) within in
-      marks.each t k (i, omega arith, (Ok next, at, marked)) within;
+      let (new, at) = made_at [] joined made j all (omega arith) in
+      let (job, _) = get_below jobs j (omega arith) in
+      let number : j ≡ (get_or jobs j job).number = let e = job_at jobs 0 count j job are (omega arith) in omega arith in
+      let mine = IsNotedBehind notes (own owners (length tracks) (get_or jobs j job).number lines) layer (length layer) in
+      let still = IsQuietBehind quiet (own owners (length tracks) (get_or jobs j job).number lines) layer (length layer) in
+      let by = subst (λ (r : Result (Layer S) Stop). IfOk r (λ (next : Layer S). AreMarks tracks mine still next.noted.items)) (get_or_from_slice_get made j (Ok new) (Ok new) at) (each j (omega arith) job (Ok new)) in
+      let quietly = by.unmarked t k within (λ marked. marks.unmarked t k within un (j, omega arith, (Ok new, at, marked))) in
+      let takes = eq-eqb j (get_or jobs j job).number number in
+      quietly i lt n is place line
+      (line_as lines (own owners (length tracks) (get_or jobs j job).number lines i) n.places.items t line (sym (chosen (j == (get_or jobs j job).number) (lines t) takes)) next) way;
 }
 
-pub jobs_marked_none : {S : Type 0} (layers : List (Result (Layer S) Stop)) (marks : List (Vec Bool)) → Marks (IsMarkedByJobs layers 0) marks marks
-jobs_marked_none layers marks = marks_none (IsMarkedByJobs layers 0) marks (λ t k (i, lt, more). omega arith)
+pub jobs_marked_none : {S : Type 0} (layers : List (Result (Layer S) Stop)) (marks : List (Vec Bool)) → Adds (IsMarkedByJobs layers 0) marks marks
+jobs_marked_none layers marks = adds_none (IsMarkedByJobs layers 0) marks (λ t k (i, lt, more). omega arith)
 
 -- the marks of one more job are added
 pub jobs_marked_next : {S : Type 0} (layers : List (Result (Layer S) Stop)) (at : ℕ) (one : Result (Layer S) Stop) (old mid new : List (Vec Bool)) → slice_get layers at ≡ Some one
-    → Marks (IsMarkedByJobs layers at) old mid → Marks (IsMarkedIn one) mid new → Marks (IsMarkedByJobs layers (at + 1)) old new
+    → Adds (IsMarkedByJobs layers at) old mid → Adds (IsMarkedIn one) mid new → Adds (IsMarkedByJobs layers (at + 1)) old new
 jobs_marked_next {S} layers at one old mid new is first second =
-    marks_both (IsMarkedByJobs layers at) (IsMarkedIn one) (IsMarkedByJobs layers (at + 1)) old mid new
+    adds_both (IsMarkedByJobs layers at) (IsMarkedIn one) (IsMarkedByJobs layers (at + 1)) old mid new
     (λ t k (i, lt, (made, there, marked)). elim (eqb_tells i at) [
       | inl (_, same) ↦ (
           let alike : made ≡ one = same_Some made one (sym there ∙ subst (λ (j : ℕ). slice_get layers j ≡ Some one) (sym same) is) in
@@ -104,6 +99,7 @@ jobs_marked_next {S} layers at one old mid new is first second =
     (λ t k (i, lt, more). (i, omega arith, more)) (λ t k marked. (at, omega arith, (one, is, marked))) first second
 
 -- what is known of a layer with the marks of those before it
-pub joined_ok : {S L : Type 0} (notes : S → L → ℕ → Type 0) (part : Part) (tracks : List (Vec L)) (layer : List (Node S)) (made new : Layer S) (old : List (Vec Bool)) → AreMarks tracks (IsNotedBehind notes (λ _. opening part tracks) layer (length layer)) made.noted.items
-    → Marks (IsMarked made.noted.items) old new.noted.items → Marks (IsNotedBehind notes (λ _. opening part tracks) layer (length layer)) old new.noted.items
-joined_ok notes part tracks layer made new old are marks = marks_joined notes part tracks layer (length layer) made.noted.items old new.noted.items are marks
+pub joined_ok : {S L : Type 0} (notes quiet : S → L → ℕ → Type 0) (part : Part) (tracks : List (Vec L)) (layer : List (Node S)) (made new : Layer S) (old : List (Vec Bool))
+    → AreMarks tracks (IsNotedBehind notes (λ _. opening part tracks) layer (length layer)) (IsQuietBehind quiet (λ _. opening part tracks) layer (length layer)) made.noted.items
+    → Adds (IsMarked made.noted.items) old new.noted.items → Marks (IsNotedBehind notes (λ _. opening part tracks) layer (length layer)) (IsQuietBehind quiet (λ _. opening part tracks) layer (length layer)) old new.noted.items
+joined_ok notes quiet part tracks layer made new old are marks = marks_joined notes quiet part tracks layer (length layer) made.noted.items old new.noted.items are marks

@@ -8,11 +8,11 @@ use Rattle.i3c_explore.specs.declared.stop.Stop.{Stop}
 use Rattle.i3c_explore.specs.declared.stop.Stop.TheVariants.{Breaks, Memory, Most}
 use Rattle.i3c_explore.specs.declared.turn.Turn.{Turn}
 use Rattle.i3c_explore.specs.declared.walk.Explored.{Explored}
-use Rattle.i3c_explore.specs.Blocks.{BreaksOn, IsBegun, IsShortestInPart, IsWhole, LeadsOn, PartIsCounted, block, turns}
+use Rattle.i3c_explore.specs.Blocks.{BreaksOn, IsBegun, IsShortestInPart, IsWhole, LeadsOn, PartIsCounted, turns}
 use Rattle.i3c_explore.specs.Counts.{IsShared}
 use Rattle.i3c_explore.specs.Layers.{AreFrom, Keeps}
 use Rattle.i3c_explore.specs.Nexts.{IsNextOf}
-use Rattle.i3c_explore.specs.Notes.{EndsIn, HasShape, IsTold, NotesOn}
+use Rattle.i3c_explore.specs.Notes.{AreNoted}
 use Rattle.i3c_explore.specs.Orders.{IsDetermined, IsExclusive, IsOrder, IsPrefix, Leads}
 use Rattle.i3c_explore.specs.Parts.{IsOfPart, Part, opening}
 use Rattle.i3c_explore.specs.Runs.{IsBlockRun, IsByLayers, IsCharged, IsWithin, runs_from}
@@ -65,7 +65,7 @@ ExploresBlock steps last breaks part tracks starts (Ok ends) = BlockLeadsTo step
 ExploresBlock steps last breaks part tracks starts (Err stop) = StopsIn steps last breaks part tracks starts stop
 
 -- a part's orders of all blocks lead from the start to what was found
-pub record AllLeadTo {S L : Type 0} (steps : S → L → ℕ → S → Type 0) (last : S → L → ℕ) (breaks notes : S → L → ℕ → Type 0) (part : Part) (blocks : List (Vec (Vec L))) (start : S) (limits : Limits) (found : Explored S) : Type 0 where
+pub record AllLeadTo {S L : Type 0} (steps : S → L → ℕ → S → Type 0) (last : S → L → ℕ) (breaks notes quiet : S → L → ℕ → Type 0) (part : Part) (blocks : List (Vec (Vec L))) (start : S) (limits : Limits) (found : Explored S) : Type 0 where
   -- every order of the part, and every beginning of one, leads on: no line breaks an expectation
   pub all : (course : List (List Turn)) → IsBegun blocks course → IsOfPart part blocks course → (end : S) × LeadsOn steps blocks start course end
   -- no order of the part breaks an expectation in another run, where steps are determined and what breaks leads nowhere
@@ -84,16 +84,12 @@ pub record AllLeadTo {S L : Type 0} (steps : S → L → ℕ → S → Type 0) (
   pub states : length found.ends.items ≤ limits.states
   -- no more lines were run than the limit of steps
   pub within : found.steps ≤ limits.steps
-  -- a line that is told as noted is the newest one of a course of the part, in which the machine notes it
-  pub noted : (b t k : ℕ) → IsTold found.noted.items b t k → (course : List (List Turn)) × IsBegun blocks course × IsOfPart part blocks course × EndsIn b t k course × NotesOn steps notes blocks start course
-  -- the newest line of each course of the part in which the machine notes it is told as noted, where steps are determined
-  pub every : IsDetermined steps → (course : List (List Turn)) → IsBegun blocks course → IsOfPart part blocks course → NotesOn steps notes blocks start course → (b t k : ℕ) → EndsIn b t k course → IsTold found.noted.items b t k
-  -- each line of each block is told as noted or not
-  pub shape : (length found.noted.items ≡ length blocks) × ((b : ℕ) → HasShape (block blocks b) (block found.noted.items b))
+  -- it is told of each line whether it is noted in some order of the part, or can run without a note in each
+  pub noted : AreNoted steps notes quiet part blocks start found.noted.items
 
 -- what an exploration answers: the ends to which all orders of the part lead; or an order of the part that breaks an expectation at its last line, where no shorter one does; or that a limit is exceeded; or that there was no memory
-abbrev pub Explores : {S L : Type 0} → (S → L → ℕ → S → Type 0) → (S → L → ℕ) → (S → L → ℕ → Type 0) → (S → L → ℕ → Type 0) → Part → List (Vec (Vec L)) → S → Limits → Result (Explored S) Stop → Type 0
-Explores steps last breaks notes part blocks start limits (Ok found) = AllLeadTo steps last breaks notes part blocks start limits found
-Explores steps last breaks notes part blocks start limits (Err (Breaks order)) = IsShortestInPart steps breaks part blocks start order.items
-Explores steps last breaks notes part blocks start limits (Err Most) = ExceedsLimits steps last part blocks start limits
-Explores steps last breaks notes part blocks start limits (Err Memory) = Unit {0}
+abbrev pub Explores : {S L : Type 0} → (S → L → ℕ → S → Type 0) → (S → L → ℕ) → (S → L → ℕ → Type 0) → (S → L → ℕ → Type 0) → (S → L → ℕ → Type 0) → Part → List (Vec (Vec L)) → S → Limits → Result (Explored S) Stop → Type 0
+Explores steps last breaks notes quiet part blocks start limits (Ok found) = AllLeadTo steps last breaks notes quiet part blocks start limits found
+Explores steps last breaks notes quiet part blocks start limits (Err (Breaks order)) = IsShortestInPart steps breaks part blocks start order.items
+Explores steps last breaks notes quiet part blocks start limits (Err Most) = ExceedsLimits steps last part blocks start limits
+Explores steps last breaks notes quiet part blocks start limits (Err Memory) = Unit {0}

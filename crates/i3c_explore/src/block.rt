@@ -3,7 +3,7 @@ ghost use Rattle.i3c_explore.specs.declared.node.Node.{Node as NodeValue};
 ghost use Rattle.i3c_explore.specs.Explorations.{ExploresBlock, MakesNext};
 ghost use Rattle.i3c_explore.specs.Layers.{AreRestarted, IsRestarted};
 ghost use Rattle.i3c_explore.specs.Nexts.{ArePlaced};
-ghost use Rattle.i3c_explore.specs.Notes.{BlockIsNoted, HasShape, IsNotedBehind, IsUnmarked, Marks};
+ghost use Rattle.i3c_explore.specs.Notes.{BlockIsNoted, HasShape, IsNotedBehind, IsQuietBehind, IsUnmarked, Marks};
 ghost use Rattle.i3c_explore.specs.Parts.{HasLine, opening as opening_of, whole};
 
 use crate::layer::{Handed, Layer};
@@ -124,11 +124,11 @@ pub(crate) fn explore_block<
     requires makes { (layer : _) (limits : _) (lines : _) (opening : _) (runner : _) (handed : _) (made : _) (after : _) → F.post next_layer.now layer limits lines opening runner handed made after
         → MakesNext M.steps M.last M.breaks lines.now opening layer.now limits made }
     requires marks { (layer : _) (limits : _) (lines : _) (opening : _) (runner : _) (handed : _) (made : _) (after : _) → F.post next_layer.now layer limits lines opening runner handed made after
-        → IfOk made (λ next. Marks (IsNotedBehind M.notes (λ _. opening_of opening lines.now) layer.now (length layer.now)) handed.noted.items next.noted.items) }
+        → IfOk made (λ next. Marks (IsNotedBehind M.notes (λ _. opening_of opening lines.now) layer.now (length layer.now)) (IsQuietBehind M.quiet (λ _. opening_of opening lines.now) layer.now (length layer.now)) handed.noted.items next.noted.items) }
     requires begins { (part ≡ whole) ⊎ HasLine tracks.now }
     requires narrow { length starts.nodes.items ≤ starts.limits.states }
     ensures explored { ExploresBlock M.steps M.last M.breaks part tracks.now starts result }
-    ensures noted { IfOk result (λ layer. BlockIsNoted M.steps M.notes part tracks.now starts.nodes.items layer.noted.items) }
+    ensures noted { IfOk result (λ layer. BlockIsNoted M.steps M.notes M.quiet part tracks.now starts.nodes.items layer.noted.items) }
 {
     let mut layer = begun(alloc, starts, tracks)?;
     for ran in 0..u64::MAX {

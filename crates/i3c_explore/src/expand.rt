@@ -3,7 +3,7 @@ ghost use Rattle.i3c_explore.specs.declared.layer.Layer.{Layer as LayerValue};
 ghost use Rattle.i3c_explore.specs.Explorations.{Grows, MakesBy, MakesNext};
 ghost use Rattle.i3c_explore.specs.Layers.{Has, IsExpanded, IsNextAt, IsTracked, advanced};
 ghost use Rattle.i3c_explore.specs.Nexts.{ArePlaced};
-ghost use Rattle.i3c_explore.specs.Notes.{IsNoted, IsNotedBehind, Marks};
+ghost use Rattle.i3c_explore.specs.Notes.{IsNoted, IsNotedBehind, IsQuiet, IsQuietBehind, Marks};
 ghost use Rattle.i3c_explore.specs.Orders.{track as lines_of};
 ghost use Rattle.i3c_explore.specs.Owners.{own};
 ghost use Rattle.i3c_explore.specs.Parts.{opening};
@@ -39,7 +39,7 @@ fn run_line<M: Machine>(
     requires again { IsTrue again → M.near runner.old node.now.state }
     ensures leads { OnOk result (M.steps node.now.state line.now turn.way (M.shown runner.new)) }
     ensures near { OnOk result (M.near runner.new node.now.state) }
-    ensures noted { OnOk result (Marks (λ t k. (t ≡ turn.track) × (slice_index node.now.places.items turn.track ≡ k) × M.notes node.now.state line.now turn.way) noted.old.items noted.new.items) }
+    ensures noted { OnOk result (Marks (λ t k. (t ≡ turn.track) × (slice_index node.now.places.items turn.track ≡ k) × M.notes node.now.state line.now turn.way) (λ t k. t ≡ turn.track → slice_index node.now.places.items turn.track ≡ k → M.quiet node.now.state line.now turn.way) noted.old.items noted.new.items) }
     ensures stopped { IfErr result (λ stop. (lines : ℕ → List M.Line) (next : LayerValue M) → IsNextAt lines node.now.places.items turn.track line.now → StopsAt M.breaks lines node.now next 1 stop) }
 {
     match node.state.run(alloc, line, turn.way, again, runner)? {
@@ -74,7 +74,7 @@ fn run<M: Machine>(
     ensures grown { OnOk result ((lines : ℕ → List M.Line) → IsNextAt lines node.now.places.items turn.track line.now → Grows M.steps lines tracks.now node.now next.old next.new (by_turn turn) 1) }
     ensures ran { OnOk result ((new : M) × M.steps node.now.state line.now turn.way new × Has next.new.nodes.items (advanced turn.track node.now.places.items) new) }
     ensures near { OnOk result (M.near runner.new node.now.state) }
-    ensures noted { OnOk result (Marks (λ t k. (t ≡ turn.track) × (slice_index node.now.places.items turn.track ≡ k) × M.notes node.now.state line.now turn.way) next.old.noted.items next.new.noted.items) }
+    ensures noted { OnOk result (Marks (λ t k. (t ≡ turn.track) × (slice_index node.now.places.items turn.track ≡ k) × M.notes node.now.state line.now turn.way) (λ t k. t ≡ turn.track → slice_index node.now.places.items turn.track ≡ k → M.quiet node.now.state line.now turn.way) next.old.noted.items next.new.noted.items) }
     ensures stopped { IfErr result (λ stop. (lines : ℕ → List M.Line) → IsNextAt lines node.now.places.items turn.track line.now → StopsAt M.breaks lines node.now next.old 1 stop) }
 {
     if !next.limits.step() {
@@ -119,7 +119,7 @@ fn run_track<M: Machine>(
     ensures grown { OnOk result (Grows M.steps (opening part tracks.now) tracks.now node.now next.old next.new (by_track (opening part tracks.now) node.now.places.items track) (ways_of M.last node.now.state (slice_get (opening part tracks.now track) (slice_index node.now.places.items track)))) }
     ensures tracked { OnOk result (IsTracked M.steps (opening part tracks.now) track node.now next.new.nodes.items) }
     ensures near { IfOk result (λ near. IsTrue near → M.near runner.new node.now.state) }
-    ensures noted { OnOk result (Marks (λ t k. (t ≡ track) × IsNoted M.notes (opening part tracks.now) node.now t k) next.old.noted.items next.new.noted.items) }
+    ensures noted { OnOk result (Marks (λ t k. (t ≡ track) × IsNoted M.notes (opening part tracks.now) node.now t k) (λ t k. t ≡ track → IsQuiet M.quiet (opening part tracks.now) node.now t k) next.old.noted.items next.new.noted.items) }
     ensures stopped { IfErr result (StopsAt M.breaks (opening part tracks.now) node.now next.old (ways_of M.last node.now.state (slice_get (opening part tracks.now track) (slice_index node.now.places.items track)))) }
 {
     let Some(line) = next_line(tracks, part, track, node.places[track]) else {
@@ -159,7 +159,7 @@ fn take_turn<M: Machine>(
     ensures grown { OnOk result (Grows M.steps (opening part tracks.now) tracks.now node.now next.old next.new (by_track (own owners.now (length tracks.now) job (opening part tracks.now) index) node.now.places.items track) (ways_of M.last node.now.state (slice_get (own owners.now (length tracks.now) job (opening part tracks.now) index track) (slice_index node.now.places.items track)))) }
     ensures tracked { OnOk result (IsTracked M.steps (own owners.now (length tracks.now) job (opening part tracks.now) index) track node.now next.new.nodes.items) }
     ensures near { IfOk result (λ near. IsTrue near → M.near runner.new node.now.state) }
-    ensures noted { OnOk result (Marks (λ t k. (t ≡ track) × IsNoted M.notes (own owners.now (length tracks.now) job (opening part tracks.now) index) node.now t k) next.old.noted.items next.new.noted.items) }
+    ensures noted { OnOk result (Marks (λ t k. (t ≡ track) × IsNoted M.notes (own owners.now (length tracks.now) job (opening part tracks.now) index) node.now t k) (λ t k. t ≡ track → IsQuiet M.quiet (own owners.now (length tracks.now) job (opening part tracks.now) index) node.now t k) next.old.noted.items next.new.noted.items) }
     ensures stopped { IfErr result (StopsAt M.breaks (opening part tracks.now) node.now next.old (ways_of M.last node.now.state (slice_get (own owners.now (length tracks.now) job (opening part tracks.now) index track) (slice_index node.now.places.items track)))) }
 {
     if !owners.takes(job, index, track, tracks.len()) {
@@ -188,7 +188,7 @@ fn expand<M: Machine>(
     requires sized { length node.now.places.items ≡ length tracks.now }
     ensures grown { OnOk result (Grows M.steps (opening part tracks.now) tracks.now node.now next.old next.new (by_tracks (own owners.now (length tracks.now) job (opening part tracks.now) index) node.now.places.items (length tracks.now)) (runs_of M.last (own owners.now (length tracks.now) job (opening part tracks.now) index) node.now (length tracks.now))) }
     ensures expanded { OnOk result (IsExpanded M.steps (own owners.now (length tracks.now) job (opening part tracks.now) index) (length tracks.now) node.now next.new.nodes.items) }
-    ensures noted { OnOk result (Marks (IsNoted M.notes (own owners.now (length tracks.now) job (opening part tracks.now) index) node.now) next.old.noted.items next.new.noted.items) }
+    ensures noted { OnOk result (Marks (IsNoted M.notes (own owners.now (length tracks.now) job (opening part tracks.now) index) node.now) (IsQuiet M.quiet (own owners.now (length tracks.now) job (opening part tracks.now) index) node.now) next.old.noted.items next.new.noted.items) }
     ensures stopped { IfErr result (StopsAt M.breaks (opening part tracks.now) node.now next.old (runs_of M.last (own owners.now (length tracks.now) job (opening part tracks.now) index) node.now (length tracks.now))) }
 {
     let mut again = false;
@@ -220,7 +220,7 @@ pub(crate) fn expand_turns<M: Machine, W: Watch>(
 ) -> Result<Layer<M>, Stop>
     requires { ArePlaced layer.now tracks.now }
     ensures made { MakesBy M.steps M.last M.breaks tracks.now part (own owners.now (length tracks.now) job (opening part tracks.now)) layer.now limits result }
-    ensures noted { IfOk result (λ next. Marks (IsNotedBehind M.notes (own owners.now (length tracks.now) job (opening part tracks.now)) layer.now (length layer.now)) noted.items next.noted.items) }
+    ensures noted { IfOk result (λ next. Marks (IsNotedBehind M.notes (own owners.now (length tracks.now) job (opening part tracks.now)) layer.now (length layer.now)) (IsQuietBehind M.quiet (own owners.now (length tracks.now) job (opening part tracks.now)) layer.now (length layer.now)) noted.items next.noted.items) }
 {
     let mut next = Layer::new(alloc, limits);
     // about as many as the layer has, and no more than there were in an earlier one
@@ -262,7 +262,7 @@ pub(crate) fn expand_all<M: Machine, W: Watch>(
 ) -> Result<Layer<M>, Stop>
     requires { ArePlaced layer.now tracks.now }
     ensures made { MakesNext M.steps M.last M.breaks tracks.now part layer.now limits result }
-    ensures noted { IfOk result (λ next. Marks (IsNotedBehind M.notes (λ _. opening part tracks.now) layer.now (length layer.now)) noted.items next.noted.items) }
+    ensures noted { IfOk result (λ next. Marks (IsNotedBehind M.notes (λ _. opening part tracks.now) layer.now (length layer.now)) (IsQuietBehind M.quiet (λ _. opening part tracks.now) layer.now (length layer.now)) noted.items next.noted.items) }
 {
     let owners = Owners::none(alloc);
     expand_turns(

@@ -1,7 +1,7 @@
 ghost use Rattle.std.specs.Prelude.{◌≡◌, ◌<◌, IfOk, length};
 ghost use Rattle.i3c_explore.specs.Explorations.{IsMadeBy, MakesNext};
 ghost use Rattle.i3c_explore.specs.Nexts.{ArePlaced};
-ghost use Rattle.i3c_explore.specs.Notes.{AreMarks, IsMarked, IsNotedBehind, Marks};
+ghost use Rattle.i3c_explore.specs.Notes.{Adds, AreMarks, IsMarked, IsNotedBehind, IsQuietBehind, Marks};
 ghost use Rattle.i3c_explore.specs.Parts.{opening};
 ghost use Rattle.i3c_explore.specs.Jobs.{AreJobs, IsMarkedByJobs, IsMarkedIn};
 ghost use Rattle.i3c_explore.specs.Owners.{own};
@@ -87,7 +87,7 @@ fn expand_job<M: Machine>(
 ) -> Result<Layer<M>, Stop>
     requires { ArePlaced layer.now tracks.now }
     ensures made { IfOk result (IsMadeBy M.steps M.last tracks.now part (own owners.now (length tracks.now) job.number (opening part tracks.now)) layer.now limits) }
-    ensures noted { IfOk result (λ next. AreMarks tracks.now (IsNotedBehind M.notes (own owners.now (length tracks.now) job.number (opening part tracks.now)) layer.now (length layer.now)) next.noted.items) }
+    ensures noted { IfOk result (λ next. AreMarks tracks.now (IsNotedBehind M.notes (own owners.now (length tracks.now) job.number (opening part tracks.now)) layer.now (length layer.now)) (IsQuietBehind M.quiet (own owners.now (length tracks.now) job.number (opening part tracks.now)) layer.now (length layer.now)) next.noted.items) }
 {
     let Job {
         number,
@@ -138,7 +138,7 @@ fn marked_by_jobs<M: Machine>(
     tracks: &[Vec<M::Line>],
     layers: &[Result<Layer<M>, Stop>],
 ) -> Result<Vec<Vec<bool>>, AllocError>
-    ensures { IfOk result (λ noted. AreMarks tracks.now (IsMarkedByJobs layers.now (length layers.now)) noted.items) }
+    ensures { IfOk result (λ noted. AreMarks tracks.now (IsMarkedByJobs layers.now (length layers.now)) (λ t k. IsMarkedByJobs layers.now (length layers.now) t k → ⊥) noted.items) }
 {
     let mut noted = unmarked(alloc, tracks)?;
     for job in 0..layers.len() {
@@ -149,7 +149,7 @@ fn marked_by_jobs<M: Machine>(
 
 /// Marks the lines that a job marked.
 fn add_job<M: Machine>(noted: &mut Vec<Vec<bool>>, made: &Result<Layer<M>, Stop>)
-    ensures { Marks (IsMarkedIn made.now) noted.old.items noted.new.items }
+    ensures { Adds (IsMarkedIn made.now) noted.old.items noted.new.items }
 {
     if let Ok(layer) = made {
         add(noted, &layer.noted);
@@ -175,7 +175,7 @@ where
     requires some { 0 < jobs }
     requires sized { ArePlaced layer.now tracks.now }
     ensures made { IfOk result (IsMadeBy M.steps M.last tracks.now part (λ _. opening part tracks.now) layer.now limits) }
-    ensures noted { IfOk result (λ next. AreMarks tracks.now (IsNotedBehind M.notes (λ _. opening part tracks.now) layer.now (length layer.now)) next.noted.items) }
+    ensures noted { IfOk result (λ next. AreMarks tracks.now (IsNotedBehind M.notes (λ _. opening part tracks.now) layer.now (length layer.now)) (IsQuietBehind M.quiet (λ _. opening part tracks.now) layer.now (length layer.now)) next.noted.items) }
 {
     ask_for_room(alloc, MOST);
     let owners = owners_of(alloc, layer, codes, tracks, part, jobs)?;
@@ -184,7 +184,7 @@ where
     let expand = |job: Job<M>| -> Result<Layer<M>, Stop>
         requires { ArePlaced layer.now tracks.now }
         ensures made { IfOk result (IsMadeBy M.steps M.last tracks.entry.now part (own owners (length tracks.entry.now) job.number (opening part tracks.entry.now)) layer.entry.now limits) }
-        ensures noted { IfOk result (λ next. AreMarks tracks.entry.now (IsNotedBehind M.notes (own owners (length tracks.entry.now) job.number (opening part tracks.entry.now)) layer.entry.now (length layer.entry.now)) next.noted.items) }
+        ensures noted { IfOk result (λ next. AreMarks tracks.entry.now (IsNotedBehind M.notes (own owners (length tracks.entry.now) job.number (opening part tracks.entry.now)) layer.entry.now (length layer.entry.now)) (IsQuietBehind M.quiet (own owners (length tracks.entry.now) job.number (opening part tracks.entry.now)) layer.entry.now (length layer.entry.now)) next.noted.items) }
     { expand_job(alloc, layer, &owners, job, limits, tracks, part) };
     let layers = map_vec(rt, all, &expand)?;
     let noted = marked_by_jobs(alloc, tracks, &layers)?;
@@ -201,7 +201,7 @@ where
 fn with_marks<M: Machine>(made: Layer<M>, before: Vec<Vec<bool>>) -> Layer<M>
     ensures nodes { result.nodes ≡ made.nodes }
     ensures limits { result.limits ≡ made.limits }
-    ensures noted { Marks (IsMarked made.noted.items) before.items result.noted.items }
+    ensures noted { Adds (IsMarked made.noted.items) before.items result.noted.items }
 {
     let mut next = made;
     let mut noted = before;
@@ -229,7 +229,7 @@ where
     M::Runner: Send,
     requires { ArePlaced layer.now tracks.now }
     ensures made { MakesNext M.steps M.last M.breaks tracks.now part layer.now limits result }
-    ensures noted { IfOk result (λ next. Marks (IsNotedBehind M.notes (λ _. opening part tracks.now) layer.now (length layer.now)) handed.noted.items next.noted.items) }
+    ensures noted { IfOk result (λ next. Marks (IsNotedBehind M.notes (λ _. opening part tracks.now) layer.now (length layer.now)) (IsQuietBehind M.quiet (λ _. opening part tracks.now) layer.now (length layer.now)) handed.noted.items next.noted.items) }
 {
     let Handed {
         mut spares,

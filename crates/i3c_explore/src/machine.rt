@@ -24,19 +24,22 @@ pub trait Machine: Sized + Drop {
     /// A line breaks an expectation, in a way.
     ghost breaks: { Self → Self.Line → ℕ → Type 0 };
 
-    /// There is something to note of a line, in a way.
+    /// A line can be noted, in a way.
     ghost notes: { Self → Self.Line → ℕ → Type 0 };
+
+    /// A line can run without a note, and break nothing, in a way.
+    ghost quiet: { Self → Self.Line → ℕ → Type 0 };
 
     /// What a runner remembers of its last line is true of this state, from which that line was run. A machine whose
     /// runners remember nothing has ⊤.
     ghost near: { Self.Runner → Self → Type 0 };
 
     /// The last way to try, below 4,294,967,296. A later way leads to whatever some way up to this one leads to, and is
-    /// noted only if that one is.
+    /// quiet if that one is.
     fn last_way(&self, line: &Self::Line) -> usize
         ensures way { result ≡ last self.now line.now }
         ensures small { result < 2 ^ 32 }
-        ensures last { (way : ℕ) → (tried : ℕ) × (tried ≤ result) × ((new : Self) → steps self.now line.now tried new → steps self.now line.now way new) × (notes self.now line.now way → notes self.now line.now tried) };
+        ensures last { (way : ℕ) → (tried : ℕ) × (tried ≤ result) × ((new : Self) → steps self.now line.now tried new → steps self.now line.now way new) × (quiet self.now line.now tried → quiet self.now line.now way) };
 
     /// A runner, in this state.
     fn runner(&self, alloc: Global) -> Result<Self::Runner, AllocError>
@@ -56,7 +59,7 @@ pub trait Machine: Sized + Drop {
         ensures leads { IfOk result (λ ran. (ran ≡ RanValue.Broken → ⊥) → steps self.now line.now way (shown runner.new)) }
         ensures broken { IfOk result (λ ran. ran ≡ RanValue.Broken → breaks self.now line.now way) }
         ensures noted { IfOk result (λ ran. ran ≡ RanValue.Noted → notes self.now line.now way) }
-        ensures plain { IfOk result (λ ran. ran ≡ RanValue.Held → notes self.now line.now way → ⊥) }
+        ensures quiet { IfOk result (λ ran. ran ≡ RanValue.Held → quiet self.now line.now way) }
         ensures near { OnOk result (near runner.new self.now) };
 
     /// The state that a runner is in. It takes the room of a spare one, if there is one.

@@ -1,6 +1,6 @@
 ghost use Rattle.std.specs.Prelude.{◌≡◌, ℕ, IfOk, Some, length, slice_get, true};
 ghost use Rattle.i3c_explore.specs.Blocks.{block};
-ghost use Rattle.i3c_explore.specs.Notes.{HasShape, IsMarked, IsUnmarked, Marks};
+ghost use Rattle.i3c_explore.specs.Notes.{Adds, HasShape, IsMarked, IsUnmarked};
 
 use std::alloc::{AllocError, Global};
 
@@ -42,7 +42,7 @@ pub(crate) fn all_unmarked<L>(
 
 /// Marks a line of a block, if it has a mark.
 pub(crate) fn mark(noted: &mut Vec<Vec<bool>>, track: usize, line: usize)
-    ensures { Marks (λ t k. (t ≡ track) × (line ≡ k)) noted.old.items noted.new.items }
+    ensures { Adds (λ t k. (t ≡ track) × (line ≡ k)) noted.old.items noted.new.items }
 {
     if track >= noted.len() {
         return;
@@ -55,7 +55,7 @@ pub(crate) fn mark(noted: &mut Vec<Vec<bool>>, track: usize, line: usize)
 
 /// Marks the lines of a track that are marked in other marks.
 fn add_track(noted: &mut Vec<Vec<bool>>, track: usize, more: &Vec<bool>)
-    ensures { Marks (λ t k. (t ≡ track) × (slice_get more.now.items k ≡ Some true)) noted.old.items noted.new.items }
+    ensures { Adds (λ t k. (t ≡ track) × (slice_get more.now.items k ≡ Some true)) noted.old.items noted.new.items }
 {
     for line in 0..more.len() {
         if more[line] {
@@ -66,7 +66,7 @@ fn add_track(noted: &mut Vec<Vec<bool>>, track: usize, more: &Vec<bool>)
 
 /// Marks the lines that are marked in other marks.
 pub(crate) fn add(noted: &mut Vec<Vec<bool>>, more: &Vec<Vec<bool>>)
-    ensures { Marks (IsMarked more.now.items) noted.old.items noted.new.items }
+    ensures { Adds (IsMarked more.now.items) noted.old.items noted.new.items }
 {
     for track in 0..more.len() {
         add_track(noted, track, &more[track]);

@@ -4,7 +4,7 @@ ghost use Rattle.i3c_explore.specs.Counts.{IsShared};
 ghost use Rattle.i3c_explore.specs.Explorations.{Explores, MakesNext};
 ghost use Rattle.i3c_explore.specs.Layers.{IsAlone};
 ghost use Rattle.i3c_explore.specs.Nexts.{ArePlaced};
-ghost use Rattle.i3c_explore.specs.Notes.{HasShape, IsNotedBehind, IsUnmarked, Marks};
+ghost use Rattle.i3c_explore.specs.Notes.{HasShape, IsNotedBehind, IsQuietBehind, IsUnmarked, Marks};
 ghost use Rattle.i3c_explore.specs.Numbers.{IsNumber};
 ghost use Rattle.i3c_explore.specs.Parts.{opening as opening_of, whole};
 ghost use Rattle.i3c_explore.specs.Shares.{all_below};
@@ -104,7 +104,7 @@ pub fn explore<M: Machine>(
     limits: Limits,
 ) -> Result<Explored<M>, Stop>
     // of the whole, which has every order (`parts_share_all`)
-    ensures { Explores M.steps M.last M.breaks M.notes whole blocks.now start limits result }
+    ensures { Explores M.steps M.last M.breaks M.notes M.quiet whole blocks.now start limits result }
 {
     explore_part(alloc, start, blocks, limits, Part::whole())
 }
@@ -121,7 +121,7 @@ pub fn explore_part<M: Machine>(
     limits: Limits,
     part: Part,
 ) -> Result<Explored<M>, Stop>
-    ensures { Explores M.steps M.last M.breaks M.notes part blocks.now start limits result }
+    ensures { Explores M.steps M.last M.breaks M.notes M.quiet part blocks.now start limits result }
 {
     let view = View {
         watch: &Unwatched,
@@ -133,7 +133,7 @@ pub fn explore_part<M: Machine>(
     >], opening: Part, runner: &mut M::Runner, handed: Handed<M>| -> Result<Layer<M>, Stop>
         requires { ArePlaced layer.now tracks.now }
         ensures made { MakesNext M.steps M.last M.breaks tracks.now opening layer.now limits result }
-        ensures noted { IfOk result (λ next. Marks (IsNotedBehind M.notes (λ _. opening_of opening tracks.now) layer.now (length layer.now)) handed.noted.items next.noted.items) }
+        ensures noted { IfOk result (λ next. Marks (IsNotedBehind M.notes (λ _. opening_of opening tracks.now) layer.now (length layer.now)) (IsQuietBehind M.quiet (λ _. opening_of opening tracks.now) layer.now (length layer.now)) handed.noted.items next.noted.items) }
     {
         let Handed {
             spares,
@@ -166,7 +166,7 @@ pub fn explore_on<R: Threads + Sync, M: Machine + Send + Sync, W: Watch>(
 where
     M::Line: Sync,
     M::Runner: Send,
-    ensures { Explores M.steps M.last M.breaks M.notes part blocks.now start limits result }
+    ensures { Explores M.steps M.last M.breaks M.notes M.quiet part blocks.now start limits result }
 {
     let view = View {
         watch,
@@ -178,7 +178,7 @@ where
     >], opening: Part, runner: &mut M::Runner, handed: Handed<M>| -> Result<Layer<M>, Stop>
         requires { ArePlaced layer.now tracks.now }
         ensures made { MakesNext M.steps M.last M.breaks tracks.now opening layer.now limits result }
-        ensures noted { IfOk result (λ next. Marks (IsNotedBehind M.notes (λ _. opening_of opening tracks.now) layer.now (length layer.now)) handed.noted.items next.noted.items) }
+        ensures noted { IfOk result (λ next. Marks (IsNotedBehind M.notes (λ _. opening_of opening tracks.now) layer.now (length layer.now)) (IsQuietBehind M.quiet (λ _. opening_of opening tracks.now) layer.now (length layer.now)) handed.noted.items next.noted.items) }
     {
         next_by_jobs(
             rt, alloc, jobs, layer, limits, tracks, opening, runner, handed, &view,
@@ -212,8 +212,8 @@ fn explore_by<
     requires makes { (layer : _) (limits : _) (lines : _) (opening : _) (runner : _) (handed : _) (made : _) (after : _) → F.post next_layer.now layer limits lines opening runner handed made after
         → MakesNext M.steps M.last M.breaks lines.now opening layer.now limits made }
     requires marks { (layer : _) (limits : _) (lines : _) (opening : _) (runner : _) (handed : _) (made : _) (after : _) → F.post next_layer.now layer limits lines opening runner handed made after
-        → IfOk made (λ next. Marks (IsNotedBehind M.notes (λ _. opening_of opening lines.now) layer.now (length layer.now)) handed.noted.items next.noted.items) }
-    ensures { Explores M.steps M.last M.breaks M.notes part blocks.now start limits result }
+        → IfOk made (λ next. Marks (IsNotedBehind M.notes (λ _. opening_of opening lines.now) layer.now (length layer.now)) (IsQuietBehind M.quiet (λ _. opening_of opening lines.now) layer.now (length layer.now)) handed.noted.items next.noted.items) }
+    ensures { Explores M.steps M.last M.breaks M.notes M.quiet part blocks.now start limits result }
 {
     let split = fork(blocks);
     if !part.has_orders(split, blocks.len()) {

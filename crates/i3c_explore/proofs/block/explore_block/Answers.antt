@@ -18,7 +18,7 @@ loop-ran-init g c =
     record {
       underway = subst (λ (left : Limits). IsUnderway steps last c.args.part tracks c.args.starts 0 layer.nodes.items left) (sym made.limits)
           (underway_first steps last c.args.part tracks c.args.starts layer.nodes.items made.restarted made.length c.requires.narrow);
-      noted = noted_first steps g.M.Machine.notes c.args.part tracks c.args.starts.nodes.items layer.noted.items made.shape made.unmarked;
+      noted = noted_first steps g.M.Machine.notes g.M.Machine.quiet c.args.part tracks c.args.starts.nodes.items layer.noted.items made.shape made.unmarked;
     }
 
 pub next_layer-requires : goal.next_layer-requires
@@ -48,13 +48,13 @@ loop-ran-preserved g c =
     let next = c.in-Ok.next in let new = c.behind-layer.result in
     let made = makes_as steps last breaks tracks c.only_if-opening.result (part_at part count) c.deref.result.now layer.nodes.items c.handed_on-handed.new.layer.limits layer.limits (Ok next) c.only_if-opening.ensures
     (c.deref.ensures.value ∙ ap (λ (v : Vec (Node g.row.M.Denot)). v.items) c.handed_on-handed.ensures.nodes) c.handed_on-handed.ensures.limits (c.requires.makes _ _ _ _ _ _ _ _ c.in-Ok.ensures) in
-    let marks = marks_of g.M.Machine.notes tracks c.only_if-opening.result (part_at part count) c.deref.result.now layer.nodes.items c.handed_on-handed.result.noted.items next.noted.items c.only_if-opening.ensures
+    let marks = marks_of g.M.Machine.notes g.M.Machine.quiet tracks c.only_if-opening.result (part_at part count) c.deref.result.now layer.nodes.items c.handed_on-handed.result.noted.items next.noted.items c.only_if-opening.ensures
     (c.deref.ensures.value ∙ ap (λ (v : Vec (Node g.row.M.Denot)). v.items) c.handed_on-handed.ensures.nodes) (c.requires.marks _ _ _ _ _ _ _ _ c.in-Ok.ensures) in
     record {
       underway = subst (λ (left : Limits). IsUnderway steps last part tracks c.args.starts (count + 1) new.nodes.items left) (sym c.behind-layer.ensures.limits)
           (subst (λ (v : Vec (Node g.row.M.Denot)). IsUnderway steps last part tracks c.args.starts (count + 1) v.items next.limits) (sym c.behind-layer.ensures.nodes)
           (underway_next steps last part tracks c.args.starts count layer.nodes.items layer.limits next c.loop-ran.invariant.underway made c.requires.begins (λ over. let is = c.is_over.ensures.1 over in cc)));
-      noted = noted_on steps last g.M.Machine.notes part tracks c.args.starts count layer.nodes.items layer.limits layer.noted c.handed_on-handed.result.noted next.noted new.noted c.loop-ran.invariant.underway
+      noted = noted_on steps last g.M.Machine.notes g.M.Machine.quiet part tracks c.args.starts count layer.nodes.items layer.limits layer.noted c.handed_on-handed.result.noted next.noted new.noted c.loop-ran.invariant.underway
           c.handed_on-handed.ensures.noted c.behind-layer.ensures.noted marks c.loop-ran.invariant.noted;
     }
 
@@ -67,7 +67,7 @@ returns-then-is_over-clause-noted g c =
     let next = c.in-Ok.next in
     let made = makes_as steps last breaks tracks c.only_if-opening.result (part_at part count) c.deref.result.now layer.nodes.items c.handed_on-handed.new.layer.limits layer.limits (Ok next) c.only_if-opening.ensures
     (c.deref.ensures.value ∙ ap (λ (v : Vec (Node g.row.M.Denot)). v.items) c.handed_on-handed.ensures.nodes) c.handed_on-handed.ensures.limits (c.requires.makes _ _ _ _ _ _ _ _ c.in-Ok.ensures) in
-    let marks = marks_of g.M.Machine.notes tracks c.only_if-opening.result (part_at part count) c.deref.result.now layer.nodes.items c.handed_on-handed.result.noted.items next.noted.items c.only_if-opening.ensures
+    let marks = marks_of g.M.Machine.notes g.M.Machine.quiet tracks c.only_if-opening.result (part_at part count) c.deref.result.now layer.nodes.items c.handed_on-handed.result.noted.items next.noted.items c.only_if-opening.ensures
     (c.deref.ensures.value ∙ ap (λ (v : Vec (Node g.row.M.Denot)). v.items) c.handed_on-handed.ensures.nodes) (c.requires.marks _ _ _ _ _ _ _ _ c.in-Ok.ensures) in
     let (empty, _) = c.is_over.ensures.0 c.if-is_over.true in
-    noted_end steps last g.M.Machine.notes part tracks c.args.starts count layer.nodes.items layer.limits next layer.noted c.handed_on-handed.result.noted c.loop-ran.invariant.underway made empty c.handed_on-handed.ensures.noted marks c.loop-ran.invariant.noted
+    noted_end steps last g.M.Machine.notes g.M.Machine.quiet part tracks c.args.starts count layer.nodes.items layer.limits next layer.noted c.handed_on-handed.result.noted c.loop-ran.invariant.underway made empty c.handed_on-handed.ensures.noted marks c.loop-ran.invariant.noted

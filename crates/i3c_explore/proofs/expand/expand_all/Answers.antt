@@ -15,5 +15,5 @@ returns-clause-made g c =
 pub returns-clause-noted : goal.returns-clause-noted
 returns-clause-noted g c =
     let tracks = c.args.tracks.now in let lines = opening c.args.part tracks in let owners = c.none-owners.result in
-    alike_ok g.M.Machine.notes (own owners (length tracks) 0 lines) (λ _. lines) c.args.layer.now (length c.args.layer.now) c.args.noted.items c.expand_turns.result
+    alike_ok g.M.Machine.notes g.M.Machine.quiet (own owners (length tracks) 0 lines) (λ _. lines) c.args.layer.now (length c.args.layer.now) c.args.noted.items c.expand_turns.result
     (own_alone owners (length tracks) lines c.none-owners.ensures) c.expand_turns.ensures.noted

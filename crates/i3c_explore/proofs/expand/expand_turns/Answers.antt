@@ -4,7 +4,7 @@ use Rattle.std.proofs.lemmas.Option.{slice_get_read}
 use Rattle.i3c_explore.specs.declared.limits.Limits.{Limits}
 use Rattle.i3c_explore.specs.Explorations.{MakesBy}
 use Rattle.i3c_explore.specs.Nexts.{IsNextOf}
-use Rattle.i3c_explore.specs.Notes.{IsNotedBehind, Marks}
+use Rattle.i3c_explore.specs.Notes.{IsNotedBehind, IsQuietBehind, Marks}
 use Rattle.i3c_explore.specs.Owners.{own}
 use Rattle.i3c_explore.specs.Parts.{opening}
 use Rattle.i3c_explore.specs.Runs.{IsWithin, runs_from, runs_of}
@@ -25,7 +25,7 @@ loop-index-init g c =
     let none = ap length (c.in_ok-make_room.ensures.nodes ∙ c.new-next.ensures.nodes) in let limits = c.in_ok-make_room.ensures.limits ∙ c.new-next.ensures.limits in record {
       follows = next_none g.M.Machine.steps tracks lines (own c.args.owners.now (length tracks) c.args.job lines) c.args.layer.now 0 c.make_room.new.self.nodes.items none;
       within = record { steps = let e = ap (λ (l : Limits). l.steps) limits in omega arith; states = ap (λ (l : Limits). l.states) limits; narrow = omega arith };
-      noted = nodes_none g.M.Machine.notes (own c.args.owners.now (length tracks) c.args.job lines) c.args.layer.now c.args.noted.items;
+      noted = nodes_none g.M.Machine.notes g.M.Machine.quiet (own c.args.owners.now (length tracks) c.args.job lines) c.args.layer.now c.args.noted.items;
       few = omega arith;
     }
 
@@ -45,7 +45,7 @@ loop-index-preserved g c =
         counted = shares_more steps tracks ran count layer 0 index node old new (omega arith) lt c.index-layer-index.is was.counted done.grown.counted;
       };
       within = subst (λ (k : ℕ). IsWithin c.args.limits c.expand.new.next k) (sym more) (within_more c.args.limits c.loop-index.next c.expand.new.next _ _ c.loop-index.invariant.within done.grown.charged);
-      noted = nodes_next g.M.Machine.notes ran layer index node c.args.noted.items c.loop-index.next.noted.items c.expand.new.next.noted.items (slice_get_read layer (length layer) index node refl lt c.index-layer-index.is) c.loop-index.invariant.noted done.noted;
+      noted = nodes_next g.M.Machine.notes g.M.Machine.quiet ran layer index node c.args.noted.items c.loop-index.next.noted.items c.expand.new.next.noted.items (slice_get_read layer (length layer) index node refl lt c.index-layer-index.is) c.loop-index.invariant.noted done.noted;
       few = let a = c.loop-index.invariant.few in let b = done.grown.few in omega arith;
     }
 
@@ -75,7 +75,7 @@ pub returns-clause-noted : goal.returns-clause-noted
 returns-clause-noted g c =
     let tracks = c.args.tracks.now in let ran = own c.args.owners.now (length tracks) c.args.job (opening c.args.part tracks) in let layer = c.args.layer.now in
     let all = at_end c.loop-index.index (length layer) c.loop-index.auto.index-end c.loop-index-test.false in
-    subst (λ (k : ℕ). Marks (IsNotedBehind g.M.Machine.notes ran layer k) c.args.noted.items c.loop-index.next.noted.items) all c.loop-index.invariant.noted
+    subst (λ (k : ℕ). Marks (IsNotedBehind g.M.Machine.notes ran layer k) (IsQuietBehind g.M.Machine.quiet ran layer k) c.args.noted.items c.loop-index.next.noted.items) all c.loop-index.invariant.noted
 
 pub returns-in_err-make_room-clause-made : goal.returns-in_err-make_room-clause-made
 returns-in_err-make_room-clause-made g c =

@@ -22,7 +22,7 @@ pub returns-in-Ok-clause-noted : goal.returns-in-Ok-clause-noted
 returns-in-Ok-clause-noted g c =
     let tracks = c.args.tracks.now in let lines = opening c.args.part tracks in let owners = c.args.owners.now in let track = c.args.track in
     let is : takes owners (length tracks) c.args.job c.args.index track ≡ true = (let e = c.takes.ensures in let f = c.if-not-takes.false in search rules) in
-    turn_from g.M.Machine.notes lines (own owners (length tracks) c.args.job lines c.args.index) c.args.node.now track c.args.next.now.noted c.turn_to.new.self.noted c.run_track.new.next.noted.items c.turn_to.ensures.noted
+    turn_from g.M.Machine.notes g.M.Machine.quiet lines (own owners (length tracks) c.args.job lines c.args.index) c.args.node.now track c.args.next.now.noted c.turn_to.new.self.noted c.run_track.new.next.noted.items c.turn_to.ensures.noted
     (sym (chosen (takes owners (length tracks) c.args.job c.args.index track) (lines track) is)) c.in-Ok.ensures.noted
 
 pub returns-in-Err-clause-stopped : goal.returns-in-Err-clause-stopped
@@ -46,7 +46,7 @@ pub returns-then-not-takes-clause-noted : goal.returns-then-not-takes-clause-not
 returns-then-not-takes-clause-noted g c =
     let tracks = c.args.tracks.now in let lines = opening c.args.part tracks in let owners = c.args.owners.now in let track = c.args.track in
     let is : takes owners (length tracks) c.args.job c.args.index track ≡ false = (let e = c.takes.ensures in let f = c.if-not-takes.true in search rules) in
-    turn_idle g.M.Machine.notes (own owners (length tracks) c.args.job lines c.args.index) c.args.node.now track c.args.next.now.noted.items (not_chosen (takes owners (length tracks) c.args.job c.args.index track) (lines track) is)
+    turn_idle g.M.Machine.notes g.M.Machine.quiet (own owners (length tracks) c.args.job lines c.args.index) c.args.node.now track c.args.next.now.noted.items (not_chosen (takes owners (length tracks) c.args.job c.args.index track) (lines track) is)
 
 pub returns-then-not-takes-clause-grown : goal.returns-then-not-takes-clause-grown
 returns-then-not-takes-clause-grown g c =

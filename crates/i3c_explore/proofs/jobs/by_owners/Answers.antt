@@ -4,7 +4,7 @@ use Rattle.i3c_explore.specs.declared.layer.Layer.{Layer}
 use Rattle.i3c_explore.specs.declared.stop.Stop.{Stop}
 use Rattle.i3c_explore.specs.Explorations.{IsMadeBy}
 use Rattle.i3c_explore.specs.Jobs.{IsMarkedByJobs}
-use Rattle.i3c_explore.specs.Notes.{AreMarks, IsNotedBehind}
+use Rattle.i3c_explore.specs.Notes.{AreMarks, IsNotedBehind, IsQuietBehind}
 use Rattle.i3c_explore.specs.Owners.{own, own_below}
 use Rattle.i3c_explore.specs.Parts.{opening}
 use Rattle.i3c_explore.proofs.Following.{jobs_follow}
@@ -45,9 +45,9 @@ returns-in-Ok-clause-noted g c =
     let (joined, are, _) = c.in-Ok.ensures.joined in
     let sized : length made ≡ length all = (let e = c.in_ok-layers.ensures.len in search rules) in
     let marked : (i : ℕ) → i < length all → (job : Job g.row.M.Denot) (one : Result (Layer g.row.M.Denot) Stop)
-    → IfOk (get_or made i one) (λ (next : Layer g.row.M.Denot). AreMarks tracks (IsNotedBehind g.M.Machine.notes (own owners count (get_or all i job).number lines) layer (length layer)) next.noted.items) =
+    → IfOk (get_or made i one) (λ (next : Layer g.row.M.Denot). AreMarks tracks (IsNotedBehind g.M.Machine.notes (own owners count (get_or all i job).number lines) layer (length layer)) (IsQuietBehind g.M.Machine.quiet (own owners count (get_or all i job).number lines) layer (length layer)) next.noted.items) =
     λ i lt job one.
     let (_, call) = c.in_ok-layers.ensures.each i one lt in
-    subst (λ (r : Job g.row.M.Denot). IfOk (get_or made i one) (λ (next : Layer g.row.M.Denot). AreMarks tracks (IsNotedBehind g.M.Machine.notes (own owners count r.number lines) layer (length layer)) next.noted.items)) (sym (call.job_is job)) call.call.met.1 in
-    jobs_mark g.M.Machine.notes tracks lines owners layer joined all made c.args.jobs c.in_ok-noted.noted.items sized marked c.in_ok-all.ensures c.in_ok-owners.ensures c.requires.some are
-    (subst (λ (l : List (Result (Layer g.row.M.Denot) Stop)). AreMarks tracks (IsMarkedByJobs l (length l)) c.in_ok-noted.noted.items) c.deref.ensures.value c.in_ok-noted.ensures)
+    subst (λ (r : Job g.row.M.Denot). IfOk (get_or made i one) (λ (next : Layer g.row.M.Denot). AreMarks tracks (IsNotedBehind g.M.Machine.notes (own owners count r.number lines) layer (length layer)) (IsQuietBehind g.M.Machine.quiet (own owners count r.number lines) layer (length layer)) next.noted.items)) (sym (call.job_is job)) call.call.met.1 in
+    jobs_mark g.M.Machine.notes g.M.Machine.quiet tracks lines owners layer joined all made c.args.jobs c.in_ok-noted.noted.items sized marked c.in_ok-all.ensures c.in_ok-owners.ensures c.requires.some are
+    (subst (λ (l : List (Result (Layer g.row.M.Denot) Stop)). AreMarks tracks (IsMarkedByJobs l (length l)) (λ t k. IsMarkedByJobs l (length l) t k → ⊥) c.in_ok-noted.noted.items) c.deref.ensures.value c.in_ok-noted.ensures)

@@ -1,7 +1,7 @@
 use Rattle.std.proofs.Common.{◌≡◌, ◌≤◌, ℕ, arith, length, refl, subst}
 use Rattle.std.proofs.lemmas.Option.{slice_get_read}
 use Rattle.i3c_explore.specs.Jobs.{IsMarkedByJobs}
-use Rattle.i3c_explore.specs.Notes.{Marks}
+use Rattle.i3c_explore.specs.Notes.{Adds}
 use Rattle.i3c_explore.proofs.JobMarks.{jobs_marked_next, jobs_marked_none}
 use Rattle.i3c_explore.proofs.Marking.{marks_first}
 use Rattle.i3c_explore.proofs.jobs.marked_by_jobs.Goals as goal
@@ -22,5 +22,5 @@ pub returns : goal.returns
 returns g c =
     let layers = c.args.layers.now in
     let all = at_end c.loop-job.job (length layers) c.loop-job.auto.job-end c.loop-job-test.false in
-    marks_first c.args.tracks.now (IsMarkedByJobs layers (length layers)) c.in_ok-noted.noted.items c.loop-job.noted.items c.in_ok-noted.ensures.shape c.in_ok-noted.ensures.unmarked
-    (subst (λ (k : ℕ). Marks (IsMarkedByJobs layers k) c.in_ok-noted.noted.items c.loop-job.noted.items) all c.loop-job.invariant)
+    marks_first c.args.tracks.now (IsMarkedByJobs layers (length layers)) (λ t k. IsMarkedByJobs layers (length layers) t k → ⊥) c.in_ok-noted.noted.items c.loop-job.noted.items c.in_ok-noted.ensures.shape c.in_ok-noted.ensures.unmarked
+    (subst (λ (k : ℕ). Adds (IsMarkedByJobs layers k) c.in_ok-noted.noted.items c.loop-job.noted.items) all c.loop-job.invariant)

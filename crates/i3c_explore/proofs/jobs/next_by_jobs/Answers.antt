@@ -10,4 +10,4 @@ returns-in-Ok-clause-made g c =
 
 pub returns-in-Ok-clause-noted : goal.returns-in-Ok-clause-noted
 returns-in-Ok-clause-noted g c =
-    joined_ok g.M.Machine.notes c.args.part c.args.tracks.now c.args.layer.now c.in-Ok.made c.with_marks-next.result c.args.handed.noted.items c.in-Ok.ensures.noted c.with_marks-next.ensures.noted
+    joined_ok g.M.Machine.notes g.M.Machine.quiet c.args.part c.args.tracks.now c.args.layer.now c.in-Ok.made c.with_marks-next.result c.args.handed.noted.items c.in-Ok.ensures.noted c.with_marks-next.ensures.noted

@@ -1,8 +1,6 @@
 use Rattle.std.proofs.Common.{arith, length, refl}
-use Rattle.std.specs.List.{slice_get}
 use Rattle.std.proofs.lemmas.Option.{slice_get_read}
-use Rattle.i3c_explore.specs.Notes.{IsMarked}
-use Rattle.i3c_explore.proofs.Marking.{added_next, tracks_all, within_tracks}
+use Rattle.i3c_explore.proofs.Marking.{added_all, added_next}
 use Rattle.i3c_explore.proofs.notes.add.Goals as goal
 
 pub loop-track-preserved : goal.loop-track-preserved
@@ -14,4 +12,4 @@ loop-track-preserved c =
 pub returns : goal.returns
 returns c =
     let more = c.args.more.now.items in
-    tracks_all (IsMarked more) c.loop-track.track c.args.noted.now.items c.loop-track.noted.items (λ t k marked. let lt = within_tracks more t k _ marked in omega arith) c.loop-track.invariant
+    added_all more c.loop-track.track c.args.noted.now.items c.loop-track.noted.items (omega arith) c.loop-track.invariant

@@ -29,14 +29,14 @@ part_read part split found index chosen same is = is ∙ ap (λ (k : ℕ). block
 pub returns-then-not-has_orders : goal.returns-then-not-has_orders
 returns-then-not-has_orders g c =
     let none = c.in_ok-none.ensures in
-    walked_none g.M.Machine.steps g.M.Machine.last g.M.Machine.breaks g.M.Machine.notes c.args.part c.args.blocks.now c.args.start c.args.limits c.in_ok-none.none
+    walked_none g.M.Machine.steps g.M.Machine.last g.M.Machine.breaks g.M.Machine.notes g.M.Machine.quiet c.args.part c.args.blocks.now c.args.start c.args.limits c.in_ok-none.none
     (λ has. let some = c.has_orders.ensures.1 (λ e. has (sym c.fork-split.ensures ∙ e)) in cc) none.ends none.orders none.steps none.sized none.shape none.unmarked
 
 pub loop-index-init : goal.loop-index-init
 loop-index-init g c =
     record {
       walked = walked_first g.M.Machine.steps g.M.Machine.last c.args.part c.args.blocks.now c.args.start c.args.limits c.in_ok-layer.layer c.in_ok-layer.ensures.alone c.in_ok-layer.ensures.limits (omega arith);
-      told = told_first g.M.Machine.steps g.M.Machine.notes c.args.part c.args.blocks.now c.args.start c.new-noted.result.items c.new-noted.ensures.items;
+      told = told_first g.M.Machine.steps g.M.Machine.notes g.M.Machine.quiet c.args.part c.args.blocks.now c.args.start c.new-noted.result.items c.new-noted.ensures.items;
     }
 
 pub explore_block-requires : goal.explore_block-requires
@@ -59,7 +59,7 @@ returns-in-Err g c =
     let chosen = part_read part (fork blocks) c.fork-split.result count c.only_if-opening.result c.fork-split.ensures c.only_if-opening.ensures in
     let stops = subst (λ (p : Part). ExploresBlock steps last breaks p (block blocks count) layer (Err c.in-Err.stop)) chosen
     (subst (λ (t : List (Vec g.row.M-Line.Denot)). ExploresBlock steps last breaks c.only_if-opening.result t layer (Err c.in-Err.stop)) here c.in-Err.ensures.explored) in
-    walked_stops steps last breaks g.M.Machine.notes part blocks c.args.start c.args.limits count layer c.in-Err.stop (λ none. c.has_orders.ensures.0 c.if-not-has_orders.false (c.fork-split.ensures ∙ none)) c.loop-index-test.true c.loop-index.invariant.walked stops
+    walked_stops steps last breaks g.M.Machine.notes g.M.Machine.quiet part blocks c.args.start c.args.limits count layer c.in-Err.stop (λ none. c.has_orders.ensures.0 c.if-not-has_orders.false (c.fork-split.ensures ∙ none)) c.loop-index-test.true c.loop-index.invariant.walked stops
 
 pub loop-index-preserved : goal.loop-index-preserved
 loop-index-preserved g c =
@@ -68,10 +68,10 @@ loop-index-preserved g c =
     let chosen = part_read part (fork blocks) c.fork-split.result count c.only_if-opening.result c.fork-split.ensures c.only_if-opening.ensures in
     let done = subst (λ (p : Part). ExploresBlock steps last breaks p (block blocks count) layer (Ok c.in-Ok.layer)) chosen
     (subst (λ (t : List (Vec g.row.M-Line.Denot)). ExploresBlock steps last breaks c.only_if-opening.result t layer (Ok c.in-Ok.layer)) here c.in-Ok.ensures.explored) in
-    let marked = subst (λ (p : Part). BlockIsNoted steps g.M.Machine.notes p (block blocks count) layer.nodes.items c.in-Ok.layer.noted.items) chosen
-    (subst (λ (t : List (Vec g.row.M-Line.Denot)). BlockIsNoted steps g.M.Machine.notes c.only_if-opening.result t layer.nodes.items c.in-Ok.layer.noted.items) here c.in-Ok.ensures.noted) in record {
+    let marked = subst (λ (p : Part). BlockIsNoted steps g.M.Machine.notes g.M.Machine.quiet p (block blocks count) layer.nodes.items c.in-Ok.layer.noted.items) chosen
+    (subst (λ (t : List (Vec g.row.M-Line.Denot)). BlockIsNoted steps g.M.Machine.notes g.M.Machine.quiet c.only_if-opening.result t layer.nodes.items c.in-Ok.layer.noted.items) here c.in-Ok.ensures.noted) in record {
       walked = walked_next steps last part blocks c.args.start c.args.limits count layer c.in-Ok.layer c.loop-index-test.true c.loop-index.invariant.walked done;
-      told = walked_told steps last g.M.Machine.notes part blocks c.args.start c.args.limits count layer c.in-Ok.layer.noted c.loop-index.noted.items c.push_marks.new.noted.items c.loop-index-test.true c.loop-index.invariant.walked marked
+      told = walked_told steps last g.M.Machine.notes g.M.Machine.quiet part blocks c.args.start c.args.limits count layer c.in-Ok.layer.noted c.loop-index.noted.items c.push_marks.new.noted.items c.loop-index-test.true c.loop-index.invariant.walked marked
           (c.in_ok-push_marks.ensures ∙ ap (λ (v : Vec (Vec Bool)). c.loop-index.noted.items ++ v ∷ []) c.replace.ensures.value) c.loop-index.invariant.told;
     }
 
@@ -79,7 +79,7 @@ pub returns : goal.returns
 returns g c =
     let blocks = c.args.blocks.now in let layer = c.loop-index.layer in
     let all = at_end c.loop-index.index (length blocks) c.loop-index.auto.index-end c.loop-index-test.false in
-    walked_all g.M.Machine.steps g.M.Machine.last g.M.Machine.breaks g.M.Machine.notes c.args.part blocks c.args.start c.args.limits c.loop-index.index layer.limits
+    walked_all g.M.Machine.steps g.M.Machine.last g.M.Machine.breaks g.M.Machine.notes g.M.Machine.quiet c.args.part blocks c.args.start c.args.limits c.loop-index.index layer.limits
     (record { ends = layer.nodes; orders = c.total-orders.result; steps = c.saturating_sub-steps.result; noted = c.loop-index.noted })
     (λ none. c.has_orders.ensures.0 c.if-not-has_orders.false (c.fork-split.ensures ∙ none)) all c.loop-index.invariant.walked
     (subst (λ (l : List (Node g.row.M.Denot)). (share : ℕ → List (List (List ℕ))) → IsShared l share → IsNumber c.total-orders.result (length (all_below share (length l)))) c.deref-2.ensures.value c.total-orders.ensures)
@@ -87,8 +87,8 @@ returns g c =
 
 pub returns-in_err-layer : goal.returns-in_err-layer
 returns-in_err-layer g c =
-    memory_ends (Explores g.M.Machine.steps g.M.Machine.last g.M.Machine.breaks g.M.Machine.notes c.args.part c.args.blocks.now c.args.start c.args.limits) c.from_residual-in_err-layer.result tt c.from_residual-in_err-layer.ensures.1
+    memory_ends (Explores g.M.Machine.steps g.M.Machine.last g.M.Machine.breaks g.M.Machine.notes g.M.Machine.quiet c.args.part c.args.blocks.now c.args.start c.args.limits) c.from_residual-in_err-layer.result tt c.from_residual-in_err-layer.ensures.1
 
 pub returns-in_err-runner : goal.returns-in_err-runner
 returns-in_err-runner g c =
-    memory_ends (Explores g.M.Machine.steps g.M.Machine.last g.M.Machine.breaks g.M.Machine.notes c.args.part c.args.blocks.now c.args.start c.args.limits) c.from_residual-in_err-runner.result tt c.from_residual-in_err-runner.ensures.1
+    memory_ends (Explores g.M.Machine.steps g.M.Machine.last g.M.Machine.breaks g.M.Machine.notes g.M.Machine.quiet c.args.part c.args.blocks.now c.args.start c.args.limits) c.from_residual-in_err-runner.result tt c.from_residual-in_err-runner.ensures.1
