@@ -38,3 +38,7 @@ IsNotable n Clear way = ⊥
 IsNotable n (Risk k) way = 0 < way
 IsNotable n (Spread k) way = ⊥
 IsNotable n (Flag k) way = n ≡ k
+
+-- a line goes quietly in a way: it isn't noted, and the counter stays below 1000
+abbrev pub GoesQuietly : Counter → Line → ℕ → Type 0
+GoesQuietly old line way = (IsNotable old.count line way → ⊥) × (counted old.count line way < 1000)

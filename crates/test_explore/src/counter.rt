@@ -62,7 +62,7 @@ fn is_noted(count: u64, line: &Line, way: usize) -> bool
 
 impl Machine for Counter {
     ghost use Rattle.std.specs.Prelude.{⊤};
-    ghost use Rattle.test_explore.specs.Counters.{Counts, IsNotable, Overflows, last_of};
+    ghost use Rattle.test_explore.specs.Counters.{Counts, GoesQuietly, IsNotable, Overflows, last_of};
 
     type Line = Line;
 
@@ -77,6 +77,8 @@ impl Machine for Counter {
     ghost breaks = { Overflows };
 
     ghost notes = { λ counter line way. IsNotable counter.count line way };
+
+    ghost quiet = { GoesQuietly };
 
     ghost near = { λ runner counter. ⊤ };
 

@@ -729,17 +729,17 @@ fn a_limit_of_no_state_is_reached_at_the_start(rt: HostRuntime) -> Result<(), Fa
 }
 
 /// Whether these lines of an exploration are noted, by blocks, tracks and lines.
-fn notes(found: &Explored<Counter>, expected: &[&[&[bool]]]) -> bool {
+fn are_noted(found: &Explored<Counter>, expected: &[&[&[bool]]]) -> bool {
     found.noted.len() == expected.len()
         && found
             .noted
             .iter()
             .zip(expected)
-            .all(|(block, expected)| notes_in(block, expected))
+            .all(|(block, expected)| are_noted_in(block, expected))
 }
 
 /// Whether these lines of a block are noted, by tracks and lines.
-fn notes_in(block: &Vec<Vec<bool>>, expected: &[&[bool]]) -> bool {
+fn are_noted_in(block: &Vec<Vec<bool>>, expected: &[&[bool]]) -> bool {
     block.len() == expected.len()
         && block
             .iter()
@@ -755,7 +755,7 @@ fn a_line_that_one_order_notes_is_told(rt: HostRuntime) -> Result<(), Fail> {
         &[&[&[Line::Double], &[Line::Add(1)], &[Line::Flag(4)]]],
         WIDE,
     )?;
-    assert!(rt; notes(&found, &[&[&[false], &[false], &[true]]]));
+    assert!(rt; are_noted(&found, &[&[&[false], &[false], &[true]]]));
     Ok(())
 }
 
@@ -770,7 +770,7 @@ fn each_line_of_a_track_is_told_by_itself(rt: HostRuntime) -> Result<(), Fail> {
         ]],
         WIDE,
     )?;
-    assert!(rt; notes(&found, &[&[&[true, false, true], &[false, false]]]));
+    assert!(rt; are_noted(&found, &[&[&[true, false, true], &[false, false]]]));
     Ok(())
 }
 
@@ -791,7 +791,7 @@ fn lines_of_each_block_are_told(rt: HostRuntime) -> Result<(), Fail> {
         WIDE,
     )?;
     assert!(rt;
-        notes(
+        are_noted(
             &found,
             &[
                 &[&[false, true], &[false]],
@@ -811,7 +811,7 @@ fn a_line_that_one_way_notes_is_told(rt: HostRuntime) -> Result<(), Fail> {
         &[&[&[Line::Add(2), Line::Risk(3)], &[Line::Spread(4)]]],
         WIDE,
     )?;
-    assert!(rt; notes(&found, &[&[&[false, true], &[false]]]));
+    assert!(rt; are_noted(&found, &[&[&[false, true], &[false]]]));
     Ok(())
 }
 
@@ -822,9 +822,9 @@ fn a_part_tells_the_lines_that_its_orders_note(rt: HostRuntime) -> Result<(), Fa
     let first = part_explored(rt.alloc(), blocks, 1, 3)?;
     let second = part_explored(rt.alloc(), blocks, 2, 3)?;
     let third = part_explored(rt.alloc(), blocks, 3, 3)?;
-    assert!(rt; notes(&first, &[&[&[false], &[false], &[false]]]));
-    assert!(rt; notes(&second, &[&[&[false], &[false], &[true]]]));
-    assert!(rt; notes(&third, &[&[&[false], &[false], &[false]]]));
+    assert!(rt; are_noted(&first, &[&[&[false], &[false], &[false]]]));
+    assert!(rt; are_noted(&second, &[&[&[false], &[false], &[true]]]));
+    assert!(rt; are_noted(&third, &[&[&[false], &[false], &[false]]]));
     Ok(())
 }
 
@@ -834,8 +834,8 @@ fn a_part_without_an_order_notes_no_line(rt: HostRuntime) -> Result<(), Fail> {
     let blocks: &[&[&[Line]]] = &[&[&[Line::Flag(1), Line::Add(1)]], &[]];
     let first = part_explored(rt.alloc(), blocks, 1, 2)?;
     let second = part_explored(rt.alloc(), blocks, 2, 2)?;
-    assert!(rt; notes(&first, &[&[&[true, false]], &[]]));
-    assert!(rt; notes(&second, &[&[&[false, false]], &[]]));
+    assert!(rt; are_noted(&first, &[&[&[true, false]], &[]]));
+    assert!(rt; are_noted(&second, &[&[&[false, false]], &[]]));
     Ok(())
 }
 
@@ -873,7 +873,7 @@ fn jobs_tell_the_lines_that_any_of_them_notes(rt: HostRuntime) -> Result<(), Fai
             ]],
             jobs,
         )?;
-        assert!(rt; notes(&found, &[&[&[false, true], &[false, false], &[true]]]));
+        assert!(rt; are_noted(&found, &[&[&[false, true], &[false, false], &[true]]]));
     }
     Ok(())
 }
