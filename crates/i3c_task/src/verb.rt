@@ -32,8 +32,8 @@ pub(crate) const EXPLAIN: &str = "explain";
 /// The flag of `drive` for answers as JSON objects.
 pub(crate) const JSON: &str = "json";
 
-/// The options of `explore` for the number of lines that may be run, for the part of all orders that is tried, and for the
-/// number of threads that run lines; its flag that leaves out the ends, and the facts by which they are grouped.
+/// The options of `explore`: how many lines may be run, which part of all orders is tried, how many threads run lines, and
+/// the facts by which ends are grouped. Its flag leaves out the ends.
 pub(crate) const MOST: &str = "most";
 
 pub(crate) const PART: &str = "part";

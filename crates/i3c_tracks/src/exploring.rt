@@ -49,10 +49,11 @@ pub fn run_explore<T: Threads + Sync, R: Read, W: Write, V: Watch>(
     // Every order of the part, by the plan that the file's lines have, leads on and breaks no expectation; or one breaks
     // one, and no shorter one of the part does.
     ensures answer { IfOk result (λ answer. (lines : List (VecValue ℕ)) × AreLines (R.remaining reader.old) lines × IsExplored lines part answer) }
-    // What went out is one of three. It is the first refusal of the file's lines, or that a limit was reached. Or it is the shortest order that breaks an expectation, as a script of
-    // the file's lines, with which expectation the last of them breaks. Or it has the ends to which all orders of the part
-    // lead, each with an order that leads there, how many orders do, and how many lines were run; or these numbers alone; or
-    // the groups of the ends in which the same questions hold. Then a line gives each name that is asked about.
+    // What went out is one of three. It is the first refusal of the file's lines, or that a limit was reached. Or it is the
+    // shortest order that breaks an expectation, as a script of the file's lines, with the expectation that the last of them
+    // breaks. Or it has how many orders the part has, how many lines were run, and to how many ends all orders lead. Behind
+    // these numbers are the ends, each with an order that leads there, or their groups, or nothing. If something is asked, a
+    // line of the file gives each name in it.
     ensures printed { IfOk result (λ answer. (lines : List (VecValue ℕ)) × (said : List ℕ) × AreLines (R.remaining reader.old) lines × IsPrinted lines limits part showing questions.now answer [] said × Appends (W.contents writer.old) (W.contents writer.new) said) }
     // a name that no line of the file gives is that of the question that is told
     ensures fault { IfErr result (IsFault (R.remaining reader.old) questions.now) }
