@@ -27,5 +27,8 @@ pub mod Underway
 pub mod Courses
 pub mod Totals
 pub mod Parting
+pub mod Marking
+pub mod Noting
+pub mod JobMarks
 pub mod Walking
 pub mod Adding

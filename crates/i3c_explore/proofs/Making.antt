@@ -1,5 +1,5 @@
 -- The layers that are made by the same lines.
-use Rattle.std.proofs.Common.{◌≡◌, ◌≤◌, ℕ, List, Err, IfOk, Ok, Result, length, subst}
+use Rattle.std.proofs.Common.{◌≡◌, ◌∙◌, ◌≤◌, ℕ, List, Err, IfOk, Ok, Result, ap, arith, length, subst, sym}
 use Rattle.std.specs.Global.{Vec}
 use Rattle.i3c_explore.specs.declared.layer.Layer.{Layer}
 use Rattle.i3c_explore.specs.declared.limits.Limits.{Limits}
@@ -45,3 +45,17 @@ pub made_few : {S L : Type 0} (steps : S → L → ℕ → S → Type 0) (last :
     → IfOk result (IsMadeBy steps last tracks part ran layer limits) → IfOk result (λ (next : Layer S). length next.nodes.items ≤ runs_from last ran (length tracks) layer (length layer))
 made_few steps last tracks part ran layer limits (Ok next) made = made.few
 made_few steps last tracks part ran layer limits (Err stop) made = tt
+
+-- of a layer with the same nodes and limits
+pub made_again : {S L : Type 0} (steps : S → L → ℕ → S → Type 0) (last : S → L → ℕ) (tracks : List (Vec L)) (part : Part) (ran : ℕ → ℕ → List L) (layer : List (Node S)) (limits : Limits) (next new : Layer S)
+    → new.nodes ≡ next.nodes → new.limits ≡ next.limits → IsMadeBy steps last tracks part ran layer limits next → IsMadeBy steps last tracks part ran layer limits new
+made_again {S} steps last tracks part ran layer limits next new nodes left made =
+    let was = made.within in let same = ap (λ (v : Vec (Node S)). length v.items) nodes in let few = made.few in record {
+      follows = subst (λ (v : Vec (Node S)). IsNextOf steps tracks (opening part tracks) ran layer 0 (length layer) v.items) (sym nodes) made.follows;
+      within = record {
+        steps = let e = ap (λ (l : Limits). l.steps) left in let w = was.steps in omega arith;
+        states = ap (λ (l : Limits). l.states) left ∙ was.states;
+        narrow = let w = was.narrow in omega arith;
+      };
+      few = omega arith;
+    }

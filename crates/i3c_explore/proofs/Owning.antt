@@ -116,12 +116,16 @@ number_below : (found : Option ℕ) (count : ℕ) → 0 < count → ((job : ℕ)
 number_below None count some each = some
 number_below (Some job) count some each = each job refl
 
+-- each line is of one of the jobs
+pub owner_within : (owners : Owners) (tracks count k t : ℕ) → AreOwned owners.jobs.items count → 0 < count → owner owners tracks k t < count
+owner_within owners tracks count k t owned some =
+    let place = number (slice_get owners.rows.items k) * tracks + t in number_below (slice_get owners.jobs.items place) count some (λ job is. owned place job is)
+
 -- all jobs together run all lines
 pub own_all : {L : Type 0} (owners : Owners) (tracks count : ℕ) (lines : ℕ → List L) → AreOwned owners.jobs.items count → 0 < count → (k t : ℕ) → own_below owners tracks count lines k t ≡ lines t
 own_all owners tracks count lines owned some k t =
     let at = owner owners tracks k t in
-    let place = number (slice_get owners.rows.items k) * tracks + t in
-    chosen (nat_le (suc at) count) (lines t) (below_is at count (number_below (slice_get owners.jobs.items place) count some (λ job is. owned place job is)))
+    chosen (nat_le (suc at) count) (lines t) (below_is at count (owner_within owners tracks count k t owned some))
 
 -- where nothing is noted, the first job does
 pub own_alone : {L : Type 0} (owners : Owners) (tracks : ℕ) (lines : ℕ → List L) → owners.jobs.items ≡ [] → (k t : ℕ) → own owners tracks 0 lines k t ≡ lines t

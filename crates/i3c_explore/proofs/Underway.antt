@@ -41,7 +41,7 @@ underway_first steps last part tracks starts layer restarted same narrow =
     }
 
 -- the next layer holds each order that is one line longer
-held_by : {S L : Type 0} (steps : S → L → ℕ → S → Type 0) (last : S → L → ℕ) (part : Part) (tracks : List (Vec L)) (starts : Layer S) (count : ℕ) (layer : List (Node S)) (left : Limits) (next : Layer S)
+pub held_by : {S L : Type 0} (steps : S → L → ℕ → S → Type 0) (last : S → L → ℕ) (part : Part) (tracks : List (Vec L)) (starts : Layer S) (count : ℕ) (layer : List (Node S)) (left : Limits) (next : Layer S)
     → IsUnderway steps last part tracks starts count layer left → IsMadeBy steps last tracks (part_at part count) (λ _. opening (part_at part count) tracks) layer left next → AreHeld steps part tracks starts.nodes.items (suc count) next.nodes.items
 held_by steps last part tracks starts count layer left next was made =
     held_next steps part tracks starts.nodes.items layer next.nodes.items count was.reached

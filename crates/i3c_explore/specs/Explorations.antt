@@ -12,6 +12,7 @@ use Rattle.i3c_explore.specs.Blocks.{BreaksOn, IsBegun, IsShortestInPart, IsWhol
 use Rattle.i3c_explore.specs.Counts.{IsShared}
 use Rattle.i3c_explore.specs.Layers.{AreFrom, Keeps}
 use Rattle.i3c_explore.specs.Nexts.{IsNextOf}
+use Rattle.i3c_explore.specs.Notes.{AreNoted}
 use Rattle.i3c_explore.specs.Orders.{IsDetermined, IsExclusive, IsOrder, IsPrefix, Leads}
 use Rattle.i3c_explore.specs.Parts.{IsOfPart, Part, opening}
 use Rattle.i3c_explore.specs.Runs.{IsBlockRun, IsByLayers, IsCharged, IsWithin, runs_from}
@@ -64,7 +65,7 @@ ExploresBlock steps last breaks part tracks starts (Ok ends) = BlockLeadsTo step
 ExploresBlock steps last breaks part tracks starts (Err stop) = StopsIn steps last breaks part tracks starts stop
 
 -- a part's orders of all blocks lead from the start to what was found
-pub record AllLeadTo {S L : Type 0} (steps : S → L → ℕ → S → Type 0) (last : S → L → ℕ) (breaks : S → L → ℕ → Type 0) (part : Part) (blocks : List (Vec (Vec L))) (start : S) (limits : Limits) (found : Explored S) : Type 0 where
+pub record AllLeadTo {S L : Type 0} (steps : S → L → ℕ → S → Type 0) (last : S → L → ℕ) (breaks notes quiet : S → L → ℕ → Type 0) (part : Part) (blocks : List (Vec (Vec L))) (start : S) (limits : Limits) (found : Explored S) : Type 0 where
   -- every order of the part, and every beginning of one, leads on: no line breaks an expectation
   pub all : (course : List (List Turn)) → IsBegun blocks course → IsOfPart part blocks course → (end : S) × LeadsOn steps blocks start course end
   -- no order of the part breaks an expectation in another run, where steps are determined and what breaks leads nowhere
@@ -83,10 +84,12 @@ pub record AllLeadTo {S L : Type 0} (steps : S → L → ℕ → S → Type 0) (
   pub states : length found.ends.items ≤ limits.states
   -- no more lines were run than the limit of steps
   pub within : found.steps ≤ limits.steps
+  -- it is told of each line whether it is noted in some order of the part, or can run without a note in each
+  pub noted : AreNoted steps notes quiet part blocks start found.noted.items
 
 -- what an exploration answers: the ends to which all orders of the part lead; or an order of the part that breaks an expectation at its last line, where no shorter one does; or that a limit is exceeded; or that there was no memory
-abbrev pub Explores : {S L : Type 0} → (S → L → ℕ → S → Type 0) → (S → L → ℕ) → (S → L → ℕ → Type 0) → Part → List (Vec (Vec L)) → S → Limits → Result (Explored S) Stop → Type 0
-Explores steps last breaks part blocks start limits (Ok found) = AllLeadTo steps last breaks part blocks start limits found
-Explores steps last breaks part blocks start limits (Err (Breaks order)) = IsShortestInPart steps breaks part blocks start order.items
-Explores steps last breaks part blocks start limits (Err Most) = ExceedsLimits steps last part blocks start limits
-Explores steps last breaks part blocks start limits (Err Memory) = Unit {0}
+abbrev pub Explores : {S L : Type 0} → (S → L → ℕ → S → Type 0) → (S → L → ℕ) → (S → L → ℕ → Type 0) → (S → L → ℕ → Type 0) → (S → L → ℕ → Type 0) → Part → List (Vec (Vec L)) → S → Limits → Result (Explored S) Stop → Type 0
+Explores steps last breaks notes quiet part blocks start limits (Ok found) = AllLeadTo steps last breaks notes quiet part blocks start limits found
+Explores steps last breaks notes quiet part blocks start limits (Err (Breaks order)) = IsShortestInPart steps breaks part blocks start order.items
+Explores steps last breaks notes quiet part blocks start limits (Err Most) = ExceedsLimits steps last part blocks start limits
+Explores steps last breaks notes quiet part blocks start limits (Err Memory) = Unit {0}

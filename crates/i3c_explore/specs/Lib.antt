@@ -10,6 +10,7 @@ pub mod Sums
 pub mod Nexts
 pub mod Runs
 pub mod Stops
+pub mod Notes
 pub mod Explorations
 pub mod Moves
 pub mod Queues

@@ -3,12 +3,14 @@ ghost use Rattle.i3c_explore.specs.declared.node.Node.{Node as NodeValue};
 ghost use Rattle.i3c_explore.specs.Explorations.{ExploresBlock, MakesNext};
 ghost use Rattle.i3c_explore.specs.Layers.{AreRestarted, IsRestarted};
 ghost use Rattle.i3c_explore.specs.Nexts.{ArePlaced};
-ghost use Rattle.i3c_explore.specs.Parts.{HasLine, whole};
+ghost use Rattle.i3c_explore.specs.Notes.{BlockIsNoted, HasShape, IsNotedBehind, IsQuietBehind, IsUnmarked, Marks};
+ghost use Rattle.i3c_explore.specs.Parts.{HasLine, opening as opening_of, whole};
 
 use crate::layer::{Handed, Layer};
 use crate::limits::Limits;
 use crate::machine::Machine;
 use crate::node::Node;
+use crate::notes::unmarked;
 use crate::part::Part;
 use crate::stop::Stop;
 use std::alloc::{AllocError, Global};
@@ -52,15 +54,22 @@ fn is_over<M>(next: &Vec<Node<M>>, part: Part, ran: u64) -> bool
     next.is_empty() && (ran > 0 || part.is_whole())
 }
 
-/// A layer that begins a block of `count` tracks, from the nodes of a layer.
-fn begun<M: Machine>(alloc: Global, starts: Layer<M>, count: usize) -> Result<Layer<M>, AllocError>
-    ensures restarted { IfOk result (λ layer. AreRestarted count starts.nodes.items layer.nodes.items) }
+/// A layer that begins a block of these tracks, from the nodes of a layer. No line is marked.
+fn begun<M: Machine>(
+    alloc: Global,
+    starts: Layer<M>,
+    tracks: &[Vec<M::Line>],
+) -> Result<Layer<M>, AllocError>
+    ensures restarted { IfOk result (λ layer. AreRestarted (length tracks.now) starts.nodes.items layer.nodes.items) }
     ensures length { IfOk result (λ layer. length layer.nodes.items ≡ length starts.nodes.items) }
     ensures limits { IfOk result (λ layer. layer.limits ≡ starts.limits) }
+    ensures shape { IfOk result (λ layer. HasShape tracks.now layer.noted.items) }
+    ensures unmarked { IfOk result (λ layer. IsUnmarked layer.noted.items) }
 {
     let mut layer = starts;
-    restart_all(alloc, &mut layer.nodes, count)?;
+    restart_all(alloc, &mut layer.nodes, tracks.len())?;
     layer.codes.clear();
+    layer.noted = unmarked(alloc, tracks)?;
     Ok(layer)
 }
 
@@ -68,10 +77,12 @@ fn begun<M: Machine>(alloc: Global, starts: Layer<M>, count: usize) -> Result<La
 fn handed_on<M: Machine>(alloc: Global, layer: &mut Layer<M>) -> Handed<M>
     ensures nodes { layer.new.nodes ≡ layer.old.nodes }
     ensures limits { layer.new.limits ≡ layer.old.limits }
+    ensures noted { result.noted ≡ layer.old.noted }
 {
     Handed {
         spares: mem::replace(&mut layer.spares, Vec::new(alloc)),
         codes: mem::replace(&mut layer.codes, Vec::new(alloc)),
+        noted: mem::replace(&mut layer.noted, Vec::new(alloc)),
     }
 }
 
@@ -79,6 +90,7 @@ fn handed_on<M: Machine>(alloc: Global, layer: &mut Layer<M>) -> Handed<M>
 fn behind<M: Machine>(alloc: Global, layer: Layer<M>, done: Layer<M>) -> Layer<M>
     ensures nodes { result.nodes ≡ layer.nodes }
     ensures limits { result.limits ≡ layer.limits }
+    ensures noted { result.noted ≡ layer.noted }
 {
     let mut layer = layer;
     let mut done = done;
@@ -89,7 +101,7 @@ fn behind<M: Machine>(alloc: Global, layer: Layer<M>, done: Layer<M>) -> Layer<M
 }
 
 /// Tries a part's orders of the tracks' lines from each state of a layer, each line in every way. Answers what they lead
-/// to.
+/// to, with the lines that are noted.
 pub(crate) fn explore_block<
     M: Machine,
     F: Fn(
@@ -111,11 +123,14 @@ pub(crate) fn explore_block<
     requires accepts { (layer : _) (limits : _) (lines : _) (opening : _) (runner : _) (handed : _) → ArePlaced layer.now lines.now → F.pre next_layer.now layer limits lines opening runner handed }
     requires makes { (layer : _) (limits : _) (lines : _) (opening : _) (runner : _) (handed : _) (made : _) (after : _) → F.post next_layer.now layer limits lines opening runner handed made after
         → MakesNext M.steps M.last M.breaks lines.now opening layer.now limits made }
+    requires marks { (layer : _) (limits : _) (lines : _) (opening : _) (runner : _) (handed : _) (made : _) (after : _) → F.post next_layer.now layer limits lines opening runner handed made after
+        → IfOk made (λ next. Marks (IsNotedBehind M.notes (λ _. opening_of opening lines.now) layer.now (length layer.now)) (IsQuietBehind M.quiet (λ _. opening_of opening lines.now) layer.now (length layer.now)) handed.noted.items next.noted.items) }
     requires begins { (part ≡ whole) ⊎ HasLine tracks.now }
     requires narrow { length starts.nodes.items ≤ starts.limits.states }
-    ensures { ExploresBlock M.steps M.last M.breaks part tracks.now starts result }
+    ensures explored { ExploresBlock M.steps M.last M.breaks part tracks.now starts result }
+    ensures noted { IfOk result (λ layer. BlockIsNoted M.steps M.notes M.quiet part tracks.now starts.nodes.items layer.noted.items) }
 {
-    let mut layer = begun(alloc, starts, tracks.len())?;
+    let mut layer = begun(alloc, starts, tracks)?;
     for ran in 0..u64::MAX {
         let opening = part.only_if(ran == 0);
         let handed = handed_on(alloc, &mut layer);
@@ -127,6 +142,7 @@ pub(crate) fn explore_block<
         if is_over(&next.nodes, part, ran) {
             layer.limits = next.limits;
             layer.spares = next.spares;
+            layer.noted = next.noted;
             return Ok(layer);
         }
         layer = behind(alloc, next, layer);

@@ -1,7 +1,9 @@
 ghost use Rattle.std.specs.Prelude.{◌≡◌, ◌<◌, ◌^◌, ◌+◌, ℕ, IfErr, IfOk, IsTrue, MatchOption, None, OnOk, Some, List, length, slice_get, slice_index};
+ghost use Rattle.i3c_explore.specs.declared.layer.Layer.{Layer as LayerValue};
 ghost use Rattle.i3c_explore.specs.Explorations.{Grows, MakesBy, MakesNext};
 ghost use Rattle.i3c_explore.specs.Layers.{Has, IsExpanded, IsNextAt, IsTracked, advanced};
 ghost use Rattle.i3c_explore.specs.Nexts.{ArePlaced};
+ghost use Rattle.i3c_explore.specs.Notes.{IsNoted, IsNotedBehind, IsQuiet, IsQuietBehind, Marks};
 ghost use Rattle.i3c_explore.specs.Orders.{track as lines_of};
 ghost use Rattle.i3c_explore.specs.Owners.{own};
 ghost use Rattle.i3c_explore.specs.Parts.{opening};
@@ -13,12 +15,45 @@ use crate::layer::Layer;
 use crate::limits::Limits;
 use crate::machine::Machine;
 use crate::node::Node;
+use crate::notes::mark;
 use crate::owners::Owners;
 use crate::part::Part;
+use crate::ran::Ran;
 use crate::stop::Stop;
 use crate::turn::{Turn, extended};
 use crate::watch::{View, Watch};
 use std::alloc::Global;
+
+/// Runs a track's next line from a node in one way, and marks it if it is noted. `again` says that the runner ran a line
+/// from this node last.
+fn run_line<M: Machine>(
+    alloc: Global,
+    node: &Node<M>,
+    line: &M::Line,
+    turn: Turn,
+    again: bool,
+    runner: &mut M::Runner,
+    noted: &mut Vec<Vec<bool>>,
+) -> Result<(), Stop>
+    requires within { turn.track < length node.now.places.items }
+    requires again { IsTrue again → M.near runner.old node.now.state }
+    ensures leads { OnOk result (M.steps node.now.state line.now turn.way (M.shown runner.new)) }
+    ensures near { OnOk result (M.near runner.new node.now.state) }
+    ensures noted { OnOk result (Marks (λ t k. (t ≡ turn.track) × (slice_index node.now.places.items turn.track ≡ k) × M.notes node.now.state line.now turn.way) (λ t k. t ≡ turn.track → slice_index node.now.places.items turn.track ≡ k → M.quiet node.now.state line.now turn.way) noted.old.items noted.new.items) }
+    ensures stopped { IfErr result (λ stop. (lines : ℕ → List M.Line) (next : LayerValue M) → IsNextAt lines node.now.places.items turn.track line.now → StopsAt M.breaks lines node.now next 1 stop) }
+{
+    match node.state.run(alloc, line, turn.way, again, runner)? {
+        Ran::Held => Ok(()),
+        Ran::Noted => {
+            mark(noted, turn.track, node.places[turn.track]);
+            Ok(())
+        }
+        Ran::Broken => {
+            let order = extended(&node.order, turn)?;
+            Err(Stop::Breaks(order))
+        }
+    }
+}
 
 /// Runs a track's next line from a node in one way, and adds what it leads to. `again` says that the runner ran a line
 /// from this node last.
@@ -39,14 +74,15 @@ fn run<M: Machine>(
     ensures grown { OnOk result ((lines : ℕ → List M.Line) → IsNextAt lines node.now.places.items turn.track line.now → Grows M.steps lines tracks.now node.now next.old next.new (by_turn turn) 1) }
     ensures ran { OnOk result ((new : M) × M.steps node.now.state line.now turn.way new × Has next.new.nodes.items (advanced turn.track node.now.places.items) new) }
     ensures near { OnOk result (M.near runner.new node.now.state) }
+    ensures noted { OnOk result (Marks (λ t k. (t ≡ turn.track) × (slice_index node.now.places.items turn.track ≡ k) × M.notes node.now.state line.now turn.way) (λ t k. t ≡ turn.track → slice_index node.now.places.items turn.track ≡ k → M.quiet node.now.state line.now turn.way) next.old.noted.items next.new.noted.items) }
     ensures stopped { IfErr result (λ stop. (lines : ℕ → List M.Line) → IsNextAt lines node.now.places.items turn.track line.now → StopsAt M.breaks lines node.now next.old 1 stop) }
 {
     if !next.limits.step() {
         return Err(Stop::Most);
     }
-    if !node.state.run(alloc, line, turn.way, again, runner)? {
-        let order = extended(&node.order, turn)?;
-        return Err(Stop::Breaks(order));
+    match run_line(alloc, node, line, turn, again, runner, &mut next.noted) {
+        Ok(()) => {}
+        Err(stop) => return Err(stop),
     }
     match next.put(alloc, node, turn, runner) {
         Ok(()) => Ok(()),
@@ -83,6 +119,7 @@ fn run_track<M: Machine>(
     ensures grown { OnOk result (Grows M.steps (opening part tracks.now) tracks.now node.now next.old next.new (by_track (opening part tracks.now) node.now.places.items track) (ways_of M.last node.now.state (slice_get (opening part tracks.now track) (slice_index node.now.places.items track)))) }
     ensures tracked { OnOk result (IsTracked M.steps (opening part tracks.now) track node.now next.new.nodes.items) }
     ensures near { IfOk result (λ near. IsTrue near → M.near runner.new node.now.state) }
+    ensures noted { OnOk result (Marks (λ t k. (t ≡ track) × IsNoted M.notes (opening part tracks.now) node.now t k) (λ t k. t ≡ track → IsQuiet M.quiet (opening part tracks.now) node.now t k) next.old.noted.items next.new.noted.items) }
     ensures stopped { IfErr result (StopsAt M.breaks (opening part tracks.now) node.now next.old (ways_of M.last node.now.state (slice_get (opening part tracks.now track) (slice_index node.now.places.items track)))) }
 {
     let Some(line) = next_line(tracks, part, track, node.places[track]) else {
@@ -122,6 +159,7 @@ fn take_turn<M: Machine>(
     ensures grown { OnOk result (Grows M.steps (opening part tracks.now) tracks.now node.now next.old next.new (by_track (own owners.now (length tracks.now) job (opening part tracks.now) index) node.now.places.items track) (ways_of M.last node.now.state (slice_get (own owners.now (length tracks.now) job (opening part tracks.now) index track) (slice_index node.now.places.items track)))) }
     ensures tracked { OnOk result (IsTracked M.steps (own owners.now (length tracks.now) job (opening part tracks.now) index) track node.now next.new.nodes.items) }
     ensures near { IfOk result (λ near. IsTrue near → M.near runner.new node.now.state) }
+    ensures noted { OnOk result (Marks (λ t k. (t ≡ track) × IsNoted M.notes (own owners.now (length tracks.now) job (opening part tracks.now) index) node.now t k) (λ t k. t ≡ track → IsQuiet M.quiet (own owners.now (length tracks.now) job (opening part tracks.now) index) node.now t k) next.old.noted.items next.new.noted.items) }
     ensures stopped { IfErr result (StopsAt M.breaks (opening part tracks.now) node.now next.old (ways_of M.last node.now.state (slice_get (own owners.now (length tracks.now) job (opening part tracks.now) index track) (slice_index node.now.places.items track)))) }
 {
     if !owners.takes(job, index, track, tracks.len()) {
@@ -150,6 +188,7 @@ fn expand<M: Machine>(
     requires sized { length node.now.places.items ≡ length tracks.now }
     ensures grown { OnOk result (Grows M.steps (opening part tracks.now) tracks.now node.now next.old next.new (by_tracks (own owners.now (length tracks.now) job (opening part tracks.now) index) node.now.places.items (length tracks.now)) (runs_of M.last (own owners.now (length tracks.now) job (opening part tracks.now) index) node.now (length tracks.now))) }
     ensures expanded { OnOk result (IsExpanded M.steps (own owners.now (length tracks.now) job (opening part tracks.now) index) (length tracks.now) node.now next.new.nodes.items) }
+    ensures noted { OnOk result (Marks (IsNoted M.notes (own owners.now (length tracks.now) job (opening part tracks.now) index) node.now) (IsQuiet M.quiet (own owners.now (length tracks.now) job (opening part tracks.now) index) node.now) next.old.noted.items next.new.noted.items) }
     ensures stopped { IfErr result (StopsAt M.breaks (opening part tracks.now) node.now next.old (runs_of M.last (own owners.now (length tracks.now) job (opening part tracks.now) index) node.now (length tracks.now))) }
 {
     let mut again = false;
@@ -165,7 +204,7 @@ fn expand<M: Machine>(
 }
 
 /// What a job finds behind a layer: what each node leads to by each line that the job takes, if orders of the part begin
-/// with its track. A watcher is told after each node.
+/// with its track. The lines that are noted are marked. A watcher is told after each node.
 pub(crate) fn expand_turns<M: Machine, W: Watch>(
     alloc: Global,
     layer: &[Node<M>],
@@ -176,15 +215,18 @@ pub(crate) fn expand_turns<M: Machine, W: Watch>(
     part: Part,
     runner: &mut M::Runner,
     spares: Vec<Node<M>>,
+    noted: Vec<Vec<bool>>,
     view: &View<'_, W>,
 ) -> Result<Layer<M>, Stop>
     requires { ArePlaced layer.now tracks.now }
-    ensures { MakesBy M.steps M.last M.breaks tracks.now part (own owners.now (length tracks.now) job (opening part tracks.now)) layer.now limits result }
+    ensures made { MakesBy M.steps M.last M.breaks tracks.now part (own owners.now (length tracks.now) job (opening part tracks.now)) layer.now limits result }
+    ensures noted { IfOk result (λ next. Marks (IsNotedBehind M.notes (own owners.now (length tracks.now) job (opening part tracks.now)) layer.now (length layer.now)) (IsQuietBehind M.quiet (own owners.now (length tracks.now) job (opening part tracks.now)) layer.now (length layer.now)) noted.items next.noted.items) }
 {
     let mut next = Layer::new(alloc, limits);
     // about as many as the layer has, and no more than there were in an earlier one
     next.make_room(alloc, spares.len().min(layer.len()))?;
     next.spares = spares;
+    next.noted = noted;
     next.weights = owners.weights(alloc, tracks.len())?;
     for index in 0..layer.len() {
         match expand(
@@ -215,13 +257,15 @@ pub(crate) fn expand_all<M: Machine, W: Watch>(
     part: Part,
     runner: &mut M::Runner,
     spares: Vec<Node<M>>,
+    noted: Vec<Vec<bool>>,
     view: &View<'_, W>,
 ) -> Result<Layer<M>, Stop>
     requires { ArePlaced layer.now tracks.now }
-    ensures { MakesNext M.steps M.last M.breaks tracks.now part layer.now limits result }
+    ensures made { MakesNext M.steps M.last M.breaks tracks.now part layer.now limits result }
+    ensures noted { IfOk result (λ next. Marks (IsNotedBehind M.notes (λ _. opening part tracks.now) layer.now (length layer.now)) (IsQuietBehind M.quiet (λ _. opening part tracks.now) layer.now (length layer.now)) noted.items next.noted.items) }
 {
     let owners = Owners::none(alloc);
     expand_turns(
-        alloc, layer, &owners, 0, limits, tracks, part, runner, spares, view,
+        alloc, layer, &owners, 0, limits, tracks, part, runner, spares, noted, view,
     )
 }

@@ -1,8 +1,9 @@
-ghost use Rattle.std.specs.Prelude.{◌<◌, IfOk, length};
+ghost use Rattle.std.specs.Prelude.{◌≡◌, ◌<◌, IfOk, length};
 ghost use Rattle.i3c_explore.specs.Explorations.{IsMadeBy, MakesNext};
 ghost use Rattle.i3c_explore.specs.Nexts.{ArePlaced};
+ghost use Rattle.i3c_explore.specs.Notes.{Adds, AreMarks, IsMarked, IsNotedBehind, IsQuietBehind, Marks};
 ghost use Rattle.i3c_explore.specs.Parts.{opening};
-ghost use Rattle.i3c_explore.specs.Jobs.{AreJobs};
+ghost use Rattle.i3c_explore.specs.Jobs.{AreJobs, IsMarkedByJobs, IsMarkedIn};
 ghost use Rattle.i3c_explore.specs.Owners.{own};
 
 use crate::expand::{expand_all, expand_turns};
@@ -11,6 +12,7 @@ use crate::limits::Limits;
 use crate::machine::Machine;
 use crate::merged::joined_by_jobs;
 use crate::node::Node;
+use crate::notes::{add, unmarked};
 use crate::owners::{Owners, owners_of};
 use crate::part::Part;
 use crate::stop::Stop;
@@ -84,7 +86,8 @@ fn expand_job<M: Machine>(
     part: Part,
 ) -> Result<Layer<M>, Stop>
     requires { ArePlaced layer.now tracks.now }
-    ensures { IfOk result (IsMadeBy M.steps M.last tracks.now part (own owners.now (length tracks.now) job.number (opening part tracks.now)) layer.now limits) }
+    ensures made { IfOk result (IsMadeBy M.steps M.last tracks.now part (own owners.now (length tracks.now) job.number (opening part tracks.now)) layer.now limits) }
+    ensures noted { IfOk result (λ next. AreMarks tracks.now (IsNotedBehind M.notes (own owners.now (length tracks.now) job.number (opening part tracks.now)) layer.now (length layer.now)) (IsQuietBehind M.quiet (own owners.now (length tracks.now) job.number (opening part tracks.now)) layer.now (length layer.now)) next.noted.items) }
 {
     let Job {
         number,
@@ -97,6 +100,7 @@ fn expand_job<M: Machine>(
         return Err(Stop::Most);
     };
     let mut runner = node.state.runner(alloc)?;
+    let noted = unmarked(alloc, tracks)?;
     let view = View {
         watch: &Unwatched,
         lines: 0,
@@ -112,6 +116,7 @@ fn expand_job<M: Machine>(
         part,
         &mut runner,
         spares,
+        noted,
         &view,
     ) {
         Ok(next) => Ok(next),
@@ -127,7 +132,32 @@ fn surplus_of<M: Machine>(
     spares.split_off(layer.len().min(spares.len()))
 }
 
-/// The layer that follows all nodes of a layer. Each job runs the lines that it owns.
+/// The lines of a block that jobs marked.
+fn marked_by_jobs<M: Machine>(
+    alloc: Global,
+    tracks: &[Vec<M::Line>],
+    layers: &[Result<Layer<M>, Stop>],
+) -> Result<Vec<Vec<bool>>, AllocError>
+    ensures { IfOk result (λ noted. AreMarks tracks.now (IsMarkedByJobs layers.now (length layers.now)) (λ t k. IsMarkedByJobs layers.now (length layers.now) t k → ⊥) noted.items) }
+{
+    let mut noted = unmarked(alloc, tracks)?;
+    for job in 0..layers.len() {
+        add_job(&mut noted, &layers[job]);
+    }
+    Ok(noted)
+}
+
+/// Marks the lines that a job marked.
+fn add_job<M: Machine>(noted: &mut Vec<Vec<bool>>, made: &Result<Layer<M>, Stop>)
+    ensures { Adds (IsMarkedIn made.now) noted.old.items noted.new.items }
+{
+    if let Ok(layer) = made {
+        add(noted, &layer.noted);
+    }
+}
+
+/// The layer that follows all nodes of a layer. Each job runs the lines that it owns. The marks are those of this layer
+/// alone.
 fn by_owners<R: Threads + Sync, M: Machine + Send + Sync>(
     rt: &R,
     alloc: Global,
@@ -136,29 +166,48 @@ fn by_owners<R: Threads + Sync, M: Machine + Send + Sync>(
     limits: Limits,
     tracks: &[Vec<M::Line>],
     part: Part,
-    handed: Handed<M>,
+    mut spares: Vec<Node<M>>,
+    codes: Vec<u64>,
 ) -> Result<Layer<M>, Stop>
 where
     M::Line: Sync,
     M::Runner: Send,
     requires some { 0 < jobs }
     requires sized { ArePlaced layer.now tracks.now }
-    ensures { IfOk result (IsMadeBy M.steps M.last tracks.now part (λ _. opening part tracks.now) layer.now limits) }
+    ensures made { IfOk result (IsMadeBy M.steps M.last tracks.now part (λ _. opening part tracks.now) layer.now limits) }
+    ensures noted { IfOk result (λ next. AreMarks tracks.now (IsNotedBehind M.notes (λ _. opening part tracks.now) layer.now (length layer.now)) (IsQuietBehind M.quiet (λ _. opening part tracks.now) layer.now (length layer.now)) next.noted.items) }
 {
     ask_for_room(alloc, MOST);
-    let Handed { mut spares, codes } = handed;
     let owners = owners_of(alloc, layer, codes, tracks, part, jobs)?;
     let surplus = surplus_of(&mut spares, layer)?;
     let all = jobs_of(alloc, jobs, spares, surplus)?;
     let expand = |job: Job<M>| -> Result<Layer<M>, Stop>
         requires { ArePlaced layer.now tracks.now }
-        ensures { IfOk result (IsMadeBy M.steps M.last tracks.entry.now part (own owners (length tracks.entry.now) job.number (opening part tracks.entry.now)) layer.entry.now limits) }
+        ensures made { IfOk result (IsMadeBy M.steps M.last tracks.entry.now part (own owners (length tracks.entry.now) job.number (opening part tracks.entry.now)) layer.entry.now limits) }
+        ensures noted { IfOk result (λ next. AreMarks tracks.entry.now (IsNotedBehind M.notes (own owners (length tracks.entry.now) job.number (opening part tracks.entry.now)) layer.entry.now (length layer.entry.now)) (IsQuietBehind M.quiet (own owners (length tracks.entry.now) job.number (opening part tracks.entry.now)) layer.entry.now (length layer.entry.now)) next.noted.items) }
     { expand_job(alloc, layer, &owners, job, limits, tracks, part) };
     let layers = map_vec(rt, all, &expand)?;
+    let noted = marked_by_jobs(alloc, tracks, &layers)?;
     match joined_by_jobs(rt, alloc, layers, owners.overlap, limits) {
-        Ok(next) => Ok(next),
+        Ok(mut next) => {
+            next.noted = noted;
+            Ok(next)
+        }
         Err(stop) => Err(stop),
     }
+}
+
+/// A layer that jobs made, with the marks of the layers before it.
+fn with_marks<M: Machine>(made: Layer<M>, before: Vec<Vec<bool>>) -> Layer<M>
+    ensures nodes { result.nodes ≡ made.nodes }
+    ensures limits { result.limits ≡ made.limits }
+    ensures noted { Adds (IsMarked made.noted.items) before.items result.noted.items }
+{
+    let mut next = made;
+    let mut noted = before;
+    add(&mut noted, &next.noted);
+    next.noted = noted;
+    next
 }
 
 /// The layer that follows all nodes of a layer, by up to `jobs` jobs. Where one of them finds a break or reaches a limit,
@@ -172,27 +221,31 @@ pub(crate) fn next_by_jobs<R: Threads + Sync, M: Machine + Send + Sync, W: Watch
     tracks: &[Vec<M::Line>],
     part: Part,
     runner: &mut M::Runner,
-    mut handed: Handed<M>,
+    handed: Handed<M>,
     view: &View<'_, W>,
 ) -> Result<Layer<M>, Stop>
 where
     M::Line: Sync,
     M::Runner: Send,
     requires { ArePlaced layer.now tracks.now }
-    ensures { MakesNext M.steps M.last M.breaks tracks.now part layer.now limits result }
+    ensures made { MakesNext M.steps M.last M.breaks tracks.now part layer.now limits result }
+    ensures noted { IfOk result (λ next. Marks (IsNotedBehind M.notes (λ _. opening part tracks.now) layer.now (length layer.now)) (IsQuietBehind M.quiet (λ _. opening part tracks.now) layer.now (length layer.now)) handed.noted.items next.noted.items) }
 {
+    let Handed {
+        mut spares,
+        codes,
+        noted,
+    } = handed;
     let useful = jobs.min(layer.len() / FEW);
     if useful > 1 {
-        let none = Handed {
-            spares: Vec::new(alloc),
-            codes: Vec::new(alloc),
-        };
-        let lent = mem::replace(&mut handed, none);
-        if let Ok(next) = by_owners(rt, alloc, useful, layer, limits, tracks, part, lent) {
+        let lent = mem::replace(&mut spares, Vec::new(alloc));
+        if let Ok(made) = by_owners(rt, alloc, useful, layer, limits, tracks, part, lent, codes) {
+            let next = with_marks(made, noted);
             view.tell(layer, &next.nodes, next.limits);
             return Ok(next);
         }
     }
-    let Handed { spares, codes: _ } = handed;
-    expand_all(alloc, layer, limits, tracks, part, runner, spares, view)
+    expand_all(
+        alloc, layer, limits, tracks, part, runner, spares, noted, view,
+    )
 }

@@ -33,6 +33,8 @@ pub(crate) struct Layer<M> {
     pub weights: Vec<u64>,
     /// The numbers of the nodes' places, or none.
     pub codes: Vec<u64>,
+    /// Whether each line of the block was noted so far, by tracks.
+    pub noted: Vec<Vec<bool>>,
 }
 
 /// What a layer hands on to the next one.
@@ -42,6 +44,8 @@ pub(crate) struct Handed<M> {
     pub spares: Vec<Node<M>>,
     /// The numbers of the layer's places, or none.
     pub codes: Vec<u64>,
+    /// Whether each line of the block was noted so far, by tracks.
+    pub noted: Vec<Vec<bool>>,
 }
 
 /// What a job found.
@@ -141,6 +145,7 @@ impl<M: Machine> Layer<M> {
             rank: 0,
             weights: Vec::new(alloc),
             codes: Vec::new(alloc),
+            noted: Vec::new(alloc),
         }
     }
 
@@ -158,6 +163,7 @@ impl<M: Machine> Layer<M> {
     pub(crate) fn turn_to(&mut self, rank: usize)
         ensures nodes { self.new.nodes ≡ self.old.nodes }
         ensures limits { self.new.limits ≡ self.old.limits }
+        ensures noted { self.new.noted ≡ self.old.noted }
     {
         self.rank = rank;
     }
@@ -191,6 +197,7 @@ impl<M: Machine> Layer<M> {
     fn note(&mut self, places: &Vec<usize>) -> Result<(), AllocError>
         ensures nodes { OnOk result (self.new.nodes ≡ self.old.nodes) }
         ensures limits { OnOk result (self.new.limits ≡ self.old.limits) }
+        ensures noted { OnOk result (self.new.noted ≡ self.old.noted) }
     {
         if self.weights.is_empty() {
             return Ok(());
@@ -204,6 +211,7 @@ impl<M: Machine> Layer<M> {
     fn push(&mut self, alloc: Global, key: u64, node: Node<M>) -> Result<(), AllocError>
         ensures nodes { OnOk result (self.new.nodes.items ≡ self.old.nodes.items ++ node ∷ []) }
         ensures limits { OnOk result (self.new.limits ≡ self.old.limits) }
+        ensures noted { OnOk result (self.new.noted ≡ self.old.noted) }
     {
         self.index.add(alloc, key)?;
         self.note(&node.places)?;
@@ -224,6 +232,7 @@ impl<M: Machine> Layer<M> {
         requires fits { slice_index node.now.places.items turn.track + 1 < 2 ^ 64 }
         ensures put { OnOk result (IsPutBehind self.old.nodes.items node.now turn (M.shown runner.now) self.new.nodes.items) }
         ensures charged { OnOk result (IsCharged self.old self.new 0) }
+        ensures noted { OnOk result (self.new.noted ≡ self.old.noted) }
         ensures full { IfErr result (IsFull self.old) }
     {
         let room = mem::replace(&mut self.room, Vec::new(alloc));
@@ -258,6 +267,7 @@ impl<M: Machine> Layer<M> {
             rank: _,
             weights: _,
             codes,
+            noted: _,
         } = self;
         Found {
             nodes,

@@ -13,6 +13,10 @@
 //! Lines run on one runner ([`Machine::Runner`]). It comes to the state of a node, and then to the state that the line leads
 //! to. A new state is kept, in the memory of a node that is no longer needed. So a step makes no state that isn't kept.
 //!
+//! A machine can note a line ([`Ran::Noted`]). [`Explored::noted`] tells of each line whether the machine noted it in some
+//! order. The contract says that a line that is told can be noted in some order, and that each other line can run without a
+//! note in every order (`AreNoted` in specs/Notes.antt).
+//!
 //! [`explore_part`] tries the orders of one [`Part`] alone. Each order is in exactly one part, and the parts' numbers of
 //! orders add up ([`parts_share_all`]).
 //!
@@ -24,7 +28,7 @@
 //! told how far it is.
 //!
 //! Not claimed: that there is memory enough, that the limits are enough, or how much time it takes. If a machine's steps are
-//! not determined, only those that its `run` chooses are tried.
+//! not determined, only those that its `run` chooses are tried, and a line that another choice would note may not be told.
 #![tactic(auto)]
 
 mod block;
@@ -42,10 +46,12 @@ mod machine;
 mod merged;
 mod node;
 mod node_queue;
+mod notes;
 mod ordered;
 mod owners;
 mod part;
 mod places;
+mod ran;
 mod splits;
 mod stop;
 mod turn;
@@ -57,6 +63,7 @@ pub use limits::Limits;
 pub use machine::Machine;
 pub use node::Node;
 pub use part::Part;
+pub use ran::Ran;
 pub use splits::{first_turns_split, parts_share_all};
 pub use stop::Stop;
 pub use turn::Turn;

@@ -1,5 +1,7 @@
-ghost use Rattle.std.specs.Prelude.{◌≡◌, ◌<◌, ◌≤◌, ◌^◌, ℕ, IfOk, IsTrue, OnOk, true, false};
+ghost use Rattle.std.specs.Prelude.{◌≡◌, ◌<◌, ◌≤◌, ◌^◌, ℕ, IfOk, IsTrue, OnOk};
+ghost use Rattle.i3c_explore.specs.declared.ran.Ran.{Ran as RanValue};
 
+use crate::ran::Ran;
 use std::alloc::{AllocError, Global};
 
 /// A machine that lines run on. A line can go several ways: a frame, for one, in which a device loses power at a bit.
@@ -22,22 +24,29 @@ pub trait Machine: Sized + Drop {
     /// A line breaks an expectation, in a way.
     ghost breaks: { Self → Self.Line → ℕ → Type 0 };
 
+    /// A line can be noted, in a way.
+    ghost notes: { Self → Self.Line → ℕ → Type 0 };
+
+    /// A line can run without a note, and break nothing, in a way.
+    ghost quiet: { Self → Self.Line → ℕ → Type 0 };
+
     /// What a runner remembers of its last line is true of this state, from which that line was run. A machine whose
     /// runners remember nothing has ⊤.
     ghost near: { Self.Runner → Self → Type 0 };
 
-    /// The last way to try, below 4,294,967,296. A later way leads to whatever some way up to this one leads to.
+    /// The last way to try, below 4,294,967,296. A later way leads to whatever some way up to this one leads to, and is
+    /// quiet if that one is.
     fn last_way(&self, line: &Self::Line) -> usize
         ensures way { result ≡ last self.now line.now }
         ensures small { result < 2 ^ 32 }
-        ensures last { (way : ℕ) → (tried : ℕ) × (tried ≤ result) × ((new : Self) → steps self.now line.now tried new → steps self.now line.now way new) };
+        ensures last { (way : ℕ) → (tried : ℕ) × (tried ≤ result) × ((new : Self) → steps self.now line.now tried new → steps self.now line.now way new) × (quiet self.now line.now tried → quiet self.now line.now way) };
 
     /// A runner, in this state.
     fn runner(&self, alloc: Global) -> Result<Self::Runner, AllocError>
         ensures { IfOk result (λ runner. shown runner ≡ self.now) };
 
     /// Runs a line from this state on a runner, whatever state that is in. `again` says that the line before was run from
-    /// this state too. Answers whether all that is expected holds.
+    /// this state too. Answers what came of it.
     fn run(
         &self,
         alloc: Global,
@@ -45,10 +54,12 @@ pub trait Machine: Sized + Drop {
         way: usize,
         again: bool,
         runner: &mut Self::Runner,
-    ) -> Result<bool, AllocError>
+    ) -> Result<Ran, AllocError>
         requires again { IsTrue again → near runner.old self.now }
-        ensures leads { IfOk result (λ held. held ≡ true → steps self.now line.now way (shown runner.new)) }
-        ensures broken { IfOk result (λ held. held ≡ false → breaks self.now line.now way) }
+        ensures leads { IfOk result (λ ran. (ran ≡ RanValue.Broken → ⊥) → steps self.now line.now way (shown runner.new)) }
+        ensures broken { IfOk result (λ ran. ran ≡ RanValue.Broken → breaks self.now line.now way) }
+        ensures noted { IfOk result (λ ran. ran ≡ RanValue.Noted → notes self.now line.now way) }
+        ensures quiet { IfOk result (λ ran. ran ≡ RanValue.Held → quiet self.now line.now way) }
         ensures near { OnOk result (near runner.new self.now) };
 
     /// The state that a runner is in. It takes the room of a spare one, if there is one.

@@ -1,10 +1,12 @@
-ghost use Rattle.std.specs.Prelude.{◌≡◌, [], ℕ, IfOk, List, Some, length};
+ghost use Rattle.std.specs.Prelude.{◌≡◌, ◌++◌, ◌∷◌, [], ℕ, IfOk, List, OnOk, Some, length};
+ghost use Rattle.i3c_explore.specs.Blocks.{block};
 ghost use Rattle.i3c_explore.specs.Counts.{IsShared};
 ghost use Rattle.i3c_explore.specs.Explorations.{Explores, MakesNext};
 ghost use Rattle.i3c_explore.specs.Layers.{IsAlone};
 ghost use Rattle.i3c_explore.specs.Nexts.{ArePlaced};
+ghost use Rattle.i3c_explore.specs.Notes.{HasShape, IsNotedBehind, IsQuietBehind, IsUnmarked, Marks};
 ghost use Rattle.i3c_explore.specs.Numbers.{IsNumber};
-ghost use Rattle.i3c_explore.specs.Parts.{whole};
+ghost use Rattle.i3c_explore.specs.Parts.{opening as opening_of, whole};
 ghost use Rattle.i3c_explore.specs.Shares.{all_below};
 
 use crate::block::explore_block;
@@ -15,10 +17,12 @@ use crate::layer::{Handed, Layer};
 use crate::limits::Limits;
 use crate::machine::Machine;
 use crate::node::{Node, sum};
+use crate::notes::all_unmarked;
 use crate::part::Part;
 use crate::stop::Stop;
 use crate::watch::{Unwatched, View, Watch, lines_of};
 use std::alloc::{AllocError, Global};
+use std::mem;
 use std::thread::Threads;
 
 /// What all orders lead to.
@@ -30,6 +34,8 @@ pub struct Explored<M> {
     pub orders: Option<u64>,
     /// The number of lines that were run.
     pub steps: u64,
+    /// Whether each line was noted in some order: by blocks, tracks and lines.
+    pub noted: Vec<Vec<Vec<bool>>>,
 }
 
 /// The number of orders that lead to some nodes.
@@ -58,17 +64,30 @@ fn first_layer<M: Machine>(alloc: Global, start: M, limits: Limits) -> Result<La
     Ok(layer)
 }
 
-/// What no order leads to.
-fn nothing<M>(alloc: Global) -> Explored<M>
-    ensures ends { result.ends.items ≡ [] }
-    ensures orders { result.orders ≡ Some 0 }
-    ensures steps { result.steps ≡ 0 }
+/// Adds the marks of a block behind those of the blocks before it.
+fn push_marks(noted: &mut Vec<Vec<Vec<bool>>>, marks: Vec<Vec<bool>>) -> Result<(), AllocError>
+    ensures { OnOk result (noted.new.items ≡ noted.old.items ++ marks ∷ []) }
 {
-    Explored {
+    noted.push(marks)?;
+    Ok(())
+}
+
+/// What no order leads to.
+fn nothing<M, L>(alloc: Global, blocks: &[Vec<Vec<L>>]) -> Result<Explored<M>, AllocError>
+    ensures ends { IfOk result (λ found. found.ends.items ≡ []) }
+    ensures orders { IfOk result (λ found. found.orders ≡ Some 0) }
+    ensures steps { IfOk result (λ found. found.steps ≡ 0) }
+    ensures sized { IfOk result (λ found. length found.noted.items ≡ length blocks.now) }
+    ensures shape { IfOk result (λ found. (b : ℕ) → HasShape (block blocks.now b) (block found.noted.items b)) }
+    ensures unmarked { IfOk result (λ found. (b : ℕ) → IsUnmarked (block found.noted.items b)) }
+{
+    let noted = all_unmarked(alloc, blocks)?;
+    Ok(Explored {
         ends: Vec::new(alloc),
         orders: Some(0),
         steps: 0,
-    }
+        noted,
+    })
 }
 
 /// Tries every order of the lines of some blocks, which run one after another from a start, each line in every way.
@@ -85,7 +104,7 @@ pub fn explore<M: Machine>(
     limits: Limits,
 ) -> Result<Explored<M>, Stop>
     // of the whole, which has every order (`parts_share_all`)
-    ensures { Explores M.steps M.last M.breaks whole blocks.now start limits result }
+    ensures { Explores M.steps M.last M.breaks M.notes M.quiet whole blocks.now start limits result }
 {
     explore_part(alloc, start, blocks, limits, Part::whole())
 }
@@ -102,7 +121,7 @@ pub fn explore_part<M: Machine>(
     limits: Limits,
     part: Part,
 ) -> Result<Explored<M>, Stop>
-    ensures { Explores M.steps M.last M.breaks part blocks.now start limits result }
+    ensures { Explores M.steps M.last M.breaks M.notes M.quiet part blocks.now start limits result }
 {
     let view = View {
         watch: &Unwatched,
@@ -113,10 +132,17 @@ pub fn explore_part<M: Machine>(
         M::Line,
     >], opening: Part, runner: &mut M::Runner, handed: Handed<M>| -> Result<Layer<M>, Stop>
         requires { ArePlaced layer.now tracks.now }
-        ensures { MakesNext M.steps M.last M.breaks tracks.now opening layer.now limits result }
+        ensures made { MakesNext M.steps M.last M.breaks tracks.now opening layer.now limits result }
+        ensures noted { IfOk result (λ next. Marks (IsNotedBehind M.notes (λ _. opening_of opening tracks.now) layer.now (length layer.now)) (IsQuietBehind M.quiet (λ _. opening_of opening tracks.now) layer.now (length layer.now)) handed.noted.items next.noted.items) }
     {
-        let Handed { spares, codes: _ } = handed;
-        expand_all(alloc, layer, limits, tracks, opening, runner, spares, &view)
+        let Handed {
+            spares,
+            codes: _,
+            noted,
+        } = handed;
+        expand_all(
+            alloc, layer, limits, tracks, opening, runner, spares, noted, &view,
+        )
     };
     explore_by(alloc, start, blocks, limits, part, &next_layer)
 }
@@ -140,7 +166,7 @@ pub fn explore_on<R: Threads + Sync, M: Machine + Send + Sync, W: Watch>(
 where
     M::Line: Sync,
     M::Runner: Send,
-    ensures { Explores M.steps M.last M.breaks part blocks.now start limits result }
+    ensures { Explores M.steps M.last M.breaks M.notes M.quiet part blocks.now start limits result }
 {
     let view = View {
         watch,
@@ -151,7 +177,8 @@ where
         M::Line,
     >], opening: Part, runner: &mut M::Runner, handed: Handed<M>| -> Result<Layer<M>, Stop>
         requires { ArePlaced layer.now tracks.now }
-        ensures { MakesNext M.steps M.last M.breaks tracks.now opening layer.now limits result }
+        ensures made { MakesNext M.steps M.last M.breaks tracks.now opening layer.now limits result }
+        ensures noted { IfOk result (λ next. Marks (IsNotedBehind M.notes (λ _. opening_of opening tracks.now) layer.now (length layer.now)) (IsQuietBehind M.quiet (λ _. opening_of opening tracks.now) layer.now (length layer.now)) handed.noted.items next.noted.items) }
     {
         next_by_jobs(
             rt, alloc, jobs, layer, limits, tracks, opening, runner, handed, &view,
@@ -184,17 +211,21 @@ fn explore_by<
     requires accepts { (layer : _) (limits : _) (lines : _) (opening : _) (runner : _) (handed : _) → ArePlaced layer.now lines.now → F.pre next_layer.now layer limits lines opening runner handed }
     requires makes { (layer : _) (limits : _) (lines : _) (opening : _) (runner : _) (handed : _) (made : _) (after : _) → F.post next_layer.now layer limits lines opening runner handed made after
         → MakesNext M.steps M.last M.breaks lines.now opening layer.now limits made }
-    ensures { Explores M.steps M.last M.breaks part blocks.now start limits result }
+    requires marks { (layer : _) (limits : _) (lines : _) (opening : _) (runner : _) (handed : _) (made : _) (after : _) → F.post next_layer.now layer limits lines opening runner handed made after
+        → IfOk made (λ next. Marks (IsNotedBehind M.notes (λ _. opening_of opening lines.now) layer.now (length layer.now)) (IsQuietBehind M.quiet (λ _. opening_of opening lines.now) layer.now (length layer.now)) handed.noted.items next.noted.items) }
+    ensures { Explores M.steps M.last M.breaks M.notes M.quiet part blocks.now start limits result }
 {
     let split = fork(blocks);
     if !part.has_orders(split, blocks.len()) {
-        return Ok(nothing(alloc));
+        let none = nothing(alloc, blocks)?;
+        return Ok(none);
     }
     if limits.states == 0 {
         return Err(Stop::Most);
     }
     let mut runner = start.runner(alloc)?;
     let mut layer = first_layer(alloc, start, limits)?;
+    let mut noted = Vec::new(alloc);
     for index in 0..blocks.len() {
         let opening = part.only_if(index == split);
         layer = match explore_block(
@@ -208,6 +239,7 @@ fn explore_by<
             Ok(layer) => layer,
             Err(stop) => return Err(stop),
         };
+        push_marks(&mut noted, mem::replace(&mut layer.noted, Vec::new(alloc)))?;
     }
     let orders = total(&layer.nodes);
     let steps = limits.steps.saturating_sub(layer.limits.steps);
@@ -215,5 +247,6 @@ fn explore_by<
         ends: layer.nodes,
         orders,
         steps,
+        noted,
     })
 }

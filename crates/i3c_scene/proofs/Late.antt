@@ -1,7 +1,6 @@
 -- Cuts behind the last bit of a line's frame lose nobody: the line does what it does without them.
 use Rattle.std.proofs.Common.{min, Result, Err, Ok, ◌≡◌, ◌≢◌, ◌∙◌, ◌⊎◌, ℕ, zero, suc, ap, ◌<◌, ◌≤◌, Bool, true, false, not, ◌&&◌, ◌==◌, eq-eqb, is_some, List, [], ◌∷◌, max, Option, None, Some, arith, inl, inr, refl, subst, sym, if◌then◌else◌}
-use Rattle.std.specs.declared.alloc.AllocError.{AllocError}
-use Rattle.std.specs.Prelude.{IfOk, MatchOption}
+use Rattle.std.specs.Prelude.{MatchOption}
 use Rattle.std.proofs.Math.Nat.{le-max_left, le-max_right}
 use Rattle.std.proofs.lemmas.Bool.{false≢true}
 use Rattle.std.proofs.lemmas.Bool.Decides.{leb_tells, nat_tests}
@@ -39,6 +38,7 @@ use Rattle.i3c_script.specs.Telling.{IsTold}
 use Rattle.i3c_script.specs.Unkept.{no_past}
 use Rattle.i3c_script.proofs.Moving.{all_taken, carries_cuts, one_subject}
 use Rattle.i3c_facts.specs.declared.before.Before.{Before}
+use Rattle.i3c_explore.specs.declared.ran.Ran.{Ran}
 use Rattle.i3c_scene.specs.declared.line.Line.{Line}
 use Rattle.i3c_scene.specs.declared.named.Named.{Named}
 use Rattle.i3c_scene.specs.declared.risk.Risk.{Risk}
@@ -47,7 +47,7 @@ use Rattle.i3c_scene.specs.Going.{Does, cut_in, is_acting, on_bus, risked, sends
 use Rattle.i3c_scene.specs.Latest.{last_bit, last_of_frame, last_of_sent, latest, tried_as}
 use Rattle.i3c_scene.specs.Pairs.{pair, within}
 use Rattle.i3c_scene.specs.Scenes.{Seen, known_kept, place_in, seen}
-use Rattle.i3c_scene.specs.Trying.{LineBreaks, LineSteps, Runs, RunsIn, all_hold, slot_at_risk}
+use Rattle.i3c_scene.specs.Trying.{LineComesTo, LineSteps, Runs, RunsIn, slot_at_risk}
 use Rattle.i3c_scene.proofs.Pairs.{placed}
 
 -- with a late cut of a device that isn't the active controller, each step of the uncut frame is allowed
@@ -417,35 +417,12 @@ way_tried old (Some command) (Risk.Two name other) way =
     )
 
 -- so each way of a line does what one of those up to the last one does
-pub line_late : (old : Seen) (line : Line) (way : ℕ) → (tried : ℕ) × (tried ≤ latest old line.risk line.command) × ((new : Seen) → LineSteps old line tried new → LineSteps old line way new)
+pub line_late : (old : Seen) (line : Line) (way : ℕ) → (tried : ℕ) × (tried ≤ latest old line.risk line.command) × ((new : Seen) → LineSteps old line tried new → LineSteps old line way new) × (LineComesTo Ran.Held old line tried → LineComesTo Ran.Held old line way)
 line_late old line way =
     let (tried, (le, leads)) = way_tried old line.command line.risk way in
-    (tried, le, λ new (before, runs, held). (before, leads before new runs, held))
-
--- the result of a line that was tried in a way
-pub tried_of : (old live : Seen) (line : Line) (way : ℕ) (tried : Ways) (result : Result Bool AllocError) (held : Bool) (new : Seen) → live ≡ old → tried ≡ tried_as old.state line.risk line.command way → result ≡ Ok held
-    → IfOk result (λ (h : Bool). (before : Before) × RunsIn live line.command line.risk tried before new × (h ≡ all_hold new before line.expectations.items))
-    → (before : Before) × Runs old line.command line.risk way before new × (held ≡ all_hold new before line.expectations.items)
-tried_of old live line way tried result held new same is ok told =
-    let t = subst (λ (r : Result Bool AllocError). IfOk r (λ (h : Bool). (before : Before) × RunsIn live line.command line.risk tried before new × (h ≡ all_hold new before line.expectations.items))) ok told in
-    let runs = subst (λ (s : Seen). RunsIn s line.command line.risk (tried_as old.state line.risk line.command way) t.0 new) same (subst (λ (w : Ways). RunsIn live line.command line.risk w t.0 new) is t.1) in
-    (t.0, runs_tried old line.command line.risk t.0 new way runs, t.2)
+    (tried, le, λ new (before, runs, held). (before, leads before new runs, held), λ (before, new, runs, is). (before, new, leads before new runs, is))
 
 -- a line that ran in the ways that are tried for a way ran in that way
 pub runs_as : (old live : Seen) (line : Line) (way : ℕ) (tried : Ways) (before : Before) (new : Seen) → live ≡ old → tried ≡ tried_as old.state line.risk line.command way → RunsIn live line.command line.risk tried before new → Runs old line.command line.risk way before new
 runs_as old live line way tried before new same is runs =
     runs_tried old line.command line.risk before new way (subst (λ (s : Seen). RunsIn s line.command line.risk (tried_as old.state line.risk line.command way) before new) same (subst (λ (w : Ways). RunsIn live line.command line.risk w before new) is runs))
-
--- a line that was tried leads on if all that is expected holds
-pub leads_of : (old live : Seen) (line : Line) (way : ℕ) (tried : Ways) (result : Result Bool AllocError) (new : Seen) → live ≡ old → tried ≡ tried_as old.state line.risk line.command way
-    → IfOk result (λ (h : Bool). (before : Before) × RunsIn live line.command line.risk tried before new × (h ≡ all_hold new before line.expectations.items))
-    → IfOk result (λ (h : Bool). h ≡ true → LineSteps old line way new)
-leads_of old live line way tried (Ok held) new same is told = λ sure. let t = tried_of old live line way tried (Ok held) held new same is refl told in (t.0, t.1, sym t.2 ∙ sure)
-leads_of old live line way tried (Err short) new same is told = tt
-
--- and breaks an expectation if not
-pub breaks_of : (old live : Seen) (line : Line) (way : ℕ) (tried : Ways) (result : Result Bool AllocError) (new : Seen) → live ≡ old → tried ≡ tried_as old.state line.risk line.command way
-    → IfOk result (λ (h : Bool). (before : Before) × RunsIn live line.command line.risk tried before new × (h ≡ all_hold new before line.expectations.items))
-    → IfOk result (λ (h : Bool). h ≡ false → LineBreaks old line way)
-breaks_of old live line way tried (Ok held) new same is told = λ broken. let t = tried_of old live line way tried (Ok held) held new same is refl told in (t.0, new, t.1, sym t.2 ∙ broken)
-breaks_of old live line way tried (Err short) new same is told = tt

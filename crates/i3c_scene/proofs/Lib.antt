@@ -3,3 +3,4 @@ pub mod Late
 mod Behind
 mod Setting
 mod Ran
+pub mod Outcomes

@@ -42,9 +42,9 @@ ran_heard old cut new line command sent risk ways outcome ended start heard is s
 
 -- and where nobody heard it
 pub ran_unheard : {L : Type 0} (hears : L → Piece → L) (old cut new : Seen) (line : Option Command) (command : Command) (sent : Bool) (risk : Risk) (ways : Ways) (outcome : Result (Unit {0}) (LineError Refusal)) (ended : LineResult) (start heard : L) → line ≡ Some command
-    → sent ≡ sends old.state old.names command → cut ≡ cut_as old sent risk ways → Hears hears (λ (pieces : List Piece) (refused : Option Refusal). Does cut command pieces refused new) start heard outcome → IsEndOf outcome ended → (before : Before) × RunsIn old line risk ways before new
+    → sent ≡ sends old.state old.names command → cut ≡ cut_as old sent risk ways → Hears hears (λ (pieces : List Piece) (refused : Option Refusal). Does cut command pieces refused new) start heard outcome → IsEndOf outcome ended → (before : Before) × RunsIn old line risk ways before new × (ended ≡ before.result)
 ran_unheard hears old cut new line command sent risk ways (Ok done) ended start heard is sent_so cut_so (pieces, told, does) same =
-    (came_to pieces None, runs_so old cut new line command sent risk ways (came_to pieces None) pieces None is sent_so cut_so does refl)
+    (came_to pieces None, runs_so old cut new line command sent risk ways (came_to pieces None) pieces None is sent_so cut_so does refl, same)
 ran_unheard hears old cut new line command sent risk ways (Err (LineError.Refused why)) ended start heard is sent_so cut_so (pieces, told, does) same =
-    (came_to pieces (Some why), runs_so old cut new line command sent risk ways (came_to pieces (Some why)) pieces (Some why) is sent_so cut_so does refl)
+    (came_to pieces (Some why), runs_so old cut new line command sent risk ways (came_to pieces (Some why)) pieces (Some why) is sent_so cut_so does refl, same)
 ran_unheard hears old cut new line command sent risk ways (Err LineError.Memory) ended start heard is sent_so cut_so told same = absurd same

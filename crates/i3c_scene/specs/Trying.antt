@@ -1,5 +1,5 @@
 -- Lines that are tried in each way, and what is expected behind them.
-use Rattle.std.specs.Prelude.{◌≡◌, ℕ, Bool, true, false, ◌&&◌, List, [], ◌∷◌, Option, None, Some, Result, Ok, Err}
+use Rattle.std.specs.Prelude.{◌≡◌, ℕ, Bool, true, false, ◌&&◌, not, if◌then◌else◌, List, [], ◌∷◌, Option, None, Some, Result, Ok, Err}
 use Rattle.i3c_facts.specs.declared.before.Before.{Before}
 use Rattle.i3c_facts.specs.declared.before.LineResult.{LineResult}
 use Rattle.i3c_facts.specs.Hearing.{came_to, no_line}
@@ -9,6 +9,7 @@ use Rattle.i3c_lines.specs.declared.names.Name.{Name}
 use Rattle.i3c_lines.specs.declared.refusals.Refusal.{Refusal}
 use Rattle.i3c_script.specs.declared.piece.Piece.{Piece}
 use Rattle.i3c_text.specs.declared.line_error.LineError.{LineError}
+use Rattle.i3c_explore.specs.declared.ran.Ran.{Ran}
 use Rattle.i3c_scene.specs.declared.line.Expectation.{Expectation}
 use Rattle.i3c_scene.specs.declared.line.Line.{Line}
 use Rattle.i3c_scene.specs.declared.risk.Risk.{Risk}
@@ -53,6 +54,28 @@ Runs old command risk way before new = RunsIn old command risk (ways_of risk way
 abbrev pub all_hold : Seen → Before → List Expectation → Bool
 all_hold new before [] = true
 all_hold new before (one ∷ rest) = claims_hold new.state (place_in new.names) before one.facts && all_hold new before rest
+
+-- something is expected of one line alone, and not of each line of a block
+abbrev pub is_expected_in : List Expectation → Bool
+is_expected_in [] = false
+is_expected_in (one ∷ rest) = if one.lasts then is_expected_in rest else true
+
+abbrev pub is_expected : Line → Bool
+is_expected line = is_expected_in line.expectations.items
+
+-- the line before was refused
+abbrev pub was_refused : LineResult → Bool
+was_refused (LineResult.Refused why) = true
+was_refused ended = false
+
+-- what comes of a line that ended so: an expectation is broken, or a refusal is noted of which nothing was expected, or neither
+abbrev pub outcome : Seen → Before → Line → Ran
+outcome new before line =
+    if all_hold new before line.expectations.items then (if was_refused before.result && not (is_expected line) then Ran.Noted else Ran.Held) else Ran.Broken
+
+-- a line runs from a scene in a way, and this comes of it
+abbrev pub LineComesTo : Ran → Seen → Line → ℕ → Type 0
+LineComesTo ran old line way = (before : Before) × (new : Seen) × Runs old line.command line.risk way before new × (outcome new before line ≡ ran)
 
 -- a line leads from one scene to another in a way: it runs, and what is expected holds
 abbrev pub LineSteps : Seen → Line → ℕ → Seen → Type 0

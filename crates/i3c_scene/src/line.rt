@@ -1,3 +1,6 @@
+ghost use Rattle.std.specs.Prelude.{◌≡◌};
+ghost use Rattle.i3c_scene.specs.Trying.{is_expected, is_expected_in};
+
 use crate::risk::Risk;
 use i3c_facts::Facts;
 use i3c_lines::Command;
@@ -7,6 +10,8 @@ use i3c_lines::Command;
 pub struct Expectation {
     /// The number of its line in the file, from 1 on.
     pub number: u64,
+    /// Whether it is expected of each line of a block, and not of this line alone.
+    pub lasts: bool,
     /// What has to hold.
     pub facts: Facts,
 }
@@ -22,4 +27,25 @@ pub struct Line {
     pub risk: Risk,
     /// What is expected.
     pub expectations: Vec<Expectation>,
+}
+
+impl Line {
+    /// Whether something is expected of this line itself, and not only of each line of its block.
+    pub(crate) fn is_expected(&self) -> bool
+        ensures { result ≡ is_expected self.now }
+    {
+        is_expected_in(self.expectations.as_slice())
+    }
+}
+
+/// Whether one of these is expected of one line alone.
+fn is_expected_in(expectations: &[Expectation]) -> bool
+    ensures { result ≡ is_expected_in expectations.now }
+{
+    for index in 0..expectations.len() {
+        if !expectations[index].lasts {
+            return true;
+        }
+    }
+    false
 }

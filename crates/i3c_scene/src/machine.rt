@@ -4,7 +4,7 @@ use crate::runner::Runner;
 use crate::scene::Scene;
 use crate::ways::{Ways, ways_of};
 use i3c_base::Slot;
-use i3c_explore::Machine;
+use i3c_explore::{Machine, Ran};
 use i3c_lines::{Command, Name, Naming, Place, Sent};
 use i3c_step::Command as Frame;
 use std::alloc::{AllocError, Global};
@@ -13,7 +13,8 @@ impl Machine for Scene {
     ghost use Rattle.std.specs.Prelude.{◌≡◌, IfOk};
     ghost use Rattle.i3c_scene.specs.Latest.{latest};
     ghost use Rattle.i3c_scene.specs.Near.{IsCloseTo};
-    ghost use Rattle.i3c_scene.specs.Trying.{LineBreaks, LineSteps};
+    ghost use Rattle.i3c_explore.specs.declared.ran.Ran.{Ran as RanValue};
+    ghost use Rattle.i3c_scene.specs.Trying.{LineBreaks, LineComesTo, LineSteps};
 
     type Line = Line;
 
@@ -26,6 +27,10 @@ impl Machine for Scene {
     ghost last = { λ scene line. latest scene line.risk line.command };
 
     ghost breaks = { LineBreaks };
+
+    ghost notes = { LineComesTo RanValue.Noted };
+
+    ghost quiet = { LineComesTo RanValue.Held };
 
     ghost near = { λ runner scene. IsCloseTo runner.set runner.touched scene runner.live };
 
@@ -45,7 +50,7 @@ impl Machine for Scene {
         way: usize,
         again: bool,
         runner: &mut Runner,
-    ) -> Result<bool, AllocError> {
+    ) -> Result<Ran, AllocError> {
         let tried = self.ways_tried(line, way);
         runner.wake_to(alloc, self, again)?;
         runner.tried(line, tried)
@@ -92,11 +97,13 @@ impl Scene {
         ensures broken { IfOk result (λ next. next ≡ None → LineBreaks self.now line.now way) }
     {
         let mut runner = self.runner(alloc)?;
-        if !self.run(alloc, line, way, false, &mut runner)? {
-            return Ok(None);
+        match self.run(alloc, line, way, false, &mut runner)? {
+            Ran::Broken => Ok(None),
+            Ran::Held | Ran::Noted => {
+                let scene = runner.live.kept(alloc)?;
+                Ok(Some(scene))
+            }
         }
-        let scene = runner.live.kept(alloc)?;
-        Ok(Some(scene))
     }
 
     /// The last way of a line that has to be tried.

@@ -3,6 +3,7 @@ use crate::scene::Scene;
 use crate::scene_bus::{SceneBus, sets_some};
 use crate::ways::Ways;
 use i3c_base::Slot;
+use i3c_explore::Ran;
 use std::alloc::{AllocError, Global};
 
 /// A bus awake that lines are run on, one after another.
@@ -19,7 +20,7 @@ impl Runner {
     ghost use Rattle.std.specs.Prelude.{◌≡◌, ◌<◌, ◌^◌, IfOk, IfSome, IsTrue, OnOk};
     ghost use Rattle.i3c_facts.specs.declared.before.Before.{Before as BeforeValue};
     ghost use Rattle.i3c_scene.specs.Near.{IsCloseTo};
-    ghost use Rattle.i3c_scene.specs.Trying.{RunsIn, all_hold};
+    ghost use Rattle.i3c_scene.specs.Trying.{RunsIn, outcome};
 
     /// One on which no line ran.
     pub(crate) fn new(live: SceneBus) -> Runner
@@ -52,12 +53,12 @@ impl Runner {
         }
     }
 
-    /// Tries a line in these ways of the devices at risk, from the scene that it is in: whether all that is expected holds.
+    /// Tries a line in these ways of the devices at risk, from the scene that it is in: what comes of it.
     #[tactic(auto, using(crate::proofs::Setting::run_same))]
-    pub(crate) fn tried(&mut self, line: &Line, ways: Ways) -> Result<bool, AllocError>
+    pub(crate) fn tried(&mut self, line: &Line, ways: Ways) -> Result<Ran, AllocError>
         requires one { ways.one < 2 ^ 16 }
         requires other { ways.other < 2 ^ 16 }
-        ensures tried { IfOk result (λ held. (before : BeforeValue) × RunsIn self.old.live line.now.command line.now.risk ways before self.new.live × (held ≡ all_hold self.new.live before line.now.expectations.items)) }
+        ensures tried { IfOk result (λ ran. (before : BeforeValue) × RunsIn self.old.live line.now.command line.now.risk ways before self.new.live × (ran ≡ outcome self.new.live before line.now)) }
         ensures near { OnOk result (IsCloseTo self.new.set self.new.touched self.old.live self.new.live) }
     {
         self.set = sets_some(&line.command);

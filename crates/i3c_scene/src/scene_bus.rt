@@ -1,5 +1,5 @@
 ghost use Rattle.std.specs.Prelude.{◌≡◌, IfOk};
-ghost use Rattle.i3c_scene.specs.Trying.{IsEndOf};
+ghost use Rattle.i3c_scene.specs.Trying.{IsEndOf, was_refused};
 ghost use Rattle.i3c_scene.specs.Near.{sets_some};
 
 use crate::line::{Expectation, Line};
@@ -9,6 +9,7 @@ use crate::scene_names::SceneNames;
 use crate::ways::Ways;
 use i3c_base::Slot;
 use i3c_bus::{Bus, BusSnapshot};
+use i3c_explore::Ran;
 use i3c_facts::{Before, Heard, LineResult};
 use i3c_lines::{Command, Name, Naming, Place, Refusal, slot_meant};
 use i3c_script::{Deaf, Listener, ScriptBus, Unkept};
@@ -66,7 +67,7 @@ impl SceneBus {
     ghost use Rattle.i3c_scene.specs.Near.{HasSameSettings, IsBehind, Raises, RaisesIn};
     ghost use Rattle.i3c_script.specs.Hearing.{Hears};
     ghost use Rattle.i3c_facts.specs.declared.before.Before.{Before as BeforeValue};
-    ghost use Rattle.i3c_scene.specs.Trying.{RunsIn, all_hold, cut_as, slot_at_risk};
+    ghost use Rattle.i3c_scene.specs.Trying.{RunsIn, all_hold, cut_as, outcome, slot_at_risk, was_refused};
     ghost use Rattle.i3c_scene.specs.declared.ways.Ways.{Ways as WaysValue};
     ghost use Rattle.i3c_scene.specs.Going.{Does, cut_in, is_acting, risked, sends};
 
@@ -111,19 +112,19 @@ impl SceneBus {
         }
     }
 
-    /// Tries a line that raises an interrupt in this slot: whether all that is expected holds. It changes no other slot.
+    /// Tries a line that raises an interrupt in this slot: what comes of it. It changes no other slot.
     pub(crate) fn try_raise(
         &mut self,
         line: &Line,
         slot: Slot,
         byte: Option<u8>,
-    ) -> Result<bool, AllocError>
+    ) -> Result<Ran, AllocError>
         requires { RaisesIn self.old line.now.command slot byte }
-        ensures tried { IfOk result (λ held. (before : BeforeValue) × ((ways : WaysValue) → RunsIn self.old line.now.command line.now.risk ways before self.new) × (held ≡ all_hold self.new before line.now.expectations.items)) }
+        ensures tried { IfOk result (λ ran. (before : BeforeValue) × ((ways : WaysValue) → RunsIn self.old line.now.command line.now.risk ways before self.new) × (ran ≡ outcome self.new before line.now)) }
         ensures behind { OnOk result (IsBehind slot self.old self.new) }
     {
         match self.raise(slot, byte) {
-            Ok(raised) => Ok(self.all_hold(&raised, line.expectations.as_slice())),
+            Ok(raised) => Ok(self.outcome(&raised, line)),
             Err(short) => Err(short),
         }
     }
@@ -193,37 +194,38 @@ impl SceneBus {
         &self.known
     }
 
-    /// Tries a line in these ways of the devices at risk: whether all that is expected holds.
-    pub(crate) fn tried(&mut self, line: &Line, ways: Ways) -> Result<bool, AllocError>
+    /// Tries a line in these ways of the devices at risk: what comes of it.
+    pub(crate) fn tried(&mut self, line: &Line, ways: Ways) -> Result<Ran, AllocError>
         requires one { ways.one < 2 ^ 16 }
         requires other { ways.other < 2 ^ 16 }
-        ensures { IfOk result (λ held. (before : BeforeValue) × RunsIn self.old line.now.command line.now.risk ways before self.new × (held ≡ all_hold self.new before line.now.expectations.items)) }
+        ensures { IfOk result (λ ran. (before : BeforeValue) × RunsIn self.old line.now.command line.now.risk ways before self.new × (ran ≡ outcome self.new before line.now)) }
     {
         if line.expectations.is_empty() {
             return match self.run_unheard(line, ways) {
-                Ok(()) => Ok(true),
+                Ok(true) => Ok(Ran::Noted),
+                Ok(false) => Ok(Ran::Held),
                 Err(short) => Err(short),
             };
         }
         match self.run(line, ways) {
-            Ok(before) => Ok(self.all_hold(&before, line.expectations.as_slice())),
+            Ok(before) => Ok(self.outcome(&before, line)),
             Err(short) => Err(short),
         }
     }
 
-    /// Runs a line in these ways of the devices at risk, with nobody to hear what it comes to.
-    fn run_unheard(&mut self, line: &Line, ways: Ways) -> Result<(), AllocError>
+    /// Runs a line in these ways of the devices at risk, with nobody to hear what it comes to. Answers whether it was refused.
+    fn run_unheard(&mut self, line: &Line, ways: Ways) -> Result<bool, AllocError>
         requires one { ways.one < 2 ^ 16 }
         requires other { ways.other < 2 ^ 16 }
-        ensures { OnOk result ((before : BeforeValue) × RunsIn self.old line.now.command line.now.risk ways before self.new) }
+        ensures { IfOk result (λ refused. (before : BeforeValue) × RunsIn self.old line.now.command line.now.risk ways before self.new × (refused ≡ was_refused before.result)) }
     {
         let Some(command) = &line.command else {
-            return Ok(());
+            return Ok(false);
         };
         let sent = self.sends(command);
         self.cut_as(sent, &line.risk, ways);
         match end_of(self.obey(command, &mut Deaf)) {
-            Ok(_) => Ok(()),
+            Ok(ended) => Ok(was_refused(&ended)),
             Err(short) => Err(short),
         }
     }
@@ -338,6 +340,19 @@ impl SceneBus {
         }
     }
 
+    /// What comes of a line, behind which facts know this.
+    fn outcome(&self, before: &Before, line: &Line) -> Ran
+        ensures { result ≡ outcome self.now before.now line.now }
+    {
+        if !self.all_hold(before, line.expectations.as_slice()) {
+            return Ran::Broken;
+        }
+        if was_refused(&before.result) && !line.is_expected() {
+            return Ran::Noted;
+        }
+        Ran::Held
+    }
+
     /// Whether all that is expected holds.
     pub(crate) fn all_hold(&self, before: &Before, expectations: &[Expectation]) -> bool
         ensures { result ≡ all_hold self.now before.now expectations.now }
@@ -370,6 +385,13 @@ fn end_of(outcome: Result<(), LineError<Refusal>>) -> Result<LineResult, AllocEr
         Err(LineError::Refused(why)) => Ok(LineResult::Refused(why)),
         Err(LineError::Memory) => Err(AllocError),
     }
+}
+
+/// Whether the line before was refused.
+fn was_refused(ended: &LineResult) -> bool
+    ensures { result ≡ was_refused ended.now }
+{
+    matches!(ended, LineResult::Refused(_))
 }
 
 /// Whether a command may give a name, or set what frames accept or which records have left the log.

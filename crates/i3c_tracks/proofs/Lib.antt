@@ -6,3 +6,4 @@ mod EndLaws
 mod KeyLaws
 mod GroupLaws
 mod QuestionLaws
+mod UnexpectedLaws

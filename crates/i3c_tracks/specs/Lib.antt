@@ -7,6 +7,7 @@ pub mod Courses
 pub mod Ends
 pub mod Questions
 pub mod Groups
+pub mod Unexpected
 pub mod Reports
 pub mod Answering
 pub mod Taking

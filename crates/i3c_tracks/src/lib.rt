@@ -24,6 +24,7 @@ mod question;
 mod refusal;
 mod report;
 mod showing;
+mod unexpected;
 
 pub use answer::Answer;
 pub use explore_fault::ExploreFault;

@@ -1,7 +1,7 @@
-ghost use Rattle.std.specs.Prelude.{◌≡◌, ◌≤◌, ◌^◌, IfOk, MatchOption};
-ghost use Rattle.test_explore.specs.Counters.{counted as counted_as};
+ghost use Rattle.std.specs.Prelude.{◌≡◌, ◌≤◌, ◌^◌, ◌↔◌, IfOk, IsTrue, MatchOption};
+ghost use Rattle.test_explore.specs.Counters.{IsNotable, counted as counted_as};
 
-use i3c_explore::Machine;
+use i3c_explore::{Machine, Ran};
 use std::alloc::{AllocError, Global};
 
 /// A counter below 1000.
@@ -11,7 +11,8 @@ pub struct Counter {
     pub count: u64,
 }
 
-/// A line, which changes the counter. It breaks an expectation where the counter comes to 1000.
+/// A line, which changes the counter. It breaks an expectation where the counter comes to 1000. A `Risk` is noted in each
+/// way but 0.
 #[derive(Clone, Copy, Debug, PartialEq, Eq)]
 pub enum Line {
     /// Adds a number.
@@ -24,6 +25,8 @@ pub enum Line {
     Risk(u8),
     /// Adds the way's number, up to this one.
     Spread(u8),
+    /// Changes nothing. It is noted where the counter is at this number.
+    Flag(u8),
 }
 
 /// The counter after a line.
@@ -42,12 +45,24 @@ fn counted(count: u64, line: &Line, way: usize) -> Option<u64>
             }
         }
         Line::Spread(most) => count.checked_add(way.min(usize::from(*most)) as u64),
+        Line::Flag(_) => Some(count),
+    }
+}
+
+/// Whether a line is noted.
+fn is_noted(count: u64, line: &Line, way: usize) -> bool
+    ensures { IsTrue result ↔ IsNotable count line.now way }
+{
+    match line {
+        Line::Risk(_) => way > 0,
+        Line::Flag(at) => count == u64::from(*at),
+        Line::Add(_) | Line::Double | Line::Clear | Line::Spread(_) => false,
     }
 }
 
 impl Machine for Counter {
     ghost use Rattle.std.specs.Prelude.{⊤};
-    ghost use Rattle.test_explore.specs.Counters.{Counts, Overflows, last_of};
+    ghost use Rattle.test_explore.specs.Counters.{Counts, GoesQuietly, IsNotable, Overflows, last_of};
 
     type Line = Line;
 
@@ -61,13 +76,17 @@ impl Machine for Counter {
 
     ghost breaks = { Overflows };
 
+    ghost notes = { λ counter line way. IsNotable counter.count line way };
+
+    ghost quiet = { GoesQuietly };
+
     ghost near = { λ runner counter. ⊤ };
 
     fn last_way(&self, line: &Line) -> usize {
         match line {
             Line::Risk(_) => 1,
             Line::Spread(most) => usize::from(*most),
-            Line::Add(_) | Line::Double | Line::Clear => 0,
+            Line::Add(_) | Line::Double | Line::Clear | Line::Flag(_) => 0,
         }
     }
 
@@ -82,13 +101,17 @@ impl Machine for Counter {
         way: usize,
         _again: bool,
         runner: &mut Counter,
-    ) -> Result<bool, AllocError> {
+    ) -> Result<Ran, AllocError> {
         match counted(self.count, line, way) {
             Some(count) if count < 1000 => {
                 runner.count = count;
-                Ok(true)
+                Ok(if is_noted(self.count, line, way) {
+                    Ran::Noted
+                } else {
+                    Ran::Held
+                })
             }
-            _ => Ok(false),
+            _ => Ok(Ran::Broken),
         }
     }
 

@@ -364,10 +364,11 @@ fn is_same_end(one: &Node<Counter>, other: &Node<Counter>) -> bool {
         && one.orders == other.orders
 }
 
-/// Whether two explorations have the same ends in the same order, and the same numbers.
+/// Whether two explorations have the same ends in the same order, the same numbers and the same notes.
 fn is_same(one: &Explored<Counter>, other: &Explored<Counter>) -> bool {
     one.orders == other.orders
         && one.steps == other.steps
+        && one.noted == other.noted
         && one.ends.len() == other.ends.len()
         && one
             .ends
@@ -724,5 +725,155 @@ fn a_limit_of_no_state_is_reached_at_the_start(rt: HostRuntime) -> Result<(), Fa
         states: 1,
     };
     assert!(rt; explored(rt.alloc(), &[&[&[Line::Add(1)]]], one).is_ok());
+    Ok(())
+}
+
+/// Whether these lines of an exploration are noted, by blocks, tracks and lines.
+fn are_noted(found: &Explored<Counter>, expected: &[&[&[bool]]]) -> bool {
+    found.noted.len() == expected.len()
+        && found
+            .noted
+            .iter()
+            .zip(expected)
+            .all(|(block, expected)| are_noted_in(block, expected))
+}
+
+/// Whether these lines of a block are noted, by tracks and lines.
+fn are_noted_in(block: &Vec<Vec<bool>>, expected: &[&[bool]]) -> bool {
+    block.len() == expected.len()
+        && block
+            .iter()
+            .zip(expected)
+            .all(|(track, expected)| track.as_slice() == *expected)
+}
+
+// (1 + 1) * 2 = 4 in the order of tracks 1, 0, 2 alone: doubled first, 1 becomes 3
+#[test]
+fn a_line_that_one_order_notes_is_told(rt: HostRuntime) -> Result<(), Fail> {
+    let found = explored(
+        rt.alloc(),
+        &[&[&[Line::Double], &[Line::Add(1)], &[Line::Flag(4)]]],
+        WIDE,
+    )?;
+    assert!(rt; are_noted(&found, &[&[&[false], &[false], &[true]]]));
+    Ok(())
+}
+
+// the counter is 1, 2 and 4 behind 0, 1 and 2 lines of the second track, and never 3
+#[test]
+fn each_line_of_a_track_is_told_by_itself(rt: HostRuntime) -> Result<(), Fail> {
+    let found = explored(
+        rt.alloc(),
+        &[&[
+            &[Line::Flag(2), Line::Flag(3), Line::Flag(4)],
+            &[Line::Add(1), Line::Double],
+        ]],
+        WIDE,
+    )?;
+    assert!(rt; are_noted(&found, &[&[&[true, false, true], &[false, false]]]));
+    Ok(())
+}
+
+// the last block begins at 3 or 4, and its one line adds 1
+#[test]
+fn lines_of_each_block_are_told(rt: HostRuntime) -> Result<(), Fail> {
+    let found = explored(
+        rt.alloc(),
+        &[
+            &[&[Line::Double, Line::Flag(4)], &[Line::Add(1)]],
+            &[],
+            &[
+                &[Line::Flag(4), Line::Add(1)],
+                &[Line::Flag(5)],
+                &[Line::Flag(6)],
+            ],
+        ],
+        WIDE,
+    )?;
+    assert!(rt;
+        are_noted(
+            &found,
+            &[
+                &[&[false, true], &[false]],
+                &[],
+                &[&[true, false], &[true], &[false]],
+            ],
+        )
+    );
+    Ok(())
+}
+
+// a risk is noted in way 1 alone
+#[test]
+fn a_line_that_one_way_notes_is_told(rt: HostRuntime) -> Result<(), Fail> {
+    let found = explored(
+        rt.alloc(),
+        &[&[&[Line::Add(2), Line::Risk(3)], &[Line::Spread(4)]]],
+        WIDE,
+    )?;
+    assert!(rt; are_noted(&found, &[&[&[false, true], &[false]]]));
+    Ok(())
+}
+
+// the first turn of the one order that comes to 4 is of track 1
+#[test]
+fn a_part_tells_the_lines_that_its_orders_note(rt: HostRuntime) -> Result<(), Fail> {
+    let blocks: &[&[&[Line]]] = &[&[&[Line::Double], &[Line::Add(1)], &[Line::Flag(4)]]];
+    let first = part_explored(rt.alloc(), blocks, 1, 3)?;
+    let second = part_explored(rt.alloc(), blocks, 2, 3)?;
+    let third = part_explored(rt.alloc(), blocks, 3, 3)?;
+    assert!(rt; are_noted(&first, &[&[&[false], &[false], &[false]]]));
+    assert!(rt; are_noted(&second, &[&[&[false], &[false], &[true]]]));
+    assert!(rt; are_noted(&third, &[&[&[false], &[false], &[false]]]));
+    Ok(())
+}
+
+// one track has one order, which is of the first part
+#[test]
+fn a_part_without_an_order_notes_no_line(rt: HostRuntime) -> Result<(), Fail> {
+    let blocks: &[&[&[Line]]] = &[&[&[Line::Flag(1), Line::Add(1)]], &[]];
+    let first = part_explored(rt.alloc(), blocks, 1, 2)?;
+    let second = part_explored(rt.alloc(), blocks, 2, 2)?;
+    assert!(rt; are_noted(&first, &[&[&[true, false]], &[]]));
+    assert!(rt; are_noted(&second, &[&[&[false, false]], &[]]));
+    Ok(())
+}
+
+/// Explores blocks from a counter at 1, by a number of jobs.
+fn explored_by<R: Threads + Sync>(
+    rt: &R,
+    alloc: Global,
+    blocks: &[&[&[Line]]],
+    jobs: usize,
+) -> Result<Explored<Counter>, Stop> {
+    let blocks = blocks_of(alloc, blocks)?;
+    explore_on(
+        rt,
+        alloc,
+        Counter { count: 1 },
+        &blocks,
+        WIDE,
+        Part::whole(),
+        jobs,
+        &Nobody,
+    )
+}
+
+// two spreads add 0 to 39 each: 25 is 1 and 24, 79 is 1 and 39 and 39, and 80 is too much
+#[test]
+fn jobs_tell_the_lines_that_any_of_them_notes(rt: HostRuntime) -> Result<(), Fail> {
+    for jobs in [1, 2, 3, 4, 9] {
+        let found = explored_by(
+            &rt,
+            rt.alloc(),
+            &[&[
+                &[Line::Spread(39), Line::Flag(25)],
+                &[Line::Spread(39), Line::Flag(80)],
+                &[Line::Flag(79)],
+            ]],
+            jobs,
+        )?;
+        assert!(rt; are_noted(&found, &[&[&[false, true], &[false, false], &[true]]]));
+    }
     Ok(())
 }

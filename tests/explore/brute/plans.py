@@ -25,6 +25,7 @@ class Plan:
 
     lines: list  # the file's lines
     front: list = field(default_factory=list)  # those up to `main`
+    front_numbers: list = field(default_factory=list)
     blocks: list = field(default_factory=list)  # of each block its tracks, each a list of lines
 
     def text(self, number):
@@ -61,6 +62,7 @@ class Reader:
                 self.take(number, line)
             else:
                 self.plan.front.append(line)
+                self.plan.front_numbers.append(number)
                 has_bus = word_of(line) == 'main'
         return self.plan
 

@@ -22,6 +22,10 @@ def is_refused(output):
     return bool(output) and output[-1].startswith('refused ')
 
 
+def is_expected(plan, line):
+    return any(plans.word_of(plan.text(number)) == 'expect' for number in line.expects)
+
+
 def bits_of(line):
     """How many bits are tried in this line's frame: each that it can have, and one behind."""
     return LAST_BITS[plans.word_of(line)] + 2
@@ -37,6 +41,7 @@ class Replay:
     views: list  # the bus behind each line, where it was looked at
     before: facts.View  # the bus in front of all blocks
     printed: list  # what each line printed
+    refused_front: list  # the numbers of the lines up to `main` that were refused
     end: str  # all that can be seen of the bus at its end
     shown: tuple  # what `show` prints there
     breaks: int  # the first line behind which something that is expected doesn't hold, or the number of lines
@@ -51,6 +56,11 @@ class Replay:
 
     def refused(self):
         return sum(1 for output in self.printed if is_refused(output))
+
+    def unexpected(self, plan):
+        """The numbers of the lines that were refused with no `expect` behind them."""
+        ran = {line.number for line, output in zip(self.lines, self.printed) if is_refused(output) and not is_expected(plan, line)}
+        return ran | set(self.refused_front)
 
     def view_before(self, index):
         return self.views[index - 1] if index else self.before
@@ -237,6 +247,7 @@ class Player:
             views=views,
             before=before,
             printed=[printed.get(number, []) for number in script.ran],
+            refused_front=[number for at, number in enumerate(self.plan.front_numbers, 1) if is_refused(printed.get(at, []))],
             end='\n'.join([*seen, followed.end(shown), *told]),
             shown=tuple(last[:bus]),
             breaks=self.first_break(lines, views),

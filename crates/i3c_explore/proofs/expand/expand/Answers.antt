@@ -3,6 +3,7 @@ use Rattle.std.specs.List.{slice_get, slice_index}
 use Rattle.std.proofs.lemmas.Bool.{false≢true}
 use borrow.Author.Count.{below_more}
 use Rattle.i3c_explore.specs.Explorations.{Grows}
+use Rattle.i3c_explore.specs.Notes.{IsNoted, IsQuiet}
 use Rattle.i3c_explore.specs.Owners.{own}
 use Rattle.i3c_explore.specs.Parts.{opening}
 use Rattle.i3c_explore.specs.Runs.{runs_of, ways_of}
@@ -10,6 +11,7 @@ use Rattle.i3c_explore.specs.Shares.{IsLed, by_track, by_tracks}
 use Rattle.i3c_explore.proofs.Counting.{gains_track}
 use Rattle.i3c_explore.proofs.Expanding.{expanded_kept}
 use Rattle.i3c_explore.proofs.Growing.{grows_both, grows_none}
+use Rattle.i3c_explore.proofs.Marking.{own_quiet, tracks_all, tracks_next, tracks_none}
 use Rattle.i3c_explore.proofs.Running.{track_more, tracks_up}
 use Rattle.i3c_explore.proofs.Sharing.{added_none}
 use Rattle.i3c_explore.proofs.Stopping.{stops_more}
@@ -25,6 +27,7 @@ loop-track-preserved g c =
           (ways_of last node.state (slice_get (lines track) (slice_index node.places.items track))) was.grown done.grown
           (gains_track steps tracks lines node old.nodes.items mid.nodes.items new.nodes.items track was.grown.counted done.grown.counted));
       expanded = below_more _ _ (expanded_kept steps lines track node mid.nodes.items new.nodes.items done.grown.keeps was.expanded) done.tracked;
+      noted = tracks_next (IsNoted g.M.Machine.notes lines node) (IsQuiet g.M.Machine.quiet lines node) track old.noted.items mid.noted.items new.noted.items was.noted done.noted;
       near = done.near;
     }
 
@@ -33,8 +36,15 @@ loop-track-init g c =
     let tracks = c.args.tracks.now in let all = opening c.args.part tracks in let lines = own c.args.owners.now (length tracks) c.args.job all c.args.index in let node = c.args.node.now in let next = c.args.next.now in record {
       grown = grows_none g.M.Machine.steps all tracks node next (by_tracks lines node.places.items 0) (λ starts past own mine. added_none (IsLed g.M.Machine.steps tracks starts past) next.nodes.items);
       expanded = λ t lt. absurd (omega arith);
+      noted = tracks_none (IsNoted g.M.Machine.notes lines node) (IsQuiet g.M.Machine.quiet lines node) next.noted.items;
       near = λ t. absurd (false≢true t);
     }
+
+pub returns-clause-noted : goal.returns-clause-noted
+returns-clause-noted g c =
+    let tracks = c.args.tracks.now in let lines = own c.args.owners.now (length tracks) c.args.job (opening c.args.part tracks) c.args.index in let node = c.args.node.now in
+    tracks_all (IsNoted g.M.Machine.notes lines node) (IsQuiet g.M.Machine.quiet lines node) c.loop-track.track c.args.next.now.noted.items c.loop-track.next.noted.items
+    (λ t k went. own_quiet g.M.Machine.quiet c.args.owners.now (length tracks) c.args.job c.args.index c.args.part tracks node c.loop-track.track t k (omega arith) went) c.loop-track.invariant.noted
 
 pub returns-clause-grown : goal.returns-clause-grown
 returns-clause-grown g c =

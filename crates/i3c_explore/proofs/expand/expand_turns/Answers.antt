@@ -4,10 +4,12 @@ use Rattle.std.proofs.lemmas.Option.{slice_get_read}
 use Rattle.i3c_explore.specs.declared.limits.Limits.{Limits}
 use Rattle.i3c_explore.specs.Explorations.{MakesBy}
 use Rattle.i3c_explore.specs.Nexts.{IsNextOf}
+use Rattle.i3c_explore.specs.Notes.{IsNotedBehind, IsQuietBehind, Marks}
 use Rattle.i3c_explore.specs.Owners.{own}
 use Rattle.i3c_explore.specs.Parts.{opening}
 use Rattle.i3c_explore.specs.Runs.{IsWithin, runs_from, runs_of}
 use Rattle.i3c_explore.proofs.Expanding.{like_successor, passed_here, passed_kept}
+use Rattle.i3c_explore.proofs.Marking.{nodes_next, nodes_none}
 use Rattle.i3c_explore.proofs.Nexts.{next_none}
 use Rattle.i3c_explore.proofs.Running.{node_more, nodes_up, within_more}
 use Rattle.i3c_explore.proofs.Shares.{shares_more}
@@ -23,6 +25,7 @@ loop-index-init g c =
     let none = ap length (c.in_ok-make_room.ensures.nodes ∙ c.new-next.ensures.nodes) in let limits = c.in_ok-make_room.ensures.limits ∙ c.new-next.ensures.limits in record {
       follows = next_none g.M.Machine.steps tracks lines (own c.args.owners.now (length tracks) c.args.job lines) c.args.layer.now 0 c.make_room.new.self.nodes.items none;
       within = record { steps = let e = ap (λ (l : Limits). l.steps) limits in omega arith; states = ap (λ (l : Limits). l.states) limits; narrow = omega arith };
+      noted = nodes_none g.M.Machine.notes g.M.Machine.quiet (own c.args.owners.now (length tracks) c.args.job lines) c.args.layer.now c.args.noted.items;
       few = omega arith;
     }
 
@@ -42,11 +45,12 @@ loop-index-preserved g c =
         counted = shares_more steps tracks ran count layer 0 index node old new (omega arith) lt c.index-layer-index.is was.counted done.grown.counted;
       };
       within = subst (λ (k : ℕ). IsWithin c.args.limits c.expand.new.next k) (sym more) (within_more c.args.limits c.loop-index.next c.expand.new.next _ _ c.loop-index.invariant.within done.grown.charged);
+      noted = nodes_next g.M.Machine.notes g.M.Machine.quiet ran layer index node c.args.noted.items c.loop-index.next.noted.items c.expand.new.next.noted.items (slice_get_read layer (length layer) index node refl lt c.index-layer-index.is) c.loop-index.invariant.noted done.noted;
       few = let a = c.loop-index.invariant.few in let b = done.grown.few in omega arith;
     }
 
-pub returns-in-Err : goal.returns-in-Err
-returns-in-Err g c =
+pub returns-in-Err-clause-made : goal.returns-in-Err-clause-made
+returns-in-Err-clause-made g c =
     let was = c.loop-index.invariant in let index = c.loop-index.index in let last = g.M.Machine.last in
     let tracks = c.args.tracks.now in let lines = opening c.args.part tracks in let count = length tracks in let ran = own c.args.owners.now count c.args.job lines in let layer = c.args.layer.now in let node = c.index-layer-index.result in
     let lt : index < length layer = c.loop-index-test.true in
@@ -55,8 +59,8 @@ returns-in-Err g c =
     stops_behind g.M.Machine.breaks tracks c.args.part layer c.args.limits node c.loop-index.next (runs_from last ran count layer index) (runs_of last (ran index) node count) (runs_from last ran count layer (length layer)) c.in-Err.stop
     (index, lt, sym c.index-layer-index.is) was.within was.few (omega arith) c.in-Err.ensures.stopped
 
-pub returns : goal.returns
-returns g c =
+pub returns-clause-made : goal.returns-clause-made
+returns-clause-made g c =
     let tracks = c.args.tracks.now in let lines = opening c.args.part tracks in let ran = own c.args.owners.now (length tracks) c.args.job lines in let layer = c.args.layer.now in let next = c.loop-index.next in
     let all = at_end c.loop-index.index (length layer) c.loop-index.auto.index-end c.loop-index-test.false in record {
       follows = subst (λ (k : ℕ). IsNextOf g.M.Machine.steps tracks lines ran layer 0 k next.nodes.items) all c.loop-index.invariant.follows;
@@ -67,12 +71,18 @@ returns g c =
 pub expand-requires : goal.expand-requires
 expand-requires g c = record { sized = c.requires c.index-layer-index.result (c.loop-index.index, c.loop-index-test.true, sym c.index-layer-index.is) }
 
-pub returns-in_err-make_room : goal.returns-in_err-make_room
-returns-in_err-make_room g c =
+pub returns-clause-noted : goal.returns-clause-noted
+returns-clause-noted g c =
+    let tracks = c.args.tracks.now in let ran = own c.args.owners.now (length tracks) c.args.job (opening c.args.part tracks) in let layer = c.args.layer.now in
+    let all = at_end c.loop-index.index (length layer) c.loop-index.auto.index-end c.loop-index-test.false in
+    subst (λ (k : ℕ). Marks (IsNotedBehind g.M.Machine.notes ran layer k) (IsQuietBehind g.M.Machine.quiet ran layer k) c.args.noted.items c.loop-index.next.noted.items) all c.loop-index.invariant.noted
+
+pub returns-in_err-make_room-clause-made : goal.returns-in_err-make_room-clause-made
+returns-in_err-make_room-clause-made g c =
     let tracks = c.args.tracks.now in
     memory_ends (MakesBy g.M.Machine.steps g.M.Machine.last g.M.Machine.breaks tracks c.args.part (own c.args.owners.now (length tracks) c.args.job (opening c.args.part tracks)) c.args.layer.now c.args.limits) c.from_residual.result tt c.from_residual.ensures.1
 
-pub returns-in_err-next : goal.returns-in_err-next
-returns-in_err-next g c =
+pub returns-in_err-next-clause-made : goal.returns-in_err-next-clause-made
+returns-in_err-next-clause-made g c =
     let tracks = c.args.tracks.now in
     memory_ends (MakesBy g.M.Machine.steps g.M.Machine.last g.M.Machine.breaks tracks c.args.part (own c.args.owners.now (length tracks) c.args.job (opening c.args.part tracks)) c.args.layer.now c.args.limits) c.from_residual-in_err-next.result tt c.from_residual-in_err-next.ensures.1

@@ -10,6 +10,7 @@ use Rattle.i3c_explore.specs.Runs.{ways_of}
 use Rattle.i3c_explore.specs.Shares.{IsLed, by_track, by_turn, by_ways}
 use Rattle.i3c_explore.proofs.Counting.{gains_line, gains_no_line, gains_way}
 use Rattle.i3c_explore.proofs.Growing.{grows_both, grows_none}
+use Rattle.i3c_explore.proofs.Marking.{ways_all, ways_next, ways_no_line, ways_none}
 use Rattle.i3c_explore.proofs.NextLines.{next_at, next_once}
 use Rattle.i3c_explore.proofs.Opening.{opened}
 use Rattle.i3c_explore.proofs.Sharing.{added_none}
@@ -44,6 +45,7 @@ loop-way-preserved g c =
       grown = grows_both steps lines c.args.tracks.now node old mid new (by_ways way c.args.track) (by_turn (record { track = c.args.track; way = way })) (by_ways (way + 1) c.args.track) way 1 was.grown done
           (gains_way steps c.args.tracks.now node old.nodes.items mid.nodes.items new.nodes.items c.args.track way was.grown.counted done.counted);
       ran = below_more _ _ (λ way lt. let (state, step, has) = was.ran way lt in (state, step, done.keeps _ state has)) c.in-Ok.ensures.ran;
+      noted = ways_next c.args.track (slice_index node.places.items c.args.track) (λ (w : ℕ). g.M.Machine.notes node.state c.in-Some.line.now w) (λ (w : ℕ). g.M.Machine.quiet node.state c.in-Some.line.now w) way old.noted.items mid.noted.items new.noted.items was.noted c.in-Ok.ensures.noted;
       near = λ _. c.in-Ok.ensures.near;
     }
 
@@ -53,6 +55,7 @@ loop-way-init g c =
       grown = grows_none g.M.Machine.steps (opening c.args.part c.args.tracks.now) c.args.tracks.now c.args.node.now next (by_ways 0 c.args.track)
           (λ starts past own mine. added_none (IsLed g.M.Machine.steps c.args.tracks.now starts past) next.nodes.items);
       ran = λ way lt. absurd (omega arith);
+      noted = ways_none c.args.track (slice_index c.args.node.now.places.items c.args.track) (λ (w : ℕ). g.M.Machine.notes c.args.node.now.state c.in-Some.line.now w) (λ (w : ℕ). g.M.Machine.quiet c.args.node.now.state c.in-Some.line.now w) next.noted.items;
       near = c.requires.again;
     }
 
@@ -77,9 +80,16 @@ returns-clause-tracked g c line next way =
     next_at (opening c.args.part c.args.tracks.now) c.args.node.now.places.items c.args.track c.index.result.now (Some c.in-Some.line.now) (omega arith) c.index.ensures c.in-Some.ensures in
     let steps = g.M.Machine.steps in let node = c.args.node.now in let was = c.loop-way.invariant in
     let same : c.in-Some.line.now ≡ line = next_once (opening c.args.part c.args.tracks.now) node.places.items c.args.track c.in-Some.line.now line is next in
-    let (tried, le, leads) = c.last_way-last.ensures.last way in
+    let (tried, le, leads, _) = c.last_way-last.ensures.last way in
     let before : tried < c.loop-way.way = omega (arith, le) in
     let (new, step, has) = was.ran tried before in (new, subst (λ l. steps node.state l way new) same (leads new step), has)
+
+pub returns-clause-noted : goal.returns-clause-noted
+returns-clause-noted g c =
+    let is : slice_get (opening c.args.part c.args.tracks.now c.args.track) (slice_index c.args.node.now.places.items c.args.track) ≡ Some c.in-Some.line.now =
+    next_at (opening c.args.part c.args.tracks.now) c.args.node.now.places.items c.args.track c.index.result.now (Some c.in-Some.line.now) (omega arith) c.index.ensures c.in-Some.ensures in
+    ways_all g.M.Machine.notes g.M.Machine.quiet (opening c.args.part c.args.tracks.now) c.args.node.now c.args.track c.loop-way.way c.in-Some.line.now c.args.next.now.noted.items c.loop-way.next.noted.items is
+    (λ w. let (tried, le, _, so) = c.last_way-last.ensures.last w in (tried, omega (arith, le), so)) c.loop-way.invariant.noted
 
 pub returns-clause-near : goal.returns-clause-near
 returns-clause-near g c = c.loop-way.invariant.near
@@ -103,6 +113,10 @@ returns-in_default-clause-grown g c =
 
 pub returns-in_default-clause-tracked : goal.returns-in_default-clause-tracked
 returns-in_default-clause-tracked g c line next = let never = none g c in absurd (cc)
+
+pub returns-in_default-clause-noted : goal.returns-in_default-clause-noted
+returns-in_default-clause-noted g c =
+    ways_no_line g.M.Machine.notes g.M.Machine.quiet (opening c.args.part c.args.tracks.now) c.args.node.now c.args.track c.args.next.now.noted.items (none g c)
 
 pub returns-in_default-clause-near : goal.returns-in_default-clause-near
 returns-in_default-clause-near g c = c.requires.again

@@ -5,6 +5,7 @@ use Rattle.i3c_explore.specs.Parts.{opening}
 use Rattle.i3c_explore.specs.Runs.{ways_of}
 use Rattle.i3c_explore.specs.Stops.{StopsAt}
 use Rattle.i3c_explore.proofs.Growing.{grows_as, grows_from, grows_idle}
+use Rattle.i3c_explore.proofs.Marking.{turn_from, turn_idle}
 use Rattle.i3c_explore.proofs.Owning.{chosen, not_chosen}
 use Rattle.i3c_explore.proofs.Stopping.{stops_from}
 use Rattle.i3c_explore.proofs.expand.take_turn.Goals as goal
@@ -16,6 +17,13 @@ returns-in-Ok-clause-grown g c =
     grows_as steps lines g.M.Machine.last tracks lines (own owners (length tracks) c.args.job lines c.args.index) node c.args.next.now c.run_track.new.next track
     (sym (chosen (takes owners (length tracks) c.args.job c.args.index track) (lines track) is))
     (grows_from steps lines tracks node c.args.next.now c.turn_to.new.self c.run_track.new.next _ _ c.turn_to.ensures.nodes c.turn_to.ensures.limits c.in-Ok.ensures.grown)
+
+pub returns-in-Ok-clause-noted : goal.returns-in-Ok-clause-noted
+returns-in-Ok-clause-noted g c =
+    let tracks = c.args.tracks.now in let lines = opening c.args.part tracks in let owners = c.args.owners.now in let track = c.args.track in
+    let is : takes owners (length tracks) c.args.job c.args.index track ≡ true = (let e = c.takes.ensures in let f = c.if-not-takes.false in search rules) in
+    turn_from g.M.Machine.notes g.M.Machine.quiet lines (own owners (length tracks) c.args.job lines c.args.index) c.args.node.now track c.args.next.now.noted c.turn_to.new.self.noted c.run_track.new.next.noted.items c.turn_to.ensures.noted
+    (sym (chosen (takes owners (length tracks) c.args.job c.args.index track) (lines track) is)) c.in-Ok.ensures.noted
 
 pub returns-in-Err-clause-stopped : goal.returns-in-Err-clause-stopped
 returns-in-Err-clause-stopped g c =
@@ -33,6 +41,12 @@ returns-in-Ok-clause-near g c = c.in-Ok.ensures.near
 
 pub returns-then-not-takes-clause-near : goal.returns-then-not-takes-clause-near
 returns-then-not-takes-clause-near g c = c.requires.again
+
+pub returns-then-not-takes-clause-noted : goal.returns-then-not-takes-clause-noted
+returns-then-not-takes-clause-noted g c =
+    let tracks = c.args.tracks.now in let lines = opening c.args.part tracks in let owners = c.args.owners.now in let track = c.args.track in
+    let is : takes owners (length tracks) c.args.job c.args.index track ≡ false = (let e = c.takes.ensures in let f = c.if-not-takes.true in search rules) in
+    turn_idle g.M.Machine.notes g.M.Machine.quiet (own owners (length tracks) c.args.job lines c.args.index) c.args.node.now track c.args.next.now.noted.items (not_chosen (takes owners (length tracks) c.args.job c.args.index track) (lines track) is)
 
 pub returns-then-not-takes-clause-grown : goal.returns-then-not-takes-clause-grown
 returns-then-not-takes-clause-grown g c =
