@@ -85,10 +85,11 @@ begun_once out one other a b =
 pub one_plan : FilesHaveOnePlan
 one_plan lines one other first second =
     let said : first.said ≡ second.said = all_said 1 lines first.said second.said first.are second.are in
-    let out : first.outlined ≡ second.outlined = let same : Ok first.outlined ≡ Ok second.outlined = sym first.is ∙ ap (outline no_board [] []) said ∙ second.is in cc in
+    let out : first.outlined ≡ second.outlined = let same : Ok first.outlined ≡ Ok second.outlined = sym first.is ∙ ap (outline no_board [] [] []) said ∙ second.is in cc in
     record {
       start = begun_once first.outlined one.start other.start first.of.start (subst (λ (o : Outline). IsStartOf o other.start) (sym out) second.of.start);
       before = first.of.before ∙ ap (λ (o : Outline). o.before) out ∙ sym second.of.before;
+      refused = first.of.refused ∙ ap (λ (o : Outline). o.refused) out ∙ sym second.of.refused;
       blocks = first.of.blocks ∙ ap (λ (o : Outline). o.blocks) out ∙ sym second.of.blocks;
       opened = first.of.opened ∙ ap (λ (o : Outline). o.opened) out ∙ sym second.of.opened;
       risky = first.of.risky ∙ ap (λ (o : Outline). o.risky) out ∙ sym second.of.risky;

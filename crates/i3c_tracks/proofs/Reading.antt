@@ -37,65 +37,68 @@ passed : (here : Here) (line : ℕ × FileLine) (rest : List (ℕ × FileLine)) 
 passed here (number, said) rest taken = ap (λ (r : Option Reason). or_later number r (first_refusal (behind here said) rest)) (sym taken)
 
 -- a line behind the bus
-pub read_behind : (old new : Draft) (body later : Body) (line : ℕ × FileLine) → old.body ≡ Some body → new.body ≡ Some later → new.before ≡ old.before → refuses old line.1 ≡ None → ReadsOn body line later → Reads old line new
-read_behind old new body later line was is same taken on first begun =
+pub read_behind : (old new : Draft) (body later : Body) (line : ℕ × FileLine) → old.body ≡ Some body → new.body ≡ Some later → new.before ≡ old.before → new.front ≡ old.front → refuses old line.1 ≡ None → ReadsOn body line later → Reads old line new
+read_behind old new body later line was is same fronts taken on first begun =
     let starts = subst (λ b. IsBegunBy b first) was begun in
     let before : List ℕ = old.before.items in
+    let refused : List ℕ = old.front.refused.items in
     let free : refuses_on (Some body) line.1 ≡ None = subst (λ (b : Option Body). refuses_on b line.1 ≡ None) was taken in (
       first,
       subst (λ b. IsBegunBy b first) (sym is) (starts.0, starts.1, subst (IsStartOf starts.0) (sym on.start) starts.2),
       λ rest. ap (λ b. comes_on b new.front new.before.items first rest) is
-          ∙ ap (λ (v : Vec ℕ). asked (refusal_left later rest) first v.items (comes_to later rest) (opens later rest) (risks later rest)) same
-          ∙ ap (λ (h : Here). asked (first_refusal h rest) first before (comes_to later rest) (opens later rest) (risks later rest)) on.here
-          ∙ ap (λ (r : Option Refusal). asked r first before (comes_to later rest) (opens later rest) (risks later rest)) (passed (here_of body) line rest free)
-          ∙ ap (λ (bs : List (List (List Step))). asked (refusal_left body (line ∷ rest)) first before bs (opens later rest) (risks later rest)) (on.blocks rest)
-          ∙ ap (λ (os : List Bool). asked (refusal_left body (line ∷ rest)) first before (comes_to body (line ∷ rest)) os (risks later rest)) (on.opened rest)
-          ∙ ap (λ (r : Bool). asked (refusal_left body (line ∷ rest)) first before (comes_to body (line ∷ rest)) (opens body (line ∷ rest)) r) (on.risky rest)
+          ∙ ap (λ (v : Vec ℕ). asked (refusal_left later rest) first v.items new.front.refused.items (comes_to later rest) (opens later rest) (risks later rest)) same
+          ∙ ap (λ (f : Front). asked (refusal_left later rest) first before f.refused.items (comes_to later rest) (opens later rest) (risks later rest)) fronts
+          ∙ ap (λ (h : Here). asked (first_refusal h rest) first before refused (comes_to later rest) (opens later rest) (risks later rest)) on.here
+          ∙ ap (λ (r : Option Refusal). asked r first before refused (comes_to later rest) (opens later rest) (risks later rest)) (passed (here_of body) line rest free)
+          ∙ ap (λ (bs : List (List (List Step))). asked (refusal_left body (line ∷ rest)) first before refused bs (opens later rest) (risks later rest)) (on.blocks rest)
+          ∙ ap (λ (os : List Bool). asked (refusal_left body (line ∷ rest)) first before refused (comes_to body (line ∷ rest)) os (risks later rest)) (on.opened rest)
+          ∙ ap (λ (r : Bool). asked (refusal_left body (line ∷ rest)) first before refused (comes_to body (line ∷ rest)) (opens body (line ∷ rest)) r) (on.risky rest)
           ∙ ap (λ b. comes_on b old.front before first (line ∷ rest)) (sym was),
     )
 
 -- behind a bus that was made the lines that are left are its own
-asked_made : (out : Outline) (before : List ℕ) (refused : Option Refusal) (blocks : List (List (List Step))) (opened : List Bool) (risky : Bool)
-    → asked refused (Some out) before blocks opened risky ≡ unless refused (record out { before = before; blocks = blocks; opened = opened; risky = risky })
-asked_made out before None blocks opened risky = refl
-asked_made out before (Some refusal) blocks opened risky = refl
+asked_made : (out : Outline) (before refused : List ℕ) (refusal : Option Refusal) (blocks : List (List (List Step))) (opened : List Bool) (risky : Bool)
+    → asked refusal (Some out) before refused blocks opened risky ≡ unless refusal (record out { before = before; refused = refused; blocks = blocks; opened = opened; risky = risky })
+asked_made out before refused None blocks opened risky = refl
+asked_made out before refused (Some refusal) blocks opened risky = refl
 
 -- a line that makes the bus
-pub read_begun : (old new : Draft) (number : ℕ) (command : Command) (body : Body) → old.body ≡ None → new.body ≡ Some body → new.before.items ≡ old.before.items ++ number ∷ [] → Begins old.front command body.start
+pub read_begun : (old new : Draft) (number : ℕ) (command : Command) (body : Body) → old.body ≡ None → new.body ≡ Some body → new.before.items ≡ old.before.items ++ number ∷ [] → Begins old.front number command new.front body.start
     → IsUnread body → Reads old (number, FileLine.Does command) new
 read_begun old new number command body was is counted begins none first begun =
     let out : Option Outline = Some begins.0 in
-    let before : List ℕ = old.before.items ++ number ∷ [] in (
+    let before : List ℕ = old.before.items ++ number ∷ [] in
+    let refused : List ℕ = new.front.refused.items in (
       out,
       subst (λ b. IsBegunBy b out) (sym is) (begins.0, refl, begins.1),
       λ rest. ap (λ b. comes_on b new.front new.before.items out rest) is
-          ∙ ap (λ (ns : List ℕ). asked (refusal_left body rest) out ns (comes_to body rest) (opens body rest) (risks body rest)) counted
-          ∙ ap (λ (h : Here). asked (first_refusal h rest) out before (comes_to body rest) (opens body rest) (risks body rest)) none.here
-          ∙ ap (λ (bs : List (List (List Step))). asked (first_refusal outside rest) out before bs (opens body rest) (risks body rest)) (none.blocks rest)
-          ∙ ap (λ (os : List Bool). asked (first_refusal outside rest) out before (place (expected rest) ++ blocks_in false rest) os (risks body rest)) (none.opened rest)
-          ∙ ap (λ (r : Bool). asked (first_refusal outside rest) out before (place (expected rest) ++ blocks_in false rest) (unopened (place (expected rest)) ++ opened_in false rest) r) (none.risky rest)
-          ∙ asked_made begins.0 before (first_refusal outside rest) (place (expected rest) ++ blocks_in false rest) (unopened (place (expected rest)) ++ opened_in false rest) (any_at_risk rest)
-          ∙ sym (begins.2 number old.before.items rest)
+          ∙ ap (λ (ns : List ℕ). asked (refusal_left body rest) out ns refused (comes_to body rest) (opens body rest) (risks body rest)) counted
+          ∙ ap (λ (h : Here). asked (first_refusal h rest) out before refused (comes_to body rest) (opens body rest) (risks body rest)) none.here
+          ∙ ap (λ (bs : List (List (List Step))). asked (first_refusal outside rest) out before refused bs (opens body rest) (risks body rest)) (none.blocks rest)
+          ∙ ap (λ (os : List Bool). asked (first_refusal outside rest) out before refused (place (expected rest) ++ blocks_in false rest) os (risks body rest)) (none.opened rest)
+          ∙ ap (λ (r : Bool). asked (first_refusal outside rest) out before refused (place (expected rest) ++ blocks_in false rest) (unopened (place (expected rest)) ++ opened_in false rest) r) (none.risky rest)
+          ∙ asked_made begins.0 before refused (first_refusal outside rest) (place (expected rest) ++ blocks_in false rest) (unopened (place (expected rest)) ++ opened_in false rest) (any_at_risk rest)
+          ∙ sym (begins.2 old.before.items rest)
           ∙ ap (λ b. comes_on b old.front old.before.items first ((number, FileLine.Does command) ∷ rest)) (sym was),
     )
 
 -- a line before the bus, which makes none
-pub read_declared : (old new : Draft) (number : ℕ) (command : Command) → old.body ≡ None → new.body ≡ None → new.before.items ≡ old.before.items ++ number ∷ [] → Declares old.front command new.front
+pub read_declared : (old new : Draft) (number : ℕ) (command : Command) → old.body ≡ None → new.body ≡ None → new.before.items ≡ old.before.items ++ number ∷ [] → Declares old.front number command new.front
     → Reads old (number, FileLine.Does command) new
 read_declared old new number command was is counted declares first begun = (
   first,
   subst (λ b. IsBegunBy b first) (sym is) tt,
-  λ rest. ap (λ b. comes_on b new.front new.before.items first rest) is ∙ ap (λ (ns : List ℕ). outline new.front.legacies new.front.names.items ns rest) counted
-      ∙ sym (declares number old.before.items rest) ∙ ap (λ b. comes_on b old.front old.before.items first ((number, FileLine.Does command) ∷ rest)) (sym was),
+  λ rest. ap (λ b. comes_on b new.front new.before.items first rest) is ∙ ap (λ (ns : List ℕ). outline new.front.legacies new.front.names.items ns new.front.refused.items rest) counted
+      ∙ sym (declares old.before.items rest) ∙ ap (λ b. comes_on b old.front old.before.items first ((number, FileLine.Does command) ∷ rest)) (sym was),
 )
 
 -- a line before the bus that is refused
-before_refused : (board : Board) (names : List Named) (before : List ℕ) (number : ℕ) (said : FileLine) (reason : Reason) (rest : List (ℕ × FileLine)) → refuses_before said ≡ Some reason
-    → outline board names before ((number, said) ∷ rest) ≡ Err (at_line number reason)
-before_refused board names before number FileLine.Nothing reason rest e = absurd cc
-before_refused board names before number (FileLine.Does command) reason rest e = absurd cc
-before_refused board names before number FileLine.Formless reason rest e = let same : Reason.BadLine ≡ reason = cc in ap (λ (r : Reason). Err (at_line number r)) same
-before_refused board names before number (FileLine.Marks mark) reason rest e = let same : Reason.NoBus ≡ reason = cc in ap (λ (r : Reason). Err (at_line number r)) same
+before_refused : (board : Board) (names : List Named) (before refused : List ℕ) (number : ℕ) (said : FileLine) (reason : Reason) (rest : List (ℕ × FileLine)) → refuses_before said ≡ Some reason
+    → outline board names before refused ((number, said) ∷ rest) ≡ Err (at_line number reason)
+before_refused board names before refused number FileLine.Nothing reason rest e = absurd cc
+before_refused board names before refused number (FileLine.Does command) reason rest e = absurd cc
+before_refused board names before refused number FileLine.Formless reason rest e = let same : Reason.BadLine ≡ reason = cc in ap (λ (r : Reason). Err (at_line number r)) same
+before_refused board names before refused number (FileLine.Marks mark) reason rest e = let same : Reason.NoBus ≡ reason = cc in ap (λ (r : Reason). Err (at_line number r)) same
 
 -- a line that is refused: so is the file, whatever comes behind it
 refused_comes : (draft : Draft) (first : Option Outline) (number : ℕ) (said : FileLine) (reason : Reason) (rest : List (ℕ × FileLine)) → refuses draft said ≡ Some reason
@@ -103,15 +106,15 @@ refused_comes : (draft : Draft) (first : Option Outline) (number : ℕ) (said : 
 refused_comes draft first number said reason rest e = go draft.body e
   where
     go : (body : Option Body) → refuses_on body said ≡ Some reason → comes_on body draft.front draft.before.items first ((number, said) ∷ rest) ≡ Err (at_line number reason)
-    go None e = before_refused draft.front.legacies draft.front.names.items draft.before.items number said reason rest e
+    go None e = before_refused draft.front.legacies draft.front.names.items draft.before.items draft.front.refused.items number said reason rest e
     go (Some body) e =
         let line : ℕ × FileLine = (number, said) in
-        ap (λ (r : Option Reason). asked (or_later number r (first_refusal (behind (here_of body) said) rest)) first draft.before.items (comes_to body (line ∷ rest)) (opens body (line ∷ rest)) (risks body (line ∷ rest))) e
+        ap (λ (r : Option Reason). asked (or_later number r (first_refusal (behind (here_of body) said) rest)) first draft.before.items draft.front.refused.items (comes_to body (line ∷ rest)) (opens body (line ∷ rest)) (risks body (line ∷ rest))) e
 
 -- `main` makes the bus
-pub begun_by : (board : Board) (names : List Named) (name : Name) (setup : Setup) (number : ℕ) (before : List ℕ) (rest : List (ℕ × FileLine)) → is_some (place_in names name) ≡ false → is_capable setup.identity.bcr ≡ true
-    → outline board names before ((number, FileLine.Does (Command.Main name setup)) ∷ rest) ≡ made setup board (names ++ named name (Place.Slot 0) ∷ []) (before ++ number ∷ []) rest
-begun_by board names name setup number before rest given capable = rw (given, capable) refl
+pub begun_by : (board : Board) (names : List Named) (name : Name) (setup : Setup) (number : ℕ) (before refused : List ℕ) (rest : List (ℕ × FileLine)) → is_some (place_in names name) ≡ false → is_capable setup.identity.bcr ≡ true
+    → outline board names before refused ((number, FileLine.Does (Command.Main name setup)) ∷ rest) ≡ made setup board (names ++ named name (Place.Slot 0) ∷ []) (before ++ number ∷ []) refused rest
+begun_by board names name setup number before refused rest given capable = rw (given, capable) refl
 
 -- what holds of a call that went well
 pub on_ok : {E : Type 0} → {P : Type 0} → {Q : Type 0} → (result : Result (Unit {0}) E) → (P → Q) → OnOk result P → OnOk result Q
@@ -123,17 +126,17 @@ both_ok (Ok done) follows p q = follows p q
 both_ok (Err e) follows p q = tt
 
 -- an outline's blocks, and the lines before its bus, have no part in its start
-pub same_start : (first : Outline) (before : List ℕ) (blocks : List (List (List Step))) (opened : List Bool) (risky : Bool) (start later : Seen) → later ≡ start → IsStartOf first start
-    → IsStartOf (record first { before = before; blocks = blocks; opened = opened; risky = risky }) later
-same_start first before blocks opened risky start later same is =
-    subst (IsStartOf (record first { before = before; blocks = blocks; opened = opened; risky = risky })) (sym same) (record { state = is.state; settings = is.settings; cuts = is.cuts; names = is.names })
+pub same_start : (first : Outline) (before refused : List ℕ) (blocks : List (List (List Step))) (opened : List Bool) (risky : Bool) (start later : Seen) → later ≡ start → IsStartOf first start
+    → IsStartOf (record first { before = before; refused = refused; blocks = blocks; opened = opened; risky = risky }) later
+same_start first before refused blocks opened risky start later same is =
+    subst (IsStartOf (record first { before = before; refused = refused; blocks = blocks; opened = opened; risky = risky })) (sym same) (record { state = is.state; settings = is.settings; cuts = is.cuts; names = is.names })
 
 -- behind the last line nothing is refused
 pub none_left : (body : Body) (first : Option Outline) (out : Outline) (front : Front) (before : List ℕ) → refusal_left body [] ≡ None → first ≡ Some out
-    → comes_on (Some body) front before first [] ≡ Ok (record out { before = before; blocks = comes_to body []; opened = opens body []; risky = risks body [] })
+    → comes_on (Some body) front before first [] ≡ Ok (record out { before = before; refused = front.refused.items; blocks = comes_to body []; opened = opens body []; risky = risks body [] })
 none_left body first out front before closed is =
-    ap (λ (r : Option Refusal). asked r first before (comes_to body []) (opens body []) (risks body [])) closed
-    ∙ ap (λ (f : Option Outline). asked None f before (comes_to body []) (opens body []) (risks body [])) is
+    ap (λ (r : Option Refusal). asked r first before front.refused.items (comes_to body []) (opens body []) (risks body [])) closed
+    ∙ ap (λ (f : Option Outline). asked None f before front.refused.items (comes_to body []) (opens body []) (risks body [])) is
 
 -- the blocks behind the last line, where none is open
 pub none_open : (block : Option OpenBlock) → is_some block ≡ false → block ≡ None

@@ -104,16 +104,16 @@ abbrev pub IsBegunBy : Option Body → Option Outline → Type 0
 IsBegunBy None first = Unit {0}
 IsBegunBy (Some body) first = (outline : Outline) × (first ≡ Some outline) × IsStartOf outline body.start
 
--- an outline's bus, with these lines before it and these blocks behind it, unless a line is refused
-abbrev pub asked : Option Refusal → Option Outline → List ℕ → List (List (List Step)) → List Bool → Bool → Result Outline Refusal
-asked (Some refusal) first before blocks opened risky = Err refusal
-asked None None before blocks opened risky = Err (at_end Reason.NoBus)
-asked None (Some out) before blocks opened risky = Ok (record out { before = before; blocks = blocks; opened = opened; risky = risky })
+-- an outline's bus, with these lines before it, of which some are refused, and these blocks behind it, unless the file is refused
+abbrev pub asked : Option Refusal → Option Outline → List ℕ → List ℕ → List (List (List Step)) → List Bool → Bool → Result Outline Refusal
+asked (Some refusal) first before refused blocks opened risky = Err refusal
+asked None None before refused blocks opened risky = Err (at_end Reason.NoBus)
+asked None (Some out) before refused blocks opened risky = Ok (record out { before = before; refused = refused; blocks = blocks; opened = opened; risky = risky })
 
 -- the outline of a file, with the lines that are left: before the bus, or behind the one that was begun
 abbrev pub comes_on : Option Body → Front → List ℕ → Option Outline → List (ℕ × FileLine) → Result Outline Refusal
-comes_on None front before first rest = outline front.legacies front.names.items before rest
-comes_on (Some body) front before first rest = asked (refusal_left body rest) first before (comes_to body rest) (opens body rest) (risks body rest)
+comes_on None front before first rest = outline front.legacies front.names.items before front.refused.items rest
+comes_on (Some body) front before first rest = asked (refusal_left body rest) first before front.refused.items (comes_to body rest) (opens body rest) (risks body rest)
 
 abbrev pub comes : Draft → Option Outline → List (ℕ × FileLine) → Result Outline Refusal
 comes draft first rest = comes_on draft.body draft.front draft.before.items first rest
@@ -123,13 +123,14 @@ abbrev pub Reads : Draft → ℕ × FileLine → Draft → Type 0
 Reads old line new = (first : Option Outline) → IsBegunBy old.body first → (later : Option Outline) × IsBegunBy new.body later × ((rest : List (ℕ × FileLine)) → comes new later rest ≡ comes old first (line ∷ rest))
 
 -- a line before the bus was read, which makes no bus
-abbrev pub Declares : Front → Command → Front → Type 0
-Declares old command new = (number : ℕ) (before : List ℕ) (rest : List (ℕ × FileLine)) → outline old.legacies old.names.items before ((number, FileLine.Does command) ∷ rest) ≡ outline new.legacies new.names.items (before ++ number ∷ []) rest
+abbrev pub Declares : Front → ℕ → Command → Front → Type 0
+Declares old number command new =
+    (before : List ℕ) (rest : List (ℕ × FileLine)) → outline old.legacies old.names.items before old.refused.items ((number, FileLine.Does command) ∷ rest) ≡ outline new.legacies new.names.items (before ++ number ∷ []) new.refused.items rest
 
 -- a line before the bus was read, which makes this bus
-abbrev pub Begins : Front → Command → Seen → Type 0
-Begins old command start = (first : Outline) × IsStartOf first start
-    × ((number : ℕ) (before : List ℕ) (rest : List (ℕ × FileLine)) → outline old.legacies old.names.items before ((number, FileLine.Does command) ∷ rest) ≡ made first.main first.board first.names (before ++ number ∷ []) rest)
+abbrev pub Begins : Front → ℕ → Command → Front → Seen → Type 0
+Begins old number command new start = (first : Outline) × IsStartOf first start
+    × ((before : List ℕ) (rest : List (ℕ × FileLine)) → outline old.legacies old.names.items before old.refused.items ((number, FileLine.Does command) ∷ rest) ≡ made first.main first.board first.names (before ++ number ∷ []) new.refused.items rest)
 
 -- the same of a line behind the bus
 pub record ReadsOn (old : Body) (line : ℕ × FileLine) (new : Body) : Type 0 where

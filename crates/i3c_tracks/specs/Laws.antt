@@ -8,6 +8,7 @@ use Rattle.i3c_tracks.specs.Planning.{IsPlan, blocks_of}
 pub record AreAlike (one other : Plan) : Type 0 where
   pub start : one.start ≡ other.start
   pub before : one.before.items ≡ other.before.items
+  pub refused : one.refused.items ≡ other.refused.items
   pub blocks : blocks_of one.blocks.items ≡ blocks_of other.blocks.items
   pub opened : one.opened.items ≡ other.opened.items
   pub risky : one.risky ≡ other.risky

@@ -49,13 +49,18 @@ pub record Step : Type 0 where
   pub risk : Risk
   pub expected : List Expectation
 
+-- of the line before, alone
 abbrev pub expectation : ℕ → List Claim → Expectation
-expectation number facts = record { number = number; facts = facts }
+expectation number facts = record { number = number; lasts = false; facts = facts }
+
+-- of each line of a block
+abbrev pub lasting : ℕ → List Claim → Expectation
+lasting number facts = record { number = number; lasts = true; facts = facts }
 
 -- what is expected behind a line: by each `expect` that follows it, and by each `always` of a block that begins there
 abbrev pub expected : List (ℕ × FileLine) → List Expectation
 expected ((number, FileLine.Marks (Mark.Expect facts)) ∷ rest) = expectation number facts ∷ expected rest
-expected ((number, FileLine.Marks (Mark.Always facts)) ∷ rest) = expectation number facts ∷ expected rest
+expected ((number, FileLine.Marks (Mark.Always facts)) ∷ rest) = lasting number facts ∷ expected rest
 expected ((number, FileLine.Marks Mark.Any) ∷ rest) = expected rest
 expected ((number, FileLine.Marks (Mark.Anywhere name)) ∷ rest) = expected rest
 expected ((number, FileLine.Nothing) ∷ rest) = expected rest
@@ -78,7 +83,7 @@ risk_in (line ∷ rest) = risk_in rest
 -- what has to hold after each line of a block: each `always` before its first track
 abbrev pub always_in : List (ℕ × FileLine) → List Expectation
 always_in [] = []
-always_in ((number, FileLine.Marks (Mark.Always facts)) ∷ rest) = expectation number facts ∷ always_in rest
+always_in ((number, FileLine.Marks (Mark.Always facts)) ∷ rest) = lasting number facts ∷ always_in rest
 always_in ((number, FileLine.Marks Mark.Track) ∷ rest) = []
 always_in ((number, FileLine.Marks Mark.Close) ∷ rest) = []
 always_in (line ∷ rest) = always_in rest
@@ -133,13 +138,14 @@ any_at_risk [] = false
 any_at_risk ((number, FileLine.Marks (Mark.Anywhere name)) ∷ rest) = true
 any_at_risk (line ∷ rest) = any_at_risk rest
 
--- what a file asks for. Up to `main`: the main controller, what has a static address, the names that are given, and the numbers
--- of these commands. Behind it: the blocks, which of them a line opened, and whether a device may lose power in one
+-- what a file asks for. Up to `main`: the main controller, what has a static address, the names that are given, the numbers of
+-- these commands, and of those that are refused. Behind it: the blocks, which of them a line opened, and whether a device may lose power in one
 pub record Outline : Type 0 where
   pub main : Setup
   pub board : Board
   pub names : List Named
   pub before : List ℕ
+  pub refused : List ℕ
   pub blocks : List (List (List Step))
   pub opened : List Bool
   pub risky : Bool
@@ -153,29 +159,29 @@ unless None out = Ok out
 unless (Some refusal) out = Err refusal
 
 -- a bus was made, and these lines follow
-abbrev pub made : Setup → Board → List Named → List ℕ → List (ℕ × FileLine) → Result Outline Refusal
-made main board names before rest =
-    unless (first_refusal outside rest) (record { main = main; board = board; names = names; before = before; blocks = place (expected rest) ++ blocks_in false rest; opened = unopened (place (expected rest)) ++ opened_in false rest; risky = any_at_risk rest })
+abbrev pub made : Setup → Board → List Named → List ℕ → List ℕ → List (ℕ × FileLine) → Result Outline Refusal
+made main board names before refused rest =
+    unless (first_refusal outside rest) (record { main = main; board = board; names = names; before = before; refused = refused; blocks = place (expected rest) ++ blocks_in false rest; opened = unopened (place (expected rest)) ++ opened_in false rest; risky = any_at_risk rest })
 
--- a command before the bus declares something, or makes the bus, and then the blocks follow; what a script would refuse does nothing. `before` has the numbers of the commands so far.
--- Or the first line that is refused, by its number, or why the file is refused at its end
-abbrev pub outline : Board → List Named → List ℕ → List (ℕ × FileLine) → Result Outline Refusal
-outline board names before [] = Err (at_end Reason.NoBus)
-outline board names before ((number, FileLine.Does (Command.Legacy name address lvr)) ∷ rest) =
-    if is_some (place_in names name) then outline board names (before ++ number ∷ []) rest else
-    (if is_some (first_fault board address) then outline board names (before ++ number ∷ []) rest else
-    outline (record board { legacy = slice_set board.legacy address (Some lvr) }) (names ++ named name (Place.Legacy address) ∷ []) (before ++ number ∷ []) rest)
-outline board names before ((number, FileLine.Does (Command.Declare address identity)) ∷ rest) =
-    if is_some (first_declare_fault board address identity) then outline board names (before ++ number ∷ []) rest else
-    outline (record board { declared = slice_set board.declared address (Some identity) }) names (before ++ number ∷ []) rest
-outline board names before ((number, FileLine.Does (Command.Main name setup)) ∷ rest) =
-    if is_some (place_in names name) then outline board names (before ++ number ∷ []) rest else
-    (if is_capable setup.identity.bcr then made setup board (names ++ named name (Place.Slot 0) ∷ []) (before ++ number ∷ []) rest else
-    outline board names (before ++ number ∷ []) rest)
-outline board names before ((number, FileLine.Does command) ∷ rest) = outline board names (before ++ number ∷ []) rest
-outline board names before ((number, FileLine.Nothing) ∷ rest) = outline board names before rest
-outline board names before ((number, FileLine.Formless) ∷ rest) = Err (at_line number Reason.BadLine)
-outline board names before ((number, FileLine.Marks mark) ∷ rest) = Err (at_line number Reason.NoBus)
+-- a command before the bus declares something, or makes the bus, and then the blocks follow; what a script would refuse does nothing. `before` has the numbers of the commands so far, and `refused` those of the refused ones.
+-- Or the first line by which the file is refused, by its number, or why the file is refused at its end
+abbrev pub outline : Board → List Named → List ℕ → List ℕ → List (ℕ × FileLine) → Result Outline Refusal
+outline board names before refused [] = Err (at_end Reason.NoBus)
+outline board names before refused ((number, FileLine.Does (Command.Legacy name address lvr)) ∷ rest) =
+    if is_some (place_in names name) then outline board names (before ++ number ∷ []) (refused ++ number ∷ []) rest else
+    (if is_some (first_fault board address) then outline board names (before ++ number ∷ []) (refused ++ number ∷ []) rest else
+    outline (record board { legacy = slice_set board.legacy address (Some lvr) }) (names ++ named name (Place.Legacy address) ∷ []) (before ++ number ∷ []) refused rest)
+outline board names before refused ((number, FileLine.Does (Command.Declare address identity)) ∷ rest) =
+    if is_some (first_declare_fault board address identity) then outline board names (before ++ number ∷ []) (refused ++ number ∷ []) rest else
+    outline (record board { declared = slice_set board.declared address (Some identity) }) names (before ++ number ∷ []) refused rest
+outline board names before refused ((number, FileLine.Does (Command.Main name setup)) ∷ rest) =
+    if is_some (place_in names name) then outline board names (before ++ number ∷ []) (refused ++ number ∷ []) rest else
+    (if is_capable setup.identity.bcr then made setup board (names ++ named name (Place.Slot 0) ∷ []) (before ++ number ∷ []) refused rest else
+    outline board names (before ++ number ∷ []) (refused ++ number ∷ []) rest)
+outline board names before refused ((number, FileLine.Does command) ∷ rest) = outline board names (before ++ number ∷ []) (refused ++ number ∷ []) rest
+outline board names before refused ((number, FileLine.Nothing) ∷ rest) = outline board names before refused rest
+outline board names before refused ((number, FileLine.Formless) ∷ rest) = Err (at_line number Reason.BadLine)
+outline board names before refused ((number, FileLine.Marks mark) ∷ rest) = Err (at_line number Reason.NoBus)
 
 -- the start of an outline's bus: its frames accept each request, and no cut waits
 pub record IsStartOf (outline : Outline) (start : Seen) : Type 0 where
@@ -202,6 +208,7 @@ blocks_of blocks = map (λ (block : Vec (Vec Line)). tracks_of block.items) bloc
 pub record IsPlanOf (outline : Outline) (plan : Plan) : Type 0 where
   pub start : IsStartOf outline plan.start
   pub before : plan.before.items ≡ outline.before
+  pub refused : plan.refused.items ≡ outline.refused
   pub blocks : blocks_of plan.blocks.items ≡ outline.blocks
   pub opened : plan.opened.items ≡ outline.opened
   pub risky : plan.risky ≡ outline.risky
@@ -211,7 +218,7 @@ pub record IsPlan (lines : List (Vec ℕ)) (plan : Plan) : Type 0 where
   pub said : List (ℕ × FileLine)
   pub are : AreSaid 1 lines said
   pub outlined : Outline
-  pub is : outline no_board [] [] said ≡ Ok outlined
+  pub is : outline no_board [] [] [] said ≡ Ok outlined
   pub of : IsPlanOf outlined plan
 
 -- the lines of a file up to the one with this number, or all of them
@@ -223,7 +230,7 @@ lines_to (Some number) lines = take number lines
 pub record IsRefusedFor (lines : List (Vec ℕ)) (refusal : Refusal) : Type 0 where
   pub said : List (ℕ × FileLine)
   pub are : AreSaid 1 (lines_to refusal.line lines) said
-  pub is : outline no_board [] [] said ≡ Err refusal
+  pub is : outline no_board [] [] [] said ≡ Err refusal
 
 -- why there is no plan of a file: there was no memory, or the file is refused
 abbrev pub HasNoPlan : List (Vec ℕ) → PlanFault → Type 0

@@ -3,6 +3,7 @@ use Rattle.std.specs.Prelude.{ℕ, Bool, true, false, List, [], ◌∷◌, ◌++
 use Rattle.std.specs.Fmt.{decimal}
 use Rattle.std.specs.Global.{Vec}
 use Rattle.i3c_scene.specs.declared.line.Line.{Line}
+use Rattle.i3c_tracks.specs.declared.plan.Plan.{Plan}
 use Rattle.i3c_tracks.specs.declared.showing.Showing.{Showing}
 use Rattle.i3c_tracks.specs.Ends.{count_text}
 use Rattle.i3c_tracks.specs.Telling.{line_at}
@@ -22,6 +23,10 @@ marked_tracks tracks marks = []
 abbrev pub marked_blocks : List (Vec (Vec Line)) → List (Vec (Vec Bool)) → List ℕ
 marked_blocks (block ∷ blocks) (own ∷ marks) = marked_tracks block.items own.items ++ marked_blocks blocks marks
 marked_blocks blocks marks = []
+
+-- the lines before the bus that are refused, and those behind it that are marked
+abbrev pub refused_lines : Plan → List (Vec (Vec Bool)) → List ℕ
+refused_lines plan marks = plan.refused.items ++ marked_blocks plan.blocks.items marks
 
 -- the line of this number was refused
 abbrev pub refusal_text : List (Vec ℕ) → ℕ → List ℕ

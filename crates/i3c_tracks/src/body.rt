@@ -249,7 +249,11 @@ impl Body {
             Mark::Always(facts) => self.add_always(number, facts),
             Mark::Track => self.begin_track(),
             Mark::Close => self.close(),
-            Mark::Expect(facts) => self.expect(Expectation { number, facts }),
+            Mark::Expect(facts) => self.expect(Expectation {
+                number,
+                lasts: false,
+                facts,
+            }),
         }
     }
 
@@ -275,10 +279,15 @@ impl Body {
         let again = facts.copied()?;
         self.expect(Expectation {
             number,
+            lasts: true,
             facts: again,
         })?;
         match &mut self.block {
-            Some(open) => open.add_always(Expectation { number, facts }),
+            Some(open) => open.add_always(Expectation {
+                number,
+                lasts: true,
+                facts,
+            }),
             None => Ok(()),
         }
     }

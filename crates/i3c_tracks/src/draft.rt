@@ -32,7 +32,7 @@ impl Draft {
     /// A plan before the first line.
     pub(crate) fn new(alloc: Global) -> Draft
         ensures begun { (first : Option Outline) → IsBegunBy result.body first }
-        ensures outline { (first : Option Outline) (rest : List (ℕ × FileLineValue)) → comes result first rest ≡ outline no_board [] [] rest }
+        ensures outline { (first : Option Outline) (rest : List (ℕ × FileLineValue)) → comes result first rest ≡ outline no_board [] [] [] rest }
     {
         Draft {
             alloc,
@@ -103,7 +103,7 @@ impl Draft {
         ensures { OnOk result (Reads self.old (number, FileLineValue.Does command.now) self.new) }
     {
         self.before.push(number)?;
-        match self.front.obey(command)? {
+        match self.front.obey(number, command)? {
             Some(start) => {
                 self.begin(start);
                 Ok(())
@@ -141,7 +141,7 @@ impl Draft {
     {
         let Draft {
             alloc: _,
-            front: _,
+            front,
             before,
             body,
         } = self;
@@ -152,6 +152,7 @@ impl Draft {
             Some(found) => Ok(Plan {
                 start: found.start,
                 before,
+                refused: front.refused,
                 blocks: found.blocks,
                 opened: found.opened,
                 risky: found.risky,

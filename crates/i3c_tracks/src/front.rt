@@ -14,6 +14,8 @@ pub(crate) struct Front {
     alloc: Global,
     legacies: Legacies,
     names: Vec<Named>,
+    /// The numbers of the commands that were refused.
+    pub refused: Vec<u64>,
 }
 
 /// Whether a name was given.
@@ -24,7 +26,7 @@ fn is_given(names: &[Named], name: &Name) -> bool
 }
 
 impl Front {
-    ghost use Rattle.std.specs.Prelude.{◌≡◌, [], IfOk, MatchOption, OnOk};
+    ghost use Rattle.std.specs.Prelude.{◌≡◌, ◌∷◌, ◌++◌, [], IfOk, MatchOption, OnOk};
     ghost use Rattle.i3c_base.specs.State.{no_board};
     ghost use Rattle.i3c_lines.specs.declared.command.Command.{Command as CommandValue};
     ghost use Rattle.i3c_tracks.specs.Drafting.{Begins, Declares};
@@ -33,63 +35,80 @@ impl Front {
     pub(crate) fn new(alloc: Global) -> Front
         ensures legacies { result.legacies ≡ no_board }
         ensures names { result.names.items ≡ [] }
+        ensures refused { result.refused.items ≡ [] }
     {
         Front {
             alloc,
             legacies: Legacies::new(),
             names: Vec::new(alloc),
+            refused: Vec::new(alloc),
         }
     }
 
     /// Obeys a command as a script does, and answers the bus if the command makes one. A command that is refused does
-    /// nothing.
-    pub(crate) fn obey(&mut self, command: &Command) -> Result<Option<Scene>, AllocError>
-        ensures { IfOk result (λ made. MatchOption made (Declares self.old command.now self.new) (λ start. Begins self.old command.now start)) }
+    /// nothing, and its number is kept.
+    pub(crate) fn obey(&mut self, number: u64, command: &Command) -> Result<Option<Scene>, AllocError>
+        ensures { IfOk result (λ made. MatchOption made (Declares self.old number command.now self.new) (Begins self.old number command.now self.new)) }
     {
         match command {
             Command::Legacy { name, address, lvr } => {
-                self.add_legacy(name, *address, *lvr)?;
+                self.add_legacy(number, name, *address, *lvr)?;
                 Ok(None)
             }
             Command::Declare { address, identity } => {
-                self.declare(*address, *identity);
+                self.declare(number, *address, *identity)?;
                 Ok(None)
             }
-            Command::Main { name, setup } => self.begin(name, *setup),
-            _ => Ok(None),
+            Command::Main { name, setup } => self.begin(number, name, *setup),
+            _ => {
+                self.refuse(number)?;
+                Ok(None)
+            }
         }
     }
 
+    /// The command of this number is refused.
+    fn refuse(&mut self, number: u64) -> Result<(), AllocError>
+        ensures legacies { self.new.legacies ≡ self.old.legacies }
+        ensures names { self.new.names ≡ self.old.names }
+        ensures refused { OnOk result (self.new.refused.items ≡ self.old.refused.items ++ number ∷ []) }
+    {
+        self.refused.push(number)?;
+        Ok(())
+    }
+
     /// `legacy`: declares a legacy target, unless its name was given or its address is refused.
-    fn add_legacy(&mut self, name: &Name, address: Addr7, lvr: Lvr) -> Result<(), AllocError>
-        ensures { OnOk result (Declares self.old (CommandValue.Legacy name.now address lvr) self.new) }
+    fn add_legacy(&mut self, number: u64, name: &Name, address: Addr7, lvr: Lvr) -> Result<(), AllocError>
+        ensures { OnOk result (Declares self.old number (CommandValue.Legacy name.now address lvr) self.new) }
     {
         if is_given(&self.names, name) {
-            return Ok(());
+            return self.refuse(number);
         }
         match self.legacies.add(address, lvr) {
             Ok(()) => {
                 self.names.push(Named::new(*name, Place::Legacy(address)))?;
                 Ok(())
             }
-            Err(_) => Ok(()),
+            Err(_) => self.refuse(number),
         }
     }
 
-    /// `declare`: declares an identity, unless its address or the identity is refused, which is no fault.
-    fn declare(&mut self, address: Addr7, identity: Identity)
-        ensures { Declares self.old (CommandValue.Declare address identity) self.new }
+    /// `declare`: declares an identity, unless its address or the identity is refused.
+    fn declare(&mut self, number: u64, address: Addr7, identity: Identity) -> Result<(), AllocError>
+        ensures { OnOk result (Declares self.old number (CommandValue.Declare address identity) self.new) }
     {
         match self.legacies.declare(address, identity) {
-            Ok(()) | Err(_) => {}
+            Ok(()) => Ok(()),
+            Err(_) => self.refuse(number),
         }
     }
 
     /// `main`: makes the bus, unless the name was given or the device isn't capable of the role.
-    fn begin(&mut self, name: &Name, setup: Setup) -> Result<Option<Scene>, AllocError>
-        ensures { IfOk result (λ made. MatchOption made (Declares self.old (CommandValue.Main name.now setup) self.new) (λ start. Begins self.old (CommandValue.Main name.now setup) start)) }
+    fn begin(&mut self, number: u64, name: &Name, setup: Setup) -> Result<Option<Scene>, AllocError>
+        ensures { IfOk result (λ made. MatchOption made (Declares self.old number (CommandValue.Main name.now setup) self.new) (Begins self.old number (CommandValue.Main name.now setup) self.new)) }
     {
         if is_given(&self.names, name) || !setup.identity.bcr.capable() {
+            self.refuse(number)?;
             return Ok(None);
         }
         self.names

@@ -1,5 +1,6 @@
-ghost use Rattle.std.specs.Prelude.{◌≡◌, ◌<◌, ◌≤◌, ◌+◌, ◌++◌, ℕ, List, Some, IfOk, OnOk, count_by, if◌then◌else◌, length, map, slice_get, suc};
+ghost use Rattle.std.specs.Prelude.{◌≡◌, ◌<◌, ◌≤◌, ◌+◌, ◌++◌, ℕ, List, Some, IfOk, OnOk, count_by, false, if◌then◌else◌, length, map, slice_get, suc, true};
 ghost use Rattle.i3c_explore.specs.declared.node.Node.{Node as NodeValue};
+ghost use Rattle.i3c_explore.specs.declared.ran.Ran.{Ran as RanValue};
 ghost use Rattle.i3c_scene.specs.Scenes.{Seen};
 ghost use Rattle.i3c_tracks.specs.Groups.{Adds, AreGroupTexts, AreGroups, IsExample, IsGroupText, LeadTo, answer_text, answers_text, are_alike, begins_at, group_head, group_of, groups_in, holds_in, key_of, keys_of, led_text};
 ghost use Rattle.i3c_tracks.specs.Planning.{step_of};
@@ -10,7 +11,7 @@ use crate::plan::Plan;
 use crate::question::Question;
 use crate::report::{push_end, push_orders};
 use crate::showing::Showing;
-use i3c_explore::{Machine, Node};
+use i3c_explore::{Machine, Node, Ran};
 use i3c_scene::{Line, Runner, Scene};
 use i3c_text::Text;
 use std::alloc::{AllocError, Global};
@@ -75,9 +76,21 @@ fn key_of(
 {
     let mut key = Vec::new(alloc);
     for index in 0..asked.len() {
-        key.push(state.run(alloc, &asked[index], 0, false, runner)?)?;
+        let ran = state.run(alloc, &asked[index], 0, false, runner)?;
+        key.push(is_unbroken(ran))?;
     }
     Ok(key)
+}
+
+/// Whether a line that ran breaks nothing.
+fn is_unbroken(ran: Ran) -> bool
+    ensures held { result ≡ true → ran ≡ RanValue.Broken → ⊥ }
+    ensures broken { result ≡ false → ran ≡ RanValue.Broken }
+{
+    match ran {
+        Ran::Held | Ran::Noted => true,
+        Ran::Broken => false,
+    }
 }
 
 /// Whether a group begins at this place: no end before it has the same key.

@@ -124,6 +124,7 @@ fn expect_again(expectation: &Expectation, line: &mut Line) -> Result<(), AllocE
     let facts = expectation.facts.copied()?;
     line.expectations.push(Expectation {
         number: expectation.number,
+        lasts: expectation.lasts,
         facts,
     })?;
     Ok(())

@@ -13,6 +13,8 @@ pub struct Plan {
     pub start: Scene,
     /// The numbers of the commands before the bus, and of the one that made it, from 1 on.
     pub before: Vec<u64>,
+    /// The numbers of those that are refused.
+    pub refused: Vec<u64>,
     /// The blocks, one after another. A line outside of blocks is a block of one track.
     pub blocks: Vec<Vec<Vec<Line>>>,
     /// Which of the blocks were opened by a line.

@@ -59,7 +59,11 @@ impl Question {
     {
         let facts = self.facts.copied()?;
         let mut expectations = Vec::new(alloc);
-        expectations.push(Expectation { number: 0, facts })?;
+        expectations.push(Expectation {
+            number: 0,
+            lasts: false,
+            facts,
+        })?;
         Ok(Line {
             number: 0,
             command: None,

@@ -8,6 +8,7 @@ use crate::groups::push_groups;
 use crate::plan::Plan;
 use crate::question::Question;
 use crate::showing::Showing;
+use crate::unexpected::push_unexpected;
 use i3c_explore::{Explored, Machine, Node};
 use i3c_lines::Name;
 use i3c_scene::{Risk, Runner, Scene, ways_of};
@@ -17,7 +18,8 @@ use std::alloc::{AllocError, Global};
 /// What is told of more than 64 bits.
 const OVER: &[u8] = b"over 18446744073709551615";
 
-/// Appends the whole report: the numbers, and then what is shown of the ends.
+/// Appends the whole report: the numbers, the lines that were refused with nothing expected of them, and then what is shown
+/// of the ends.
 pub(crate) fn push_report(
     alloc: Global,
     lines: &[Vec<u8>],
@@ -28,10 +30,11 @@ pub(crate) fn push_report(
     text: &mut Text,
 ) -> Result<(), AllocError>
     requires { found.now.steps + length plan.now.before.items < 2 ^ 64 }
-    ensures { OnOk result ((said : List ℕ) × IsReport showing questions.now lines.now plan.now found.now.ends.items found.now.orders (found.now.steps + length plan.now.before.items) said × (text.new ≡ text.old ++ said)) }
+    ensures { OnOk result ((said : List ℕ) × IsReport showing questions.now lines.now plan.now found.now.ends.items found.now.orders (found.now.steps + length plan.now.before.items) found.now.noted.items said × (text.new ≡ text.old ++ said)) }
 {
     let steps = found.steps + plan.before.len() as u64;
     push_numbers(found.orders, steps, found.ends.len() as u64, text)?;
+    push_unexpected(alloc, lines, plan, showing, &found.noted, text)?;
     push_shown(alloc, lines, plan, showing, questions, &found.ends, text)
 }
 

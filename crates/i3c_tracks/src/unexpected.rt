@@ -1,5 +1,5 @@
 ghost use Rattle.std.specs.Prelude.{◌≡◌, ◌++◌, OnOk, take};
-ghost use Rattle.i3c_tracks.specs.Unexpected.{marked_blocks, marked_lines, marked_tracks, refusal_text, refusals_text, unexpected_text};
+ghost use Rattle.i3c_tracks.specs.Unexpected.{marked_blocks, marked_lines, marked_tracks, refused_lines, refusal_text, refusals_text, unexpected_text};
 
 use crate::plan::Plan;
 use crate::report::line_at;
@@ -11,8 +11,8 @@ use std::alloc::{AllocError, Global};
 /// How many lines are named.
 const NAMED: usize = 5;
 
-/// Appends how many lines are marked: those that were refused in some order with nothing expected of them. Where ends are
-/// shown, the first five of these lines are named.
+/// Appends how many lines were refused in some order with nothing expected of them: those before the bus that are refused,
+/// and those behind it that are marked. Where ends are shown, the first five of these lines are named.
 pub(crate) fn push_unexpected(
     alloc: Global,
     lines: &[Vec<u8>],
@@ -21,9 +21,10 @@ pub(crate) fn push_unexpected(
     marks: &[Vec<Vec<bool>>],
     text: &mut Text,
 ) -> Result<(), AllocError>
-    ensures { OnOk result (text.new ≡ text.old ++ unexpected_text showing lines.now (marked_blocks plan.now.blocks.items marks.now)) }
+    ensures { OnOk result (text.new ≡ text.old ++ unexpected_text showing lines.now (refused_lines plan.now marks.now)) }
 {
     let mut numbers = Vec::new(alloc);
+    numbers.extend_from_slice(&plan.refused)?;
     add_blocks(&plan.blocks, marks, &mut numbers)?;
     text.push_numbered(b"refusals ", numbers.len() as u64)?;
     match showing {

@@ -3,16 +3,18 @@ use Rattle.std.proofs.Common.{◌≡◌, ℕ, ◌+◌, ◌≤◌, ◌++◌, List
 use Rattle.std.specs.Global.{Vec}
 use Rattle.std.specs.Prelude.{IfOk, OnOk}
 use Rattle.i3c_explore.specs.declared.limits.Limits.{Limits}
+use Rattle.i3c_explore.specs.declared.ran.Ran.{Ran}
 use Rattle.i3c_explore.specs.declared.stop.Stop.{Stop}
 use Rattle.i3c_explore.specs.declared.turn.Turn.{Turn}
 use Rattle.i3c_explore.specs.Blocks.{IsBegun, IsShortestInPart, LeadsOn}
 use Rattle.i3c_explore.specs.Explorations.{Explores}
+use Rattle.i3c_explore.specs.Notes.{AreNoted}
 use Rattle.i3c_explore.specs.Parts.{IsOfPart, Part}
 use Rattle.i3c_explore.specs.Runs.{IsByLayers}
 use Rattle.i3c_scene.specs.declared.line.Line.{Line}
 use Rattle.i3c_scene.specs.Latest.{latest_of}
 use Rattle.i3c_scene.specs.Scenes.{Seen}
-use Rattle.i3c_scene.specs.Trying.{LineBreaks, LineSteps}
+use Rattle.i3c_scene.specs.Trying.{LineBreaks, LineComesTo, LineSteps}
 use Rattle.i3c_tracks.specs.declared.answer.Answer.{Answer}
 use Rattle.i3c_tracks.specs.declared.plan.Plan.{Plan}
 use Rattle.i3c_tracks.specs.declared.question.Question.{Question}
@@ -26,9 +28,9 @@ use Rattle.i3c_tracks.specs.Telling.{refusal_line, script_text}
 use Rattle.i3c_tracks.proofs.exploring.explore_plan.Goals as goal
 
 -- an order that is answered breaks an expectation, and no shorter one does
-shortest_of : (part : Part) (blocks : List (Vec (Vec Line))) (start : Seen) (limits : Limits) (stop : Stop) (order : Vec Turn) → stop ≡ Stop.Breaks order → Explores LineSteps latest_of LineBreaks part blocks start limits (Err stop)
+shortest_of : (part : Part) (blocks : List (Vec (Vec Line))) (start : Seen) (limits : Limits) (stop : Stop) (order : Vec Turn) → stop ≡ Stop.Breaks order → Explores LineSteps latest_of LineBreaks (LineComesTo Ran.Noted) (LineComesTo Ran.Held) part blocks start limits (Err stop)
     → IsShortestInPart LineSteps LineBreaks part blocks start order.items
-shortest_of part blocks start limits stop order is = subst (λ (s : Stop). Explores LineSteps latest_of LineBreaks part blocks start limits (Err s)) is
+shortest_of part blocks start limits stop order is = subst (λ (s : Stop). Explores LineSteps latest_of LineBreaks (LineComesTo Ran.Noted) (LineComesTo Ran.Held) part blocks start limits (Err s)) is
 
 pub returns-in_ok-push_report-in-Ok-clause-answer : goal.returns-in_ok-push_report-in-Ok-clause-answer
 returns-in_ok-push_report-in-Ok-clause-answer g c =
@@ -64,8 +66,11 @@ returns-in_ok-push_report-in-Ok-clause-printed g c is known =
     let layers = subst (λ (n : ℕ). IsByLayers LineSteps latest_of part plan.blocks.items plan.start n ends ran) c.in-Some.ensures.states
     (subst (λ (s : Seen). IsByLayers LineSteps latest_of part plan.blocks.items s c.in-Some.left.states ends ran) c.in_ok-start.ensures
     (subst (λ (bs : List (Vec (Vec Line))). IsByLayers LineSteps latest_of part bs c.in_ok-start.start c.in-Some.left.states ends ran) c.deref.ensures.value c.in-Ok.ensures.layers)) in
+    let noted = c.in-Ok.found.noted.items in
+    let are = subst (λ (s : Seen). AreNoted LineSteps (LineComesTo Ran.Noted) (LineComesTo Ran.Held) part plan.blocks.items s noted) c.in_ok-start.ensures
+    (subst (λ (bs : List (Vec (Vec Line))). AreNoted LineSteps (LineComesTo Ran.Noted) (LineComesTo Ran.Held) part bs c.in_ok-start.start noted) c.deref.ensures.value c.in-Ok.ensures.noted) in
     let within : ran + length plan.before.items ≤ c.args.limits.steps = omega (arith, c.in-Some.ensures.steps, c.in-Ok.ensures.within, c.len.ensures) in
-    (said, record { plan = plan; is = is; known = known; ends = ends; orders = orders; ran = ran; leads = leads; layers = layers; within = within; report = report }, put)
+    (said, record { plan = plan; is = is; known = known; ends = ends; orders = orders; ran = ran; leads = leads; layers = layers; within = within; noted = noted; are = are; report = report }, put)
 
 pub returns-in_ok-push_broken-in-Err-Breaks-clause-printed : goal.returns-in_ok-push_broken-in-Err-Breaks-clause-printed
 returns-in_ok-push_broken-in-Err-Breaks-clause-printed g c is known =

@@ -11,7 +11,7 @@ returns-in-Some c =
     let command = c.args.command.now in
     let made = rw c.in-Some.is at c.in_ok-start.ensures in
     let begun = c.begin.ensures in
-    read_begun old c.begin.new.self c.args.number command begun.0 c.requires (ap (λ (d : Draft). d.body) begun.1) (ap (λ (d : Draft). d.before.items) begun.1 ∙ c.in_ok-push.ensures.items) (subst (Begins old.front command) (sym begun.2) made) begun.3
+    read_begun old c.begin.new.self c.args.number command begun.0 c.requires (ap (λ (d : Draft). d.body) begun.1) (ap (λ (d : Draft). d.before.items) begun.1 ∙ c.in_ok-push.ensures.items) (subst (Begins old.front c.args.number command c.obey.new.self) (sym begun.2) made) begun.3
 
 pub returns-in-None : goal.returns-in-None
 returns-in-None c =

@@ -8,4 +8,4 @@ pub returns-in-Some : goal.returns-in-Some
 returns-in-Some c =
     let old = c.args.self.now in
     let later = c.add_mark.new.self in
-    on_ok c.add_mark.result (λ (on : ReadsOn c.in-Some.body (c.args.number, FileLine.Marks c.args.mark) later). read_behind old (record old { body = Some later }) c.in-Some.body later (c.args.number, FileLine.Marks c.args.mark) c.in-Some.is refl refl c.requires on) c.add_mark.ensures
+    on_ok c.add_mark.result (λ (on : ReadsOn c.in-Some.body (c.args.number, FileLine.Marks c.args.mark) later). read_behind old (record old { body = Some later }) c.in-Some.body later (c.args.number, FileLine.Marks c.args.mark) c.in-Some.is refl refl refl c.requires on) c.add_mark.ensures

@@ -11,11 +11,12 @@ returns-in-Some-2 c first begun =
     let before = c.args.self.before.items in
     let found = rw c.in-Some-2.is at c.in_ok-found.ensures in
     let by = subst (λ b. IsBegunBy b first) c.in-Some.is begun in (
-      record by.0 { before = before; blocks = comes_to body []; opened = opens body []; risky = risks body [] },
+      record by.0 { before = before; refused = front.refused.items; blocks = comes_to body []; opened = opens body []; risky = risks body [] },
       ap (λ b. comes_on b front before first []) c.in-Some.is ∙ none_left body first by.0 front before found.1 by.1,
       record {
-        start = same_start by.0 before (comes_to body []) (opens body []) (risks body []) body.start c.in-Some-2.found.start found.0 by.2;
+        start = same_start by.0 before front.refused.items (comes_to body []) (opens body []) (risks body []) body.start c.in-Some-2.found.start found.0 by.2;
         before = refl;
+        refused = refl;
         blocks = found.2;
         opened = found.3;
         risky = found.4;
