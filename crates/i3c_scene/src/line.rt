@@ -29,6 +29,32 @@ pub struct Line {
     pub expectations: Vec<Expectation>,
 }
 
+impl Expectation {
+    ghost use Rattle.std.specs.Prelude.{false, true};
+
+    /// What is expected of one line alone, by the line of this number.
+    pub fn of_line(number: u64, facts: Facts) -> Expectation
+        ensures { result ≡ record { number = number; lasts = false; facts = facts } }
+    {
+        Expectation {
+            number,
+            lasts: false,
+            facts,
+        }
+    }
+
+    /// What is expected of each line of a block, by the line of this number.
+    pub fn lasting(number: u64, facts: Facts) -> Expectation
+        ensures { result ≡ record { number = number; lasts = true; facts = facts } }
+    {
+        Expectation {
+            number,
+            lasts: true,
+            facts,
+        }
+    }
+}
+
 impl Line {
     /// Whether something is expected of this line itself, and not only of each line of its block.
     pub(crate) fn is_expected(&self) -> bool

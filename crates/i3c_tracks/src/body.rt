@@ -249,11 +249,7 @@ impl Body {
             Mark::Always(facts) => self.add_always(number, facts),
             Mark::Track => self.begin_track(),
             Mark::Close => self.close(),
-            Mark::Expect(facts) => self.expect(Expectation {
-                number,
-                lasts: false,
-                facts,
-            }),
+            Mark::Expect(facts) => self.expect(Expectation::of_line(number, facts)),
         }
     }
 
@@ -277,17 +273,9 @@ impl Body {
         ensures { OnOk result (ReadsOn self.old (number, FileLineValue.Marks (MarkValue.Always facts)) self.new) }
     {
         let again = facts.copied()?;
-        self.expect(Expectation {
-            number,
-            lasts: true,
-            facts: again,
-        })?;
+        self.expect(Expectation::lasting(number, again))?;
         match &mut self.block {
-            Some(open) => open.add_always(Expectation {
-                number,
-                lasts: true,
-                facts,
-            }),
+            Some(open) => open.add_always(Expectation::lasting(number, facts)),
             None => Ok(()),
         }
     }

@@ -59,11 +59,7 @@ impl Question {
     {
         let facts = self.facts.copied()?;
         let mut expectations = Vec::new(alloc);
-        expectations.push(Expectation {
-            number: 0,
-            lasts: false,
-            facts,
-        })?;
+        expectations.push(Expectation::of_line(0, facts))?;
         Ok(Line {
             number: 0,
             command: None,
