@@ -3,6 +3,7 @@ use Rattle.std.proofs.Common.{◌≡◌, ◌∷◌, ◌-◌, ◌+◌, ◌≤◌,
 use Rattle.std.proofs.lemmas.Option.{same_Some, slice_get_past}
 use Rattle.std.specs.List.{slice_get}
 use Rattle.i3c_orders.specs.declared.choice.Choice.{Choice}
+use Rattle.i3c_orders.specs.declared.choice.Step.{Step}
 use Rattle.i3c_orders.specs.Paths.{Answers, IsSent, Tree, last_step, state_behind, tree}
 
 -- what holds holds after a failure
@@ -34,14 +35,14 @@ module _ {L S A : Type 0} where
   end_is start (first ∷ path) choice is = end_at start (first ∷ path) (length (first ∷ path) - 1) choice (omega arith) is
 
   -- a line along the path is the one that is there
-  pub replayed : (leads : S → L → A → S → Type 0) (start : S) (path : List (Choice L S A)) (at : ℕ) (line : L) (choice : Choice L S A) → slice_get path at ≡ Some choice → choice.line ≡ line
-      → Answers leads (tree start path at) line (Ok tt) (tree start path (at + 1))
-  replayed leads start path at line choice there same =
-      subst (λ o. MatchOption o (IsSent leads (tree start path at) line (tree start path (at + 1))) (λ one. (one.line ≡ line) × (tree start path (at + 1) ≡ tree start path (suc at)))) (sym there)
+  pub replayed : (gives : S → L → List (Step S A) → Type 0) (start : S) (path : List (Choice L S A)) (at : ℕ) (line : L) (choice : Choice L S A) → slice_get path at ≡ Some choice → choice.line ≡ line
+      → Answers gives (tree start path at) line (Ok tt) (tree start path (at + 1))
+  replayed gives start path at line choice there same =
+      subst (λ o. MatchOption o (IsSent gives (tree start path at) line (tree start path (at + 1))) (λ one. (one.line ≡ line) × (tree start path (at + 1) ≡ tree start path (suc at)))) (sym there)
       (same, ap (tree start path) (omega arith))
 
   -- behind the path there is none
-  pub answered : (leads : S → L → A → S → Type 0) (start : S) (path : List (Choice L S A)) (at : ℕ) (line : L) (new : Tree L S A) → length path ≤ at → IsSent leads (tree start path at) line new
-      → Answers leads (tree start path at) line (Ok tt) new
-  answered leads start path at line new past sent =
-      subst (λ o. MatchOption o (IsSent leads (tree start path at) line new) (λ one. (one.line ≡ line) × (new ≡ tree start path (suc at)))) (sym (slice_get_past path at past)) sent
+  pub answered : (gives : S → L → List (Step S A) → Type 0) (start : S) (path : List (Choice L S A)) (at : ℕ) (line : L) (new : Tree L S A) → length path ≤ at → IsSent gives (tree start path at) line new
+      → Answers gives (tree start path at) line (Ok tt) new
+  answered gives start path at line new past sent =
+      subst (λ o. MatchOption o (IsSent gives (tree start path at) line new) (λ one. (one.line ≡ line) × (new ≡ tree start path (suc at)))) (sym (slice_get_past path at past)) sent

@@ -1,13 +1,13 @@
--- The runs that were tried are all, where nothing is left.
+-- What was tried of a program's runs, and what is left on its path.
 use Rattle.std.proofs.Common.{◌≡◌, ◌⊎◌, inl, inr, zero, suc, List, [], ◌∷◌, ◌++◌, Contains, Option, None, Some, ap, refl, sym, subst, ◌∙◌, arith, ◌↔◌}
 use Rattle.std.specs.Bool.{⊤}
-use Rattle.std.proofs.lemmas.List.{append_assoc, append-nil}
+use Rattle.std.proofs.lemmas.List.{append_assoc, append-nil, map_push}
 use Rattle.std.proofs.lemmas.List.Elements.{Contains-append_left, Contains-append_right, Contains-append_cases}
 use Rattle.std.proofs.lemmas.Option.{same_Some}
 use Rattle.i3c_orders.specs.declared.choice.Choice.{Choice}
 use Rattle.i3c_orders.specs.declared.choice.Step.{Step}
 use Rattle.i3c_orders.specs.Paths.{IsOver, Retreats, state_behind, steps_of, told_on}
-use Rattle.i3c_orders.specs.Runs.{AreAll, IsRun, IsRunFrom}
+use Rattle.i3c_orders.specs.Runs.{AreTried, CanLead, IsRun, IsRunFrom, IsSettled, state_after, told_by}
 use Rattle.i3c_orders.specs.Sessions.{IsTried, Move}
 
 -- the one element of a list
@@ -31,180 +31,200 @@ first_or y ys x h = go (Contains-append_cases (y ∷ []) ys x h)
 none_in : {X : Type 0} (x : X) → Contains [] x → ⊥
 none_in x (k, few, is) = omega (arith, few)
 
-none_is_some : {X : Type 0} (o : Option X) (x : X) → o ≡ None → o ≡ Some x → ⊥
+-- the last element, or one of those before it
+last_or : {X : Type 0} (ys : List X) (y x : X) → Contains (ys ++ y ∷ []) x → (x ≡ y) ⊎ Contains ys x
+last_or ys y x h = go (Contains-append_cases ys (y ∷ []) x h)
+  where
+    go : Contains ys x ⊎ Contains (y ∷ []) x → (x ≡ y) ⊎ Contains ys x
+    go (inl more) = inr more
+    go (inr one) = inl (only_one y x one)
+
+first_or_last : {X : Type 0} (ys : List X) (y x : X) → (x ≡ y) ⊎ Contains ys x → Contains (ys ++ y ∷ []) x
+first_or_last ys y x (inl is) = Contains-append_right ys (y ∷ []) x (subst (λ z. Contains (y ∷ []) z) (sym is) (here y []))
+first_or_last ys y x (inr more) = Contains-append_left ys (y ∷ []) x more
+
+pub none_is_some : {X : Type 0} (o : Option X) (x : X) → o ≡ None → o ≡ Some x → ⊥
 none_is_some o x none some = cc
 
--- of all answers the last one may be taken first
-pub all_moved : {S L A : Type 0} (leads : S → L → A → S → Type 0) (state : S) (line : L) (steps rest : List (Step S A)) (taken : Step S A) → steps ≡ rest ++ taken ∷ [] → AreAll leads state line steps → AreAll leads state line (taken ∷ rest)
-all_moved leads state line steps rest taken is all step = (
-  λ led. to (Contains-append_cases rest (taken ∷ []) step (subst (λ s. Contains s step) is ((all step).0 led))),
-  λ h. (all step).1 (subst (λ s. Contains s step) (sym is) (back_to (first_or taken rest step h))),
-)
-  where
-    to : Contains rest step ⊎ Contains (taken ∷ []) step → Contains (taken ∷ rest) step
-    to (inl more) = there taken rest step more
-    to (inr one) = subst (λ s. Contains (taken ∷ rest) s) (sym (only_one taken step one)) (here taken rest)
+-- the answers of a run and one step more
+pub told_more : {S A : Type 0} (run : List (Step S A)) (step : Step S A) → told_by (run ++ step ∷ []) ≡ told_by run ++ step.answer ∷ []
+told_more {S} {A} run step = map_push (λ (s : Step S A). s.answer) run step
 
-    back_to : (step ≡ taken) ⊎ Contains rest step → Contains (rest ++ taken ∷ []) step
-    back_to (inl same) = Contains-append_right rest (taken ∷ []) step (subst (λ s. Contains (taken ∷ []) s) (sym same) (here taken []))
-    back_to (inr more) = Contains-append_left rest (taken ∷ []) step more
+pub told_same : {L S A : Type 0} (path : List (Choice L S A)) → told_by (steps_of path) ≡ told_on path
+told_same [] = refl
+told_same (choice ∷ path) = ap (λ answers. choice.taken.answer ∷ answers) (told_same path)
 
-module _ {S L A : Type 0} (leads : S → L → A → S → Type 0) (program : List A → Option L) where
-  -- what is left to be tried on a path: what goes along it and on, and what takes an answer that is left
-  abbrev pub IsLeft : List (Choice L S A) → List (Step S A) → Type 0
-  IsLeft [] run = ⊤
-  IsLeft (choice ∷ path) [] = ⊥
-  IsLeft (choice ∷ path) (step ∷ run) = ((step ≡ choice.taken) × IsLeft path run) ⊎ Contains choice.left.items step
+-- the state behind a run and one step more
+state_more : {S A : Type 0} (start : S) (run : List (Step S A)) (step : Step S A) → state_after start (run ++ step ∷ []) ≡ step.state
+state_more start [] step = refl
+state_more start (first ∷ run) step = state_more first.state run step
 
-  -- each line of a path is the program's, and each answer there is one that it may get
-  abbrev pub IsLed : List A → S → List (Choice L S A) → Type 0
-  IsLed told state [] = ⊤
-  IsLed told state (choice ∷ path) = (program told ≡ Some choice.line) × ((step : Step S A) → Contains (choice.taken ∷ choice.left.items) step → leads state choice.line step.answer step.state)
-      × IsLed (told ++ choice.taken.answer ∷ []) choice.taken.state path
+module _ {L S A : Type 0} (gives : S → L → List (Step S A) → Type 0) (program : List A → Option L) (start : S) where
+  -- what was tried stays tried
+  more_tried : (tried more : List (List (Step S A))) → ((r : List (Step S A)) → Contains tried r → Contains more r) → (run : List (Step S A)) → AreTried gives program start tried run → AreTried gives program start more run
+  more_tried tried more all run (AreTried.Over _ ends at) = AreTried.Over run ends (all run at)
+  more_tried tried more all run (AreTried.GoesOn _ line steps asks given on) = AreTried.GoesOn run line steps asks given (λ step at. more_tried tried more all (run ++ step ∷ []) (on step at))
 
-  told_more : (told : List A) (choice : Choice L S A) (path : List (Choice L S A)) (o : Option L) → program (told ++ told_on (choice ∷ path)) ≡ o → program ((told ++ choice.taken.answer ∷ []) ++ told_on path) ≡ o
-  told_more told choice path o is = subst (λ answers. program answers ≡ o) (sym (append_assoc told (choice.taken.answer ∷ []) (told_on path))) is
+  -- an answer is taken, or left, or what goes on with it was tried
+  abbrev pub IsSeen : List (List (Step S A)) → List (Step S A) → Choice L S A → Step S A → Type 0
+  IsSeen tried run choice step = (step ≡ choice.taken) ⊎ (Contains choice.left.items step ⊎ AreTried gives program start tried (run ++ step ∷ []))
 
-  -- a run that goes along a path to its end takes one of the answers there
-  pub sent_left : (told : List A) (state : S) (path : List (Choice L S A)) (choice : Choice L S A) (run : List (Step S A)) → IsRunFrom leads program told state run → program (told ++ told_on path) ≡ Some choice.line
-      → AreAll leads (state_behind state path) choice.line (choice.taken ∷ choice.left.items) → IsLeft path run → IsLeft (path ++ choice ∷ []) run
-  sent_left told state [] choice [] over asks all left = absurd (none_is_some (program told) choice.line over (subst (λ answers. program answers ≡ Some choice.line) (append-nil told) asks))
-  sent_left told state [] choice (step ∷ run) (line, is, led, more) asks all left =
-      let same : line ≡ choice.line = same_Some line choice.line (sym is ∙ subst (λ answers. program answers ≡ Some choice.line) (append-nil told) asks) in
-      go (first_or choice.taken choice.left.items step ((all step).0 (subst (λ l. leads state l step.answer step.state) same led)))
-    where
-      go : (step ≡ choice.taken) ⊎ Contains choice.left.items step → ((step ≡ choice.taken) × IsLeft [] run) ⊎ Contains choice.left.items step
-      go (inl is) = inl (is, tt)
-      go (inr is) = inr is
-  sent_left told state (first ∷ path) choice [] run asks all left = absurd left
-  sent_left told state (first ∷ path) choice (step ∷ run) (line, is, led, more) asks all (inl (same, left)) =
-      inl (
-        same,
-        sent_left (told ++ first.taken.answer ∷ []) first.taken.state path choice run
-            (subst (λ (s : Step S A). IsRunFrom leads program (told ++ s.answer ∷ []) s.state run) same more) (told_more told first path (Some choice.line) asks) all left,
-      )
-  sent_left told state (first ∷ path) choice (step ∷ run) goes asks all (inr other) = inr other
+  -- the answers that a line was given behind a run
+  abbrev pub AreSeen : List (List (Step S A)) → List (Step S A) → Choice L S A → Type 0
+  AreSeen tried run choice = (steps : List (Step S A)) × gives (state_after start run) choice.line steps × ((step : Step S A) → Contains steps step → IsSeen tried run choice step)
+      × ((step : Step S A) → Contains (choice.taken ∷ choice.left.items) step → Contains steps step)
 
-  pub sent_led : (told : List A) (state : S) (path : List (Choice L S A)) (choice : Choice L S A) → program (told ++ told_on path) ≡ Some choice.line
-      → AreAll leads (state_behind state path) choice.line (choice.taken ∷ choice.left.items) → IsLed told state path → IsLed told state (path ++ choice ∷ [])
-  sent_led told state [] choice asks all led = (subst (λ answers. program answers ≡ Some choice.line) (append-nil told) asks, λ step is. (all step).1 is, tt)
-  sent_led told state (first ∷ path) choice asks all (is, each, more) = (is, each, sent_led (told ++ first.taken.answer ∷ []) first.taken.state path choice (told_more told first path (Some choice.line) asks) all more)
+  -- behind a run each line of a path is the program's, and was given answers
+  abbrev pub IsUnderway : List (List (Step S A)) → List (Step S A) → List (Choice L S A) → Type 0
+  IsUnderway tried run [] = ⊤
+  IsUnderway tried run (choice ∷ path) = (program (told_by run) ≡ Some choice.line) × AreSeen tried run choice × IsUnderway tried (run ++ choice.taken ∷ []) path
 
-  -- where nothing is left, only the run of the path itself is
-  pub over_is : (told : List A) (state : S) (path : List (Choice L S A)) (run : List (Step S A)) → IsRunFrom leads program told state run → program (told ++ told_on path) ≡ None → IsOver path → IsLeft path run → run ≡ steps_of path
-  over_is told state [] [] goes ends over left = refl
-  over_is told state [] (step ∷ run) (line, is, led, more) ends over left = absurd (none_is_some (program told) line (subst (λ answers. program answers ≡ None) (append-nil told) ends) is)
-  over_is told state (first ∷ path) [] goes ends over left = absurd left
-  over_is told state (first ∷ path) (step ∷ run) (line, is, led, more) ends (none, over) (inl (same, left)) =
-      let rest : run ≡ steps_of path = over_is (told ++ first.taken.answer ∷ []) first.taken.state path run
-      (subst (λ (s : Step S A). IsRunFrom leads program (told ++ s.answer ∷ []) s.state run) same more) (told_more told first path None ends) over left in
-      subst (λ (s : Step S A). step ∷ run ≡ s ∷ steps_of path) same (ap (λ r. step ∷ r) rest)
-  over_is told state (first ∷ path) (step ∷ run) goes ends (none, over) (inr other) = absurd (none_in step (subst (λ steps. Contains steps step) none other))
+  -- the end of a run by its next step
+  ends_on : (run : List (Step S A)) (first : Choice L S A) (path : List (Choice L S A)) (o : Option L) → program (told_by (run ++ steps_of (first ∷ path))) ≡ o → program (told_by ((run ++ first.taken ∷ []) ++ steps_of path)) ≡ o
+  ends_on run first path o is = subst (λ r. program (told_by r) ≡ o) (sym (append_assoc run (first.taken ∷ []) (steps_of path))) is
 
-  -- behind the end of a run, what was left is that run, or is left of the next path
-  pub next_left : (told : List A) (state : S) (path new : List (Choice L S A)) (run : List (Step S A)) → IsRunFrom leads program told state run → program (told ++ told_on path) ≡ None → Retreats path new → IsLeft path run
-      → (run ≡ steps_of path) ⊎ IsLeft new run
-  next_left told state [] new run goes ends back left = absurd back
-  next_left told state (first ∷ path) [] run goes ends back left = absurd back
-  next_left told state (first ∷ path) (other ∷ new) [] goes ends back left = absurd left
-  next_left told state (first ∷ path) (other ∷ new) (step ∷ run) (line, is, led, more) ends (inl (same, back)) (inl (taken, left)) =
-      go (next_left (told ++ first.taken.answer ∷ []) first.taken.state path new run
-      (subst (λ (s : Step S A). IsRunFrom leads program (told ++ s.answer ∷ []) s.state run) taken more) (told_more told first path None ends) back left)
-    where
-      go : (run ≡ steps_of path) ⊎ IsLeft new run → (step ∷ run ≡ steps_of (first ∷ path)) ⊎ IsLeft (other ∷ new) (step ∷ run)
-      go (inl all) = inl (subst (λ (s : Step S A). step ∷ run ≡ s ∷ steps_of path) taken (ap (λ r. step ∷ r) all))
-      go (inr on) = inr (inl (taken ∙ ap (λ (c : Choice L S A). c.taken) (sym same), on))
-  next_left told state (first ∷ path) (other ∷ new) (step ∷ run) goes ends (inl (same, back)) (inr rest) = inr (inr (subst (λ (c : Choice L S A). Contains c.left.items step) (sym same) rest))
-  next_left told state (first ∷ path) (other ∷ new) (step ∷ run) (line, is, led, more) ends (inr (over, none, other_line, left)) (inl (taken, on)) =
-      let rest : run ≡ steps_of path = over_is (told ++ first.taken.answer ∷ []) first.taken.state path run
-      (subst (λ (s : Step S A). IsRunFrom leads program (told ++ s.answer ∷ []) s.state run) taken more) (told_more told first path None ends) over on in
-      inl (subst (λ (s : Step S A). step ∷ run ≡ s ∷ steps_of path) taken (ap (λ r. step ∷ r) rest))
-  next_left told state (first ∷ path) (other ∷ new) (step ∷ run) goes ends (inr (over, none, line, left)) (inr rest) = go (Contains-append_cases other.left.items (other.taken ∷ []) step (subst (λ steps. Contains steps step) left rest))
-    where
-      go : Contains other.left.items step ⊎ Contains (other.taken ∷ []) step → (step ∷ run ≡ steps_of (first ∷ path)) ⊎ IsLeft (other ∷ new) (step ∷ run)
-      go (inl more) = inr (inr more)
-      go (inr one) = inr (inl (only_one other.taken step one, subst (λ rest. IsLeft rest run) (sym none) tt))
+  at_on : (more : List (List (Step S A))) (run : List (Step S A)) (first : Choice L S A) (path : List (Choice L S A)) → Contains more (run ++ steps_of (first ∷ path)) → Contains more ((run ++ first.taken ∷ []) ++ steps_of path)
+  at_on more run first path at = subst (λ r. Contains more r) (sym (append_assoc run (first.taken ∷ []) (steps_of path))) at
 
-  -- the answers that are led stay led on the next path
-  pub next_led : (told : List A) (state : S) (path new : List (Choice L S A)) → Retreats path new → IsLed told state path → IsLed told state new
-  next_led told state [] new back led = absurd back
-  next_led told state (first ∷ path) [] back led = absurd back
-  next_led told state (first ∷ path) (other ∷ new) (inl (same, back)) (is, each, more) =
-      subst (λ (c : Choice L S A). IsLed told state (c ∷ new)) (sym same) (is, each, next_led (told ++ first.taken.answer ∷ []) first.taken.state path new back more)
-  next_led told state (first ∷ path) (other ∷ new) (inr (over, none, line, left)) (is, each, more) = (
-    is ∙ ap Some (sym line),
-    λ step h. subst (λ l. leads state l step.answer step.state) (sym line) (each step (there first.taken first.left.items step (subst (λ steps. Contains steps step) (sym left) (moved step (first_or other.taken other.left.items step h))))),
-    subst (λ rest. IsLed (told ++ other.taken.answer ∷ []) other.taken.state rest) (sym none) tt,
+  -- one line more is answered at the end of a path
+  sent : (tried : List (List (Step S A))) (run : List (Step S A)) (path : List (Choice L S A)) (choice : Choice L S A) → IsUnderway tried run path → program (told_by (run ++ steps_of path)) ≡ Some choice.line
+      → gives (state_behind (state_after start run) path) choice.line (choice.left.items ++ choice.taken ∷ []) → IsUnderway tried run (path ++ choice ∷ [])
+  sent tried run [] choice was asks given = (
+    subst (λ r. program (told_by r) ≡ Some choice.line) (append-nil run) asks,
+    (choice.left.items ++ choice.taken ∷ [], given, λ step at. which step (last_or choice.left.items choice.taken step at), λ step at. first_or_last choice.left.items choice.taken step (first_or choice.taken choice.left.items step at)),
+    tt,
   )
     where
-      moved : (step : Step S A) → (step ≡ other.taken) ⊎ Contains other.left.items step → Contains (other.left.items ++ other.taken ∷ []) step
-      moved step (inl is) = Contains-append_right other.left.items (other.taken ∷ []) step (subst (λ s. Contains (other.taken ∷ []) s) (sym is) (here other.taken []))
-      moved step (inr is) = Contains-append_left other.left.items (other.taken ∷ []) step is
+      which : (step : Step S A) → (step ≡ choice.taken) ⊎ Contains choice.left.items step → IsSeen tried run choice step
+      which step (inl is) = inl is
+      which step (inr left) = inr (inl left)
+  sent tried run (first ∷ path) choice (is, seen, rest) asks given = (
+    is,
+    seen,
+    sent tried (run ++ first.taken ∷ []) path choice rest (ends_on run first path (Some choice.line) asks)
+        (subst (λ (s : S). gives (state_behind s path) choice.line (choice.left.items ++ choice.taken ∷ [])) (sym (state_more start run first.taken)) given),
+  )
+
+  -- where the program is done at the end of a path with nothing left, all behind its beginning was tried
+  done : (tried more : List (List (Step S A))) → ((r : List (Step S A)) → Contains tried r → Contains more r) → (run : List (Step S A)) (path : List (Choice L S A)) → IsUnderway tried run path → program (told_by (run ++ steps_of path)) ≡ None → IsOver path
+      → Contains more (run ++ steps_of path) → AreTried gives program start more run
+  done tried more all run [] was ends over at = AreTried.Over run (subst (λ r. program (told_by r) ≡ None) (append-nil run) ends) (subst (λ r. Contains more r) (append-nil run) at)
+  done tried more all run (first ∷ path) (is, (steps, given, each, within), rest) ends (none, over) at =
+      let behind : AreTried gives program start more (run ++ first.taken ∷ []) = done tried more all (run ++ first.taken ∷ []) path rest (ends_on run first path None ends) over (at_on more run first path at) in
+      AreTried.GoesOn run first.line steps is given (λ step h. go step behind (each step h))
+    where
+      go : (step : Step S A) → AreTried gives program start more (run ++ first.taken ∷ []) → IsSeen tried run first step → AreTried gives program start more (run ++ step ∷ [])
+      go step behind (inl taken) = subst (λ s. AreTried gives program start more (run ++ s ∷ [])) (sym taken) behind
+      go step behind (inr (inl left)) = absurd (none_in step (subst (λ steps. Contains steps step) none left))
+      go step behind (inr (inr earlier)) = more_tried tried more all (run ++ step ∷ []) earlier
+
+  -- the same where the next run goes another way
+  turned : (tried more : List (List (Step S A))) → ((r : List (Step S A)) → Contains tried r → Contains more r) → (run : List (Step S A)) (path new : List (Choice L S A)) → IsUnderway tried run path → program (told_by (run ++ steps_of path)) ≡ None → Retreats path new
+      → Contains more (run ++ steps_of path) → IsUnderway more run new
+  turned tried more all run [] new was ends back at = absurd back
+  turned tried more all run (first ∷ path) [] was ends back at = absurd back
+  turned tried more all run (first ∷ path) (other ∷ new) (is, (steps, given, each, within), rest) ends (inl (same, back)) at =
+      subst (λ (c : Choice L S A). IsUnderway more run (c ∷ new)) (sym same) (
+        is,
+        (steps, given, λ step h. kept step (each step h), within),
+        turned tried more all (run ++ first.taken ∷ []) path new rest (ends_on run first path None ends) back (at_on more run first path at),
+      )
+    where
+      kept : (step : Step S A) → IsSeen tried run first step → IsSeen more run first step
+      kept step (inl taken) = inl taken
+      kept step (inr (inl left)) = inr (inl left)
+      kept step (inr (inr earlier)) = inr (inr (more_tried tried more all (run ++ step ∷ []) earlier))
+  turned tried more all run (first ∷ path) (other ∷ new) (is, (steps, given, each, within), rest) ends (inr (over, none, line, left)) at =
+      let behind : AreTried gives program start more (run ++ first.taken ∷ []) = done tried more all (run ++ first.taken ∷ []) path rest (ends_on run first path None ends) over (at_on more run first path at) in (
+        is ∙ ap Some (sym line),
+        (
+          steps,
+          subst (λ (l : L). gives (state_after start run) l steps) (sym line) given,
+          λ step h. go step behind (each step h),
+          λ step h. within step (there first.taken first.left.items step (subst (λ steps. Contains steps step) (sym left) (first_or_last other.left.items other.taken step (first_or other.taken other.left.items step h)))),
+        ),
+        subst (λ rest. IsUnderway more (run ++ other.taken ∷ []) rest) (sym none) tt,
+      )
+    where
+      which : (step : Step S A) → (step ≡ other.taken) ⊎ Contains other.left.items step → IsSeen more run other step
+      which step (inl one) = inl one
+      which step (inr among) = inr (inl among)
+
+      go : (step : Step S A) → AreTried gives program start more (run ++ first.taken ∷ []) → IsSeen tried run first step → IsSeen more run other step
+      go step behind (inl taken) = inr (inr (subst (λ s. AreTried gives program start more (run ++ s ∷ [])) (sym taken) behind))
+      go step behind (inr (inl among)) = which step (last_or other.left.items other.taken step (subst (λ steps. Contains steps step) left among))
+      go step behind (inr (inr earlier)) = inr (inr (more_tried tried more all (run ++ step ∷ []) earlier))
 
   -- the run of a path at whose end the program is done is one of its runs
-  pub led_runs : (told : List A) (state : S) (path : List (Choice L S A)) → IsLed told state path → program (told ++ told_on path) ≡ None → IsRunFrom leads program told state (steps_of path)
-  led_runs told state [] led ends = subst (λ answers. program answers ≡ None) (append-nil told) ends
-  led_runs told state (first ∷ path) (is, each, more) ends =
-      (first.line, is, each first.taken (here first.taken first.left.items), led_runs (told ++ first.taken.answer ∷ []) first.taken.state path more (told_more told first path None ends))
+  led_runs : (tried : List (List (Step S A))) (run : List (Step S A)) (path : List (Choice L S A)) → IsUnderway tried run path → program (told_by (run ++ steps_of path)) ≡ None → IsRunFrom (CanLead gives) program (told_by run) (state_after start run) (steps_of path)
+  led_runs tried run [] was ends = subst (λ r. program (told_by r) ≡ None) (append-nil run) ends
+  led_runs tried run (first ∷ path) (is, (steps, given, each, within), rest) ends = (
+    first.line,
+    is,
+    (steps, given, within first.taken (here first.taken first.left.items)),
+    subst (λ (s : S). IsRunFrom (CanLead gives) program (told_by run ++ first.taken.answer ∷ []) s (steps_of path)) (state_more start run first.taken)
+        (subst (λ answers. IsRunFrom (CanLead gives) program answers (state_after start (run ++ first.taken ∷ [])) (steps_of path)) (told_more run first.taken)
+        (led_runs tried (run ++ first.taken ∷ []) path rest (ends_on run first path None ends))),
+  )
 
-  -- what holds after each move: each run was tried or is left, and what was tried are runs
-  pub record IsCovered (start : S) (tried : List (List (Step S A))) (path : List (Choice L S A)) : Type 0 where
-    pub all : (run : List (Step S A)) → IsRun leads program start run → Contains tried run ⊎ IsLeft path run
-    pub only : (run : List (Step S A)) → Contains tried run → IsRun leads program start run
-    pub led : IsLed [] start path
+  -- what holds after each move
+  pub record IsCovered (tried : List (List (Step S A))) (path : List (Choice L S A)) : Type 0 where
+    pub underway : IsUnderway tried [] path
+    pub only : (run : List (Step S A)) → Contains tried run → IsRun (CanLead gives) program start run
 
-  pub covered : (start : S) (moves : List Move) (tried : List (List (Step S A))) (path : List (Choice L S A)) → IsTried leads program start moves tried path → IsCovered start tried path
-  covered start [] tried path (none, empty) = record {
-    all = λ run goes. inr (subst (λ p. IsLeft p run) (sym empty) tt);
-    only = λ run there. absurd (none_in run (subst (λ runs. Contains runs run) none there));
-    led = subst (λ p. IsLed [] start p) (sym empty) tt;
+  -- the program's next line, by the steps of its path
+  by_steps : (path : List (Choice L S A)) (o : Option L) → program (told_on path) ≡ o → program (told_by (steps_of path)) ≡ o
+  by_steps path o is = subst (λ answers. program answers ≡ o) (sym (told_same path)) is
+
+  -- what was tried, with one run more, are runs
+  newest_too : (tried : List (List (Step S A))) (path : List (Choice L S A)) → IsCovered tried path → program (told_on path) ≡ None → (run : List (Step S A)) → Contains (steps_of path ∷ tried) run → IsRun (CanLead gives) program start run
+  newest_too tried path was ends run h = go (first_or (steps_of path) tried run h)
+    where
+      go : (run ≡ steps_of path) ⊎ Contains tried run → IsRun (CanLead gives) program start run
+      go (inl is) = subst (λ r. IsRun (CanLead gives) program start r) (sym is) (led_runs tried [] path was.underway (by_steps path None ends))
+      go (inr earlier) = was.only run earlier
+
+  pub covered : (moves : List Move) (tried : List (List (Step S A))) (path : List (Choice L S A)) → IsTried gives program start moves tried path → IsCovered tried path
+  covered [] tried path (none, empty) = record {
+    underway = subst (λ p. IsUnderway tried [] p) (sym empty) tt;
+    only = λ run at. absurd (none_in run (subst (λ runs. Contains runs run) none at));
   }
-  covered start (Move.Line ∷ before) tried path (old, line, is, asks, (choice, same, all, new)) =
-      let was : IsCovered start tried old = covered start before tried old is in
-      let asked : program ([] ++ told_on old) ≡ Some choice.line = asks ∙ ap Some (sym same) in
-      let every : AreAll leads (state_behind start old) choice.line (choice.taken ∷ choice.left.items) = subst (λ l. AreAll leads (state_behind start old) l (choice.taken ∷ choice.left.items)) (sym same) all in record {
-        all = λ run goes. go run goes asked every (was.all run goes);
+  covered (Move.Line ∷ before) tried path (old, line, is, asks, (choice, same, given, new)) =
+      let was : IsCovered tried old = covered before tried old is in record {
+        underway = subst (λ p. IsUnderway tried [] p) (sym new)
+            (sent tried [] old choice was.underway (by_steps old (Some choice.line) (asks ∙ ap Some (sym same))) (subst (λ (l : L). gives (state_behind start old) l (choice.left.items ++ choice.taken ∷ [])) (sym same) given));
         only = was.only;
-        led = subst (λ p. IsLed [] start p) (sym new) (sent_led [] start old choice asked every was.led);
       }
-    where
-      go : (run : List (Step S A)) → IsRun leads program start run → program ([] ++ told_on old) ≡ Some choice.line → AreAll leads (state_behind start old) choice.line (choice.taken ∷ choice.left.items)
-          → Contains tried run ⊎ IsLeft old run → Contains tried run ⊎ IsLeft path run
-      go run goes asked every (inl done) = inl done
-      go run goes asked every (inr left) = inr (subst (λ p. IsLeft p run) (sym new) (sent_left [] start old choice run goes asked every left))
-  covered start (Move.Next ∷ before) tried path (old, done, is, ends, back, more) =
-      let was : IsCovered start done old = covered start before done old is in record {
-        all = λ run goes. go run goes (was.all run goes);
-        only = λ run there. back_to run was (first_or (steps_of old) done run (subst (λ runs. Contains runs run) more there));
-        led = next_led [] start old path back was.led;
+  covered (Move.Next ∷ before) tried path (old, done, is, ends, back, more) =
+      let was : IsCovered done old = covered before done old is in
+      let all : (r : List (Step S A)) → Contains (steps_of old ∷ done) r → Contains tried r = λ r h. subst (λ runs. Contains runs r) (sym more) h in record {
+        underway = turned done tried (λ r h. all r (there (steps_of old) done r h)) [] old path was.underway (by_steps old None ends) back (all (steps_of old) (here (steps_of old) done));
+        only = λ run at. newest_too done old was ends run (subst (λ runs. Contains runs run) more at);
       }
-    where
-      in_tried : (run : List (Step S A)) → Contains (steps_of old ∷ done) run → Contains tried run
-      in_tried run h = subst (λ runs. Contains runs run) (sym more) h
 
-      newest : (run : List (Step S A)) → (run ≡ steps_of old) ⊎ IsLeft path run → Contains tried run ⊎ IsLeft path run
-      newest run (inl is) = inl (in_tried run (subst (λ r. Contains (steps_of old ∷ done) r) (sym is) (here (steps_of old) done)))
-      newest run (inr left) = inr left
+  -- where the newest run is over and nothing is left, all was tried
+  pub all_tried : (moves : List Move) (tried : List (List (Step S A))) (path : List (Choice L S A)) → IsTried gives program start moves tried path → program (told_on path) ≡ None → IsOver path → AreTried gives program start (steps_of path ∷ tried) []
+  all_tried moves tried path is ends over =
+      done tried (steps_of path ∷ tried) (λ r h. there (steps_of path) tried r h) [] path ((covered moves tried path is).underway) (by_steps path None ends) over (here (steps_of path) tried)
 
-      go : (run : List (Step S A)) → IsRun leads program start run → Contains done run ⊎ IsLeft old run → Contains tried run ⊎ IsLeft path run
-      go run goes (inl earlier) = inl (in_tried run (there (steps_of old) done run earlier))
-      go run goes (inr left) = newest run (next_left [] start old path run goes ends back left)
+  -- and nothing else
+  pub only_tried : (moves : List Move) (tried : List (List (Step S A))) (path : List (Choice L S A)) → IsTried gives program start moves tried path → program (told_on path) ≡ None → (run : List (Step S A)) → Contains (steps_of path ∷ tried) run → IsRun (CanLead gives) program start run
+  only_tried moves tried path is ends = newest_too tried path (covered moves tried path is) ends
 
-      back_to : (run : List (Step S A)) → IsCovered start done old → (run ≡ steps_of old) ⊎ Contains done run → IsRun leads program start run
-      back_to run was (inl is) = subst (λ r. IsRun leads program start r) (sym is) (led_runs [] start old was.led ends)
-      back_to run was (inr earlier) = was.only run earlier
+  module _ (settled : IsSettled gives) where
+    -- a run that goes on from a beginning behind which all was tried was tried
+    goes_tried : (tried : List (List (Step S A))) (run rest : List (Step S A)) → AreTried gives program start tried run → IsRunFrom (CanLead gives) program (told_by run) (state_after start run) rest → Contains tried (run ++ rest)
+    goes_tried tried run [] (AreTried.Over _ ends at) over = subst (λ r. Contains tried r) (sym (append-nil run)) at
+    goes_tried tried run [] (AreTried.GoesOn _ line steps asks given on) over = absurd (none_is_some (program (told_by run)) line over asks)
+    goes_tried tried run (step ∷ rest) (AreTried.Over _ ends at) (line, is, led, more) = absurd (none_is_some (program (told_by run)) line ends is)
+    goes_tried tried run (step ∷ rest) (AreTried.GoesOn _ other steps asks given on) (line, is, (own, gave, at), more) =
+        let same : line ≡ other = same_Some line other (sym is ∙ asks) in
+        let among : Contains steps step = settled (state_after start run) other own steps (subst (λ (l : L). gives (state_after start run) l own) same gave) given step at in
+        subst (λ r. Contains tried r) (append_assoc run (step ∷ []) rest)
+        (goes_tried tried (run ++ step ∷ []) rest (on step among)
+        (subst (λ (s : S). IsRunFrom (CanLead gives) program (told_by (run ++ step ∷ [])) s rest) (sym (state_more start run step))
+        (subst (λ answers. IsRunFrom (CanLead gives) program answers step.state rest) (sym (told_more run step)) more)))
 
-  -- where the newest run is over and nothing is left, the runs that were tried are all
-  pub all_tried : (start : S) (moves : List Move) (tried : List (List (Step S A))) (path : List (Choice L S A)) → IsTried leads program start moves tried path → program (told_on path) ≡ None → IsOver path
-      → (run : List (Step S A)) → IsRun leads program start run ↔ Contains (steps_of path ∷ tried) run
-  all_tried start moves tried path is ends over run =
-      let was : IsCovered start tried path = covered start moves tried path is in
-      (λ goes. go goes (was.all run goes), λ h. back_to was (first_or (steps_of path) tried run h))
-    where
-      go : IsRun leads program start run → Contains tried run ⊎ IsLeft path run → Contains (steps_of path ∷ tried) run
-      go goes (inl earlier) = there (steps_of path) tried run earlier
-      go goes (inr left) = subst (λ r. Contains (steps_of path ∷ tried) r) (sym (over_is [] start path run goes ends over left)) (here (steps_of path) tried)
-
-      back_to : IsCovered start tried path → (run ≡ steps_of path) ⊎ Contains tried run → IsRun leads program start run
-      back_to was (inl is) = subst (λ r. IsRun leads program start r) (sym is) (led_runs [] start path was.led ends)
-      back_to was (inr earlier) = was.only run earlier
+    -- so the runs that were tried are all
+    pub exactly : (tried : List (List (Step S A))) → AreTried gives program start tried [] → ((run : List (Step S A)) → Contains tried run → IsRun (CanLead gives) program start run) → (run : List (Step S A)) → IsRun (CanLead gives) program start run ↔ Contains tried run
+    exactly tried all only run = (λ goes. goes_tried tried [] run all goes, λ at. only run at)

@@ -4,7 +4,6 @@ use Rattle.i3c_orders.specs.declared.choice.Choice.{Choice}
 use Rattle.i3c_orders.specs.declared.choice.Step.{Step}
 use Rattle.i3c_orders.specs.declared.orders.SendFault.{SendFault}
 use Rattle.i3c_orders.specs.declared.orders.Unfinished.{Unfinished}
-use Rattle.i3c_orders.specs.Runs.{AreAll}
 
 -- the runs of a program: where each begins, the path of choices, and how many of these the program has come by in this run
 pub record Tree (L S A : Type 0) : Type 0 where
@@ -34,10 +33,10 @@ abbrev pub state_behind : {L S A : Type 0} → S → List (Choice L S A) → S
 state_behind start [] = start
 state_behind start (choice ∷ path) = state_behind choice.taken.state path
 
--- a line is answered at the end of a path: of all that it may be answered one is taken, and the others are left
-abbrev pub Sends : {L S A : Type 0} → (S → L → A → S → Type 0) → S → List (Choice L S A) → L → List (Choice L S A) → Type 0
-Sends {L} {S} {A} leads start old line new =
-    (choice : Choice L S A) × (choice.line ≡ line) × AreAll leads (state_behind start old) line (choice.taken ∷ choice.left.items) × (new ≡ old ++ choice ∷ [])
+-- a line is answered at the end of a path: of all answers that it is given one is taken, and the others are left
+abbrev pub Sends : {L S A : Type 0} → (S → L → List (Step S A) → Type 0) → S → List (Choice L S A) → L → List (Choice L S A) → Type 0
+Sends {L} {S} {A} gives start old line new =
+    (choice : Choice L S A) × (choice.line ≡ line) × gives (state_behind start old) line (choice.left.items ++ choice.taken ∷ []) × (new ≡ old ++ choice ∷ [])
 
 -- no choice of a path has anything left
 abbrev pub IsOver : {L S A : Type 0} → List (Choice L S A) → Type 0
@@ -52,18 +51,18 @@ Retreats {L} {S} {A} (choice ∷ path) (other ∷ new) =
     ((other ≡ choice) × Retreats path new) ⊎ (IsOver path × (new ≡ []) × (other.line ≡ choice.line) × (choice.left.items ≡ other.left.items ++ other.taken ∷ []))
 
 -- a line of a run that came to the end of its path is answered there
-pub record IsSent {S L A : Type 0} (leads : S → L → A → S → Type 0) (old : Tree L S A) (line : L) (new : Tree L S A) : Type 0 where
+pub record IsSent {S L A : Type 0} (gives : S → L → List (Step S A) → Type 0) (old : Tree L S A) (line : L) (new : Tree L S A) : Type 0 where
   pub start : new.start ≡ old.start
-  pub path : Sends leads old.start old.path line new.path
+  pub path : Sends gives old.start old.path line new.path
   pub at : new.at ≡ length new.path
 
 -- what a line comes to: at the end of the path it is answered; before it has to be the line of the run before, and is answered as there
-abbrev pub Answers : {S L A : Type 0} → (S → L → A → S → Type 0) → Tree L S A → L → Result (Unit {0}) SendFault → Tree L S A → Type 0
-Answers leads old line (Ok done) new =
-    MatchOption (slice_get old.path old.at) (IsSent leads old line new) (λ choice. (choice.line ≡ line) × (new ≡ tree old.start old.path (suc old.at)))
-Answers {S} {L} {A} leads old line (Err SendFault.Differs) new =
+abbrev pub Answers : {S L A : Type 0} → (S → L → List (Step S A) → Type 0) → Tree L S A → L → Result (Unit {0}) SendFault → Tree L S A → Type 0
+Answers gives old line (Ok done) new =
+    MatchOption (slice_get old.path old.at) (IsSent gives old line new) (λ choice. (choice.line ≡ line) × (new ≡ tree old.start old.path (suc old.at)))
+Answers {S} {L} {A} gives old line (Err SendFault.Differs) new =
     (choice : Choice L S A) × (slice_get old.path old.at ≡ Some choice) × (choice.line ≢ line) × (new ≡ old)
-Answers leads old line (Err SendFault.Memory) new = (old.at ≡ length old.path) × (new ≡ old)
+Answers gives old line (Err SendFault.Memory) new = (old.at ≡ length old.path) × (new ≡ old)
 
 -- what the end of a run comes to, which has to be at the end of the path: the next run begins, or no run is left
 abbrev pub Ends : {S L A : Type 0} → Tree L S A → Result Bool Unfinished → Tree L S A → Type 0

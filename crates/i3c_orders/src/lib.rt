@@ -10,8 +10,10 @@
 //! determined by its answers. Memory grows with the lines of a run and the answers that each may have, and not with the
 //! number of runs.
 //!
-//! `laws` says, for each program that is determined by its answers: where [`Orders::again`] answers that no run is left, the
-//! runs that were tried are all runs of the program. Such a program never gets [`SendFault::Differs`] or [`Unfinished`].
+//! `laws` says, for each program that is determined by its answers: where [`Orders::again`] answers that no run is left, each
+//! line of the program was given answers, and whatever goes on with one of these was tried. If the machine always gives a
+//! line the same answers in a state, the runs that were tried are all runs of the program. Such a program never gets
+//! [`SendFault::Differs`] or [`Unfinished`].
 //!
 //! Not claimed: that a program has finitely many runs; that there is memory enough; or how much time it takes.
 #![tactic(auto)]
@@ -22,6 +24,9 @@ mod orders;
 mod responder;
 
 pub use choice::{Choice, Step};
-pub use laws::{all_runs_are_tried, calls_try_all_runs, determined_programs_are_served};
+pub use laws::{
+    all_runs_are_tried, calls_try_all_runs, determined_programs_are_served,
+    settled_machines_try_all_runs,
+};
 pub use orders::{Orders, SendFault, Unfinished, send};
 pub use responder::Responder;

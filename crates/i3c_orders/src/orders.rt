@@ -1,6 +1,5 @@
 ghost use Rattle.std.specs.Prelude.{◌≡◌, ◌<◌, IfOk, length, OnErr, OnOk};
 ghost use Rattle.i3c_orders.specs.Paths.{Answers, IsOther, Sends, Turns, state_behind};
-ghost use Rattle.i3c_orders.specs.Runs.{AreAll};
 
 use crate::choice::{Choice, Step};
 use crate::responder::Responder;
@@ -115,7 +114,7 @@ pub fn send<M: Responder>(
     orders: &mut Orders<M::Line, M, M::Answer>,
     line: M::Line,
 ) -> Result<(), SendFault>
-    ensures { Answers M.leads orders.old line result orders.new }
+    ensures { Answers M.gives orders.old line result orders.new }
 {
     if orders.at < orders.path.len() {
         if !M::is_same(&orders.path[orders.at].line, &line) {
@@ -140,7 +139,7 @@ fn extend<M: Responder>(
     path: &mut Vec<Choice<M::Line, M, M::Answer>>,
     line: M::Line,
 ) -> Result<(), AllocError>
-    ensures sends { OnOk result (Sends M.leads start.now path.old.items line path.new.items) }
+    ensures sends { OnOk result (Sends M.gives start.now path.old.items line path.new.items) }
     ensures kept { OnErr result (path.new.items ≡ path.old.items) }
 {
     let mut left = steps_behind(alloc, start, path, &line)?;
@@ -151,14 +150,14 @@ fn extend<M: Responder>(
     Ok(())
 }
 
-/// All that a line may be answered behind a path.
+/// The answers that a line is given behind a path.
 fn steps_behind<M: Responder>(
     alloc: Global,
     start: &M,
     path: &Vec<Choice<M::Line, M, M::Answer>>,
     line: &M::Line,
 ) -> Result<Vec<Step<M, M::Answer>>, AllocError>
-    ensures all { IfOk result (λ steps. AreAll M.leads (state_behind start.now path.now.items) line.now steps.items) }
+    ensures given { IfOk result (λ steps. M.gives (state_behind start.now path.now.items) line.now steps.items) }
     ensures some { IfOk result (λ steps. 0 < length steps.items) }
 {
     match path.last() {

@@ -1,5 +1,5 @@
-ghost use Rattle.std.specs.Prelude.{◌≡◌, ◌<◌, ◌↔◌, IfOk, IsTrue, length};
-ghost use Rattle.i3c_orders.specs.Runs.{AreAll};
+ghost use Rattle.std.specs.Prelude.{◌≡◌, ◌<◌, ◌↔◌, IfOk, IsTrue, List, length};
+ghost use Rattle.i3c_orders.specs.declared.choice.Step.{Step as StepValue};
 
 use crate::choice::Step;
 use std::alloc::{AllocError, Global};
@@ -12,16 +12,16 @@ pub trait Responder: Sized + Drop {
     /// What a program is answered.
     type Answer: Drop;
 
-    /// What a line may be answered in a state, and where that leads.
-    ghost leads: { Self → Self.Line → Self.Answer → Self → Type 0 };
+    /// These are answers that a line is given in a state, each with where it leads: enough of them for all that may happen.
+    ghost gives: { Self → Self.Line → List (StepValue Self Self.Answer) → Type 0 };
 
-    /// All that a line may be answered in this state, each with where it leads. There is an answer to each line.
+    /// The answers that a line is given in this state, each with where it leads. There is an answer to each line.
     fn steps(
         &self,
         alloc: Global,
         line: &Self::Line,
     ) -> Result<Vec<Step<Self, Self::Answer>>, AllocError>
-        ensures all { IfOk result (λ steps. AreAll leads self.now line.now steps.items) }
+        ensures given { IfOk result (λ steps. gives self.now line.now steps.items) }
         ensures some { IfOk result (λ steps. 0 < length steps.items) };
 
     /// Whether two lines are the same.

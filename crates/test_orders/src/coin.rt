@@ -1,5 +1,6 @@
 ghost use Rattle.std.specs.Prelude.{◌≡◌, ◌<◌, IfOk, length};
 ghost use Rattle.i3c_orders.specs.Runs.{AreAll};
+ghost use Rattle.i3c_orders.specs.Runs.{AreAll};
 ghost use Rattle.test_orders.specs.Coins.{Falls};
 
 use i3c_orders::{Responder, Step};
@@ -26,7 +27,7 @@ impl Responder for Coin {
 
     type Answer = bool;
 
-    ghost leads = { Falls };
+    ghost gives = { AreAll Falls };
 
     fn steps(&self, alloc: Global, line: &Line) -> Result<Vec<Step<Coin, bool>>, AllocError> {
         let mut steps = Vec::new(alloc);

@@ -1,5 +1,8 @@
-use Rattle.i3c_orders.proofs.Calling.{calls_tried}
+use Rattle.i3c_orders.proofs.Calling.{calls_only, calls_tried}
 use Rattle.i3c_orders.proofs.laws.calls_try_all_runs.Goals as goal
 
-pub returns : goal.returns
-returns g c = calls_tried g.M.Responder.leads
+pub returns-clause-all : goal.returns-clause-all
+returns-clause-all g c = calls_tried g.M.Responder.gives
+
+pub returns-clause-only : goal.returns-clause-only
+returns-clause-only g c = calls_only g.M.Responder.gives

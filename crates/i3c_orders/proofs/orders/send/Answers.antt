@@ -20,11 +20,11 @@ returns-then-orders-len g c =
     let at = c.orders.inside.at in
     let choice = c.index.result.now in
     let there : slice_get path at ≡ Some choice = slice_get_read path (length path) at choice refl (omega (arith, c.if-orders-len.true, c.len.ensures)) c.index.ensures in
-    rw (← c.orders.view_is) (replayed g.M.Responder.leads c.orders.inside.start path at c.args.line choice there (c.is_same.ensures.0 c.if-not-is_same.false))
+    rw (← c.orders.view_is) (replayed g.M.Responder.gives c.orders.inside.start path at c.args.line choice there (c.is_same.ensures.0 c.if-not-is_same.false))
 
 pub returns-in-Ok : goal.returns-in-Ok
 returns-in-Ok g c =
-    rw (← c.orders.view_is) (answered g.M.Responder.leads c.orders.inside.start c.orders.inside.path.items c.orders.inside.at c.args.line _ (omega (arith, c.if-orders-len.false, c.len.ensures))
+    rw (← c.orders.view_is) (answered g.M.Responder.gives c.orders.inside.start c.orders.inside.path.items c.orders.inside.at c.args.line _ (omega (arith, c.if-orders-len.false, c.len.ensures))
     (record { start = refl; path = c.in-Ok.ensures.sends; at = omega (arith, c.len-orders-inside.ensures) }))
 
 pub returns-in-Err : goal.returns-in-Err
