@@ -1,5 +1,5 @@
 -- Lines that are tried in each way, and what is expected behind them.
-use Rattle.std.specs.Prelude.{◌≡◌, ℕ, Bool, true, false, ◌&&◌, not, if◌then◌else◌, List, [], ◌∷◌, Option, None, Some, Result, Ok, Err}
+use Rattle.std.specs.Prelude.{◌≡◌, ℕ, Bool, true, false, ◌&&◌, ◌||◌, not, if◌then◌else◌, List, [], ◌∷◌, Option, None, Some, Result, Ok, Err}
 use Rattle.i3c_facts.specs.declared.before.Before.{Before}
 use Rattle.i3c_facts.specs.declared.before.LineResult.{LineResult}
 use Rattle.i3c_facts.specs.Hearing.{came_to, no_line}
@@ -58,7 +58,7 @@ all_hold new before (one ∷ rest) = claims_hold new.state (place_in new.names) 
 -- something is expected of one line alone, and not of each line of a block
 abbrev pub is_expected_in : List Expectation → Bool
 is_expected_in [] = false
-is_expected_in (one ∷ rest) = if one.lasts then is_expected_in rest else true
+is_expected_in (one ∷ rest) = not one.lasts || is_expected_in rest
 
 abbrev pub is_expected : Line → Bool
 is_expected line = is_expected_in line.expectations.items

@@ -237,7 +237,7 @@ one_taken lines at line more lt is =
 
 -- whatever the lines behind those that were read say, the file has the outline to which they come
 abbrev pub IsReadTo : List (Vec ℕ) → ℕ → Draft → Option Outline → Type 0
-IsReadTo lines at draft first = (more : List (Vec ℕ)) (rest : List (ℕ × FileLine)) → AreSaid (at + 1) more rest → (said : List (ℕ × FileLine)) × AreSaid 1 (take at lines ++ more) said × (outline no_board [] [] said ≡ comes draft first rest)
+IsReadTo lines at draft first = (more : List (Vec ℕ)) (rest : List (ℕ × FileLine)) → AreSaid (at + 1) more rest → (said : List (ℕ × FileLine)) × AreSaid 1 (take at lines ++ more) said × (outline no_board [] [] [] said ≡ comes draft first rest)
 
 -- the file is refused for a line
 pub refused_at : (lines : List (Vec ℕ)) (at : ℕ) (line : Vec ℕ) (draft : Draft) (first : Option Outline) (fault : PlanFault) → at < length lines → line ≡ get_or lines at line → IsReadTo lines at draft first

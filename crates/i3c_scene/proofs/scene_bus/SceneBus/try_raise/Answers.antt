@@ -1,7 +1,4 @@
 -- A raise changes its slot alone, and is what the line does.
-use Rattle.std.proofs.Common.{◌∙◌, List, ap}
-use Rattle.i3c_scene.specs.declared.line.Expectation.{Expectation}
-use Rattle.i3c_scene.specs.Trying.{all_hold}
 use Rattle.i3c_scene.proofs.Behind.{raised_behind, raised_runs}
 use Rattle.i3c_scene.proofs.scene_bus.SceneBus.try_raise.Goals as goal
 
@@ -11,7 +8,7 @@ returns-in-Ok-clause-tried c =
     let before = c.in-Ok.raised in (
       before,
       raised_runs c.args.self.now new c.args.line.now.command c.args.line.now.risk before c.args.slot c.args.byte c.requires c.in-Ok.ensures,
-      c.all_hold.ensures ∙ ap (λ (xs : List Expectation). all_hold new before xs) c.as_slice.ensures.value,
+      c.outcome.ensures,
     )
 
 pub returns-in-Ok-clause-behind : goal.returns-in-Ok-clause-behind
