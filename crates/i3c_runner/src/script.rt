@@ -5,7 +5,7 @@ ghost use Rattle.i3c_streams.specs.Outcomes.{HasNoFeed, output, written};
 ghost use Rattle.i3c_script.specs.Printed.{end_text};
 ghost use Rattle.i3c_text.specs.declared.line_error.LineError.{LineError as StopValue};
 ghost use Rattle.i3c_runner.specs.Scripts.{LinesGoOut, refused_text};
-ghost use Rattle.i3c_lines.specs.Forms.{HasNoForm};
+ghost use Rattle.i3c_lines.specs.Forms.{HasNoForm, IsCommand};
 ghost use Rattle.i3c_runner.specs.Expecting.{AlwaysAt, HasBegun, MarkDoes, TestsAt};
 ghost use Rattle.i3c_runner.specs.Reasons.{IsReadOf};
 ghost use Rattle.i3c_script.specs.Telling.{Prints};
@@ -17,6 +17,7 @@ use crate::expecting::{push_met, push_unmet};
 use crate::lasting::{Lasting, keep, test_all, test_one};
 use crate::output::show_refusal;
 use crate::said::Said;
+use i3c_base::Served;
 use i3c_facts::{Before, Facts, Heard, LineResult, Mark, read_mark};
 use i3c_lines::{Command, Line, Names, Refusal, is_skipped};
 use i3c_script::Stage;
@@ -60,8 +61,14 @@ pub fn run_script<R: Read, W: Write>(
     }
 }
 
-/// Names the run of a script that isn't watched.
+/// Names the lines of a script that isn't watched.
 struct Plain;
+
+/// Names those of its lines that began in a chunk before.
+struct Held;
+
+/// Names the lines behind which expectations are tested that last.
+struct Tested;
 
 /// The state of a running script: its bus and names, the partial line, the current command, that command's output, and output
 /// not yet written. For expectations it has the number of the line, how the last command ended, the lasting ones, and how many lines had no form.
@@ -193,7 +200,7 @@ impl Script {
     {
         let mut line = mem::replace(&mut self.line, Line::new());
         line.extend(bytes);
-        self.run_line(line.as_slice(), out)
+        self.run_line::<Held, W>(line.as_slice(), out)
     }
 
     /// Runs the lines that end in these bytes, and begins the one that doesn't.
@@ -205,7 +212,7 @@ impl Script {
         let mut rest = bytes;
         while let Some(end) = position_of_feed(rest) {
             let (line, after) = rest.split_at(end);
-            match self.run_line(line, out) {
+            match self.run_line::<Plain, W>(line, out) {
                 Ok(()) => {}
                 Err(fault) => return Err(fault),
             }
@@ -216,15 +223,15 @@ impl Script {
         Ok(())
     }
 
-    /// Runs a line, and gathers what it prints.
-    fn run_line<W: Write>(&mut self, line: &[u8], out: &mut W) -> Result<(), ScriptFault>
+    /// Runs a line, and gathers what it prints. `K` names the caller, so that each caller has it in line.
+    fn run_line<K, W: Write>(&mut self, line: &[u8], out: &mut W) -> Result<(), ScriptFault>
         ensures fault { IfErr result IsLineFault }
         ensures held { self.new.line ≡ self.old.line }
         ensures ends { LineEnds line.now (output (W.contents out.old) self.old.gathered) (output (W.contents out.new) self.new.gathered) (progress self.old) (progress self.new) result }
     {
         self.said.text.clear();
-        let outcome = self.obey::<Plain>(line);
-        self.settle::<Plain>(outcome)?;
+        let outcome = self.obey::<K>(line);
+        self.settle::<K>(outcome)?;
         gather(self.said.text.as_bytes(), &mut self.gathered, out)
     }
 
@@ -246,24 +253,42 @@ impl Script {
         }
         match self.command.read::<K>(line) {
             Some(()) => {
+                if !self.lasting.is_empty() {
+                    return self.obey_and_test();
+                }
                 // unless it is refused, which `settle` notes
                 self.ended = LineResult::Done;
-                self.said.heard = Heard::nothing();
-                let outcome = self
-                    .stage
+                // field by field: a whole value would be made and then copied
+                self.said.heard.served = Served::Quiet;
+                self.said.heard.read = None;
+                self.stage
                     .obey_heard::<K, Said>(
                         self.alloc,
                         &mut self.names,
                         &self.command,
                         &mut self.said,
-                    );
-                if self.lasting.is_empty() {
-                    return outcome;
-                }
-                self.outlast(outcome)
+                    )
             }
             None => self.obey_mark(line),
         }
+    }
+
+    /// Obeys the command that was read, and tests the expectations that last.
+    #[cold]
+    #[inline(never)]
+    fn obey_and_test(&mut self) -> Result<(), LineError<Refusal>>
+        ensures held { self.new.line ≡ self.old.line }
+        ensures gathered { self.new.gathered ≡ self.old.gathered }
+        ensures refused { self.new.refused ≡ self.old.refused }
+        ensures command { self.new.command ≡ self.old.command }
+        ensures reads { (line : List ℕ) → IsCommand line self.old.command → ReadsCounted (state self.old) line self.old.said.text self.new.said.text result (noted (state self.new) result) }
+    {
+        self.ended = LineResult::Done;
+        self.said.heard = Heard::nothing();
+        let outcome = self
+            .stage
+            .obey_heard::<Tested, Said>(self.alloc, &mut self.names, &self.command, &mut self.said);
+        self.outlast(outcome)
     }
 
     /// Obeys a line without a command, which may be a mark.
