@@ -32,3 +32,4 @@ pub mod Noting
 pub mod JobMarks
 pub mod Walking
 pub mod Adding
+mod Behind

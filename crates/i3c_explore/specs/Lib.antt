@@ -17,3 +17,4 @@ pub mod Queues
 pub mod Owners
 pub mod Jobs
 pub mod Twins
+pub mod Reached

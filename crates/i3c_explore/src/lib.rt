@@ -27,6 +27,9 @@
 //! exceeds a limit, one thread makes the layer again, so that each number of jobs stops at the same place. A [`Watch`] is
 //! told how far it is.
 //!
+//! [`reach`] answers every state that is reached from one by lines that are left, in whatever order and however many of
+//! them (`Reaches` in specs/Reached.antt).
+//!
 //! Not claimed: that there is memory enough, that the limits are enough, or how much time it takes. If a machine's steps are
 //! not determined, only those that its `run` chooses are tried, and a line that another choice would note may not be told.
 #![tactic(auto)]
@@ -52,6 +55,7 @@ mod owners;
 mod part;
 mod places;
 mod ran;
+mod reaching;
 mod splits;
 mod stop;
 mod turn;
@@ -64,6 +68,7 @@ pub use machine::Machine;
 pub use node::Node;
 pub use part::Part;
 pub use ran::Ran;
+pub use reaching::reach;
 pub use splits::{first_turns_split, parts_share_all};
 pub use stop::Stop;
 pub use turn::Turn;

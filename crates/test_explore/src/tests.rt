@@ -1,6 +1,9 @@
+ghost use Rattle.std.specs.Prelude.{◌≡◌, IfOk, length};
+
 use crate::counter::{Counter, Line};
 use i3c_explore::{
-    Explored, Limits, Node, Part, Progress, Stop, Watch, explore, explore_on, explore_part,
+    Explored, Limits, Node, Part, Progress, Stop, Turn, Watch, explore, explore_on, explore_part,
+    reach,
 };
 use std::alloc::{AllocError, Global};
 use std::cell::Cell;
@@ -874,6 +877,133 @@ fn jobs_tell_the_lines_that_any_of_them_notes(rt: HostRuntime) -> Result<(), Fai
             jobs,
         )?;
         assert!(rt; are_noted(&found, &[&[&[false, true], &[false, false], &[true]]]));
+    }
+    Ok(())
+}
+
+/// A node of a counter at these places of some tracks, reached by the first line of track 9. Where there are more or fewer
+/// tracks it says that a limit was reached.
+fn node_at(
+    alloc: Global,
+    count: u64,
+    places: &[usize],
+    tracks: &[Vec<Line>],
+) -> Result<Node<Counter>, Stop>
+    ensures { IfOk result (λ node. length node.places.items ≡ length tracks.now) }
+{
+    if places.len() != tracks.len() {
+        return Err(Stop::Most);
+    }
+    let mut own = Vec::new(alloc);
+    own.extend_from_slice(places)?;
+    let mut order = Vec::new(alloc);
+    order.push(Turn { track: 9, way: 0 })?;
+    Ok(Node {
+        state: Counter { count },
+        places: own,
+        order,
+        orders: Some(1),
+    })
+}
+
+/// What is reached from a counter at these places of some tracks.
+fn reached(
+    alloc: Global,
+    count: u64,
+    places: &[usize],
+    tracks: &[&[Line]],
+    limits: Limits,
+) -> Result<Vec<Node<Counter>>, Stop> {
+    let tracks = block(alloc, tracks)?;
+    let node = node_at(alloc, count, places, &tracks)?;
+    reach(alloc, node, &tracks, limits)
+}
+
+/// Whether nodes are at these counts and places, in this order, each behind as many turns as it has lines more.
+fn are_at(nodes: &[Node<Counter>], expected: &[(u64, &[usize], usize)]) -> bool {
+    if nodes.len() != expected.len() {
+        return false;
+    }
+    let mut all = true;
+    for index in 0..nodes.len() {
+        let node = &nodes[index];
+        let (count, places, turns) = expected[index];
+        all = all
+            && node.state.count == count
+            && node.places.as_slice() == places
+            && node.order.len() == turns.saturating_add(1);
+    }
+    all
+}
+
+// 5 doubled and 10 more are 20, and the other way round 30
+#[test]
+fn what_is_left_is_reached_in_each_order(rt: HostRuntime) -> Result<(), Fail> {
+    let nodes = reached(
+        rt.alloc(),
+        5,
+        &[1, 0],
+        &[&[Line::Add(1), Line::Double], &[Line::Add(10)]],
+        WIDE,
+    )?;
+    let expected: [(u64, &[usize], usize); 5] = [
+        (5, &[1, 0], 0),
+        (10, &[2, 0], 1),
+        (15, &[1, 1], 1),
+        (20, &[2, 1], 2),
+        (30, &[2, 1], 2),
+    ];
+    assert!(rt; are_at(&nodes, &expected));
+    Ok(())
+}
+
+// sums are the same in each order; a risk sets to 0 in its other way
+#[test]
+fn equal_nodes_are_reached_once_and_each_way_is(rt: HostRuntime) -> Result<(), Fail> {
+    let sums = reached(
+        rt.alloc(),
+        0,
+        &[0, 0],
+        &[&[Line::Add(1)], &[Line::Add(2)]],
+        WIDE,
+    )?;
+    let expected: [(u64, &[usize], usize); 4] = [
+        (0, &[0, 0], 0),
+        (1, &[1, 0], 1),
+        (2, &[0, 1], 1),
+        (3, &[1, 1], 2),
+    ];
+    assert!(rt; are_at(&sums, &expected));
+    let risks = reached(rt.alloc(), 1, &[0], &[&[Line::Risk(3)]], WIDE)?;
+    let expected: [(u64, &[usize], usize); 3] = [(1, &[0], 0), (4, &[1], 1), (0, &[1], 1)];
+    assert!(rt; are_at(&risks, &expected));
+    Ok(())
+}
+
+#[test]
+fn where_nothing_is_left_the_node_is_reached(rt: HostRuntime) -> Result<(), Fail> {
+    let nodes = reached(rt.alloc(), 7, &[1], &[&[Line::Clear]], WIDE)?;
+    assert!(rt; are_at(&nodes, &[(7, &[1], 0)]));
+    let none = reached(rt.alloc(), 7, &[], &[], WIDE)?;
+    assert!(rt; are_at(&none, &[(7, &[], 0)]));
+    Ok(())
+}
+
+// 999 and one more break, behind the turn of track 9
+#[test]
+fn a_break_is_told_behind_the_nodes_own_order(rt: HostRuntime) -> Result<(), Fail> {
+    let broken = reached(rt.alloc(), 999, &[0, 0], &[&[], &[Line::Add(1)]], WIDE);
+    assert!(rt; broken.is_err_and(|stop| breaks_by(&stop, &[9, 1])));
+    Ok(())
+}
+
+// two lines lead to two states, by two steps, and each of these to one more by one step
+#[test]
+fn a_limit_is_met_behind_a_node(rt: HostRuntime) -> Result<(), Fail> {
+    let lines: [&[Line]; 2] = [&[Line::Add(1)], &[Line::Add(2)]];
+    for (steps, states, is_met) in [(4, 2, false), (3, 2, true), (4, 1, true)] {
+        let nodes = reached(rt.alloc(), 0, &[0, 0], &lines, Limits { steps, states });
+        assert!(rt; matches!(nodes, Err(Stop::Most)) == is_met);
     }
     Ok(())
 }
