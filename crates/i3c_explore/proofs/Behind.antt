@@ -15,7 +15,7 @@ use Rattle.i3c_explore.specs.Layers.{IsNextAt, advanced}
 use Rattle.i3c_explore.specs.Orders.{track}
 use Rattle.i3c_explore.specs.Parts.{opening, whole}
 use Rattle.i3c_explore.specs.Runs.{runs_behind}
-use Rattle.i3c_explore.specs.Reached.{AreLayersBehind, AreReached, AreTaken, LeadsToNode, Reaches, places_after, runs_of_all}
+use Rattle.i3c_explore.specs.Reached.{AreLayersBehind, AreReached, AreTaken, LeadsToNode, Reaches, runs_of_all}
 use Rattle.i3c_explore.proofs.Covering.{order_more}
 use Rattle.i3c_explore.proofs.Lists.{contains_get}
 use Rattle.i3c_explore.proofs.Marking.{within_tracks}

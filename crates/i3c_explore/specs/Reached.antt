@@ -1,5 +1,5 @@
 -- Nodes that are reached from a node, by lines that are left in the tracks.
-use Rattle.std.specs.Prelude.{◌≡◌, ◌<◌, ◌+◌, ◌⊎◌, ℕ, List, [], ◌∷◌, ◌++◌, Contains, Err, Ok, Result, length, reverse}
+use Rattle.std.specs.Prelude.{◌≡◌, ◌<◌, ◌+◌, ◌⊎◌, ℕ, List, [], ◌∷◌, ◌++◌, Contains, Err, Ok, Result, reverse}
 use Rattle.std.specs.Global.{Vec}
 use Rattle.i3c_explore.specs.declared.limits.Limits.{Limits}
 use Rattle.i3c_explore.specs.declared.node.Node.{Node}

@@ -11,7 +11,6 @@ use Rattle.i3c_script.specs.Obeying.{IsHeard, ScriptState}
 use Rattle.i3c_script.specs.Printed.{pieces_text, with_piece}
 use Rattle.i3c_script.specs.Telling.{Prints}
 use Rattle.i3c_script.proofs.Hearing.{text_heard}
-use Rattle.i3c_facts.specs.declared.before.Before.{Before}
 use Rattle.i3c_facts.specs.declared.before.Heard.{Heard}
 use Rattle.i3c_facts.specs.declared.before.LineResult.{LineResult}
 use Rattle.i3c_facts.specs.Hearing.{heard_with, nothing_heard}

@@ -1,5 +1,5 @@
 -- Cuts behind the last bit of a line's frame lose nobody: the line does what it does without them.
-use Rattle.std.proofs.Common.{min, Result, Err, Ok, ◌≡◌, ◌≢◌, ◌∙◌, ◌⊎◌, ℕ, zero, suc, ap, ◌<◌, ◌≤◌, Bool, true, false, not, ◌&&◌, ◌==◌, eq-eqb, is_some, List, [], ◌∷◌, max, Option, None, Some, arith, inl, inr, refl, subst, sym, if◌then◌else◌}
+use Rattle.std.proofs.Common.{min, Err, Ok, ◌≡◌, ◌≢◌, ◌∙◌, ◌⊎◌, ℕ, zero, suc, ap, ◌<◌, ◌≤◌, Bool, true, false, not, ◌&&◌, ◌==◌, eq-eqb, is_some, List, [], ◌∷◌, max, Option, None, Some, arith, inl, inr, refl, subst, sym, if◌then◌else◌}
 use Rattle.std.specs.Prelude.{MatchOption}
 use Rattle.std.proofs.Math.Nat.{le-max_left, le-max_right}
 use Rattle.std.proofs.lemmas.Bool.{false≢true}

@@ -1,15 +1,14 @@
 -- What comes of a line that was tried.
-use Rattle.std.proofs.Common.{Result, Err, Ok, ◌≡◌, ◌∙◌, ℕ, Bool, true, false, not, ◌&&◌, [], List, ap, refl, subst, sym, if◌then◌else◌}
+use Rattle.std.proofs.Common.{Result, Err, Ok, ◌≡◌, ◌∙◌, ℕ, Bool, true, false, not, ◌&&◌, refl, sym, if◌then◌else◌}
 use Rattle.std.specs.declared.alloc.AllocError.{AllocError}
 use Rattle.std.specs.Prelude.{IfOk}
 use Rattle.i3c_explore.specs.declared.ran.Ran.{Ran}
 use Rattle.i3c_facts.specs.declared.before.Before.{Before}
-use Rattle.i3c_scene.specs.declared.line.Expectation.{Expectation}
 use Rattle.i3c_scene.specs.declared.line.Line.{Line}
 use Rattle.i3c_scene.specs.declared.ways.Ways.{Ways}
 use Rattle.i3c_scene.specs.Latest.{tried_as}
 use Rattle.i3c_scene.specs.Scenes.{Seen}
-use Rattle.i3c_scene.specs.Trying.{LineBreaks, LineComesTo, LineSteps, Runs, RunsIn, all_hold, is_expected, is_expected_in, outcome, was_refused}
+use Rattle.i3c_scene.specs.Trying.{LineBreaks, LineComesTo, LineSteps, RunsIn, all_hold, is_expected, outcome, was_refused}
 use Rattle.i3c_scene.proofs.Late.{runs_as}
 
 -- what comes of a line of which this holds
@@ -25,18 +24,6 @@ broken_if : (held noted : Bool) → comes held noted ≡ Ran.Broken → held ≡
 broken_if true true e = absurd cc
 broken_if true false e = absurd cc
 broken_if false noted e = refl
-
--- where nothing is expected, a refusal is noted
-pub outcome_bare : (new : Seen) (before : Before) (line : Line) (refused : Bool) → line.expectations.items ≡ [] → refused ≡ was_refused before.result → (if refused then Ran.Noted else Ran.Held) ≡ outcome new before line
-outcome_bare new before line refused none is =
-    let bare : comes (all_hold new before []) (was_refused before.result && not (is_expected_in [])) ≡ outcome new before line = ap (λ (xs : List Expectation). comes (all_hold new before xs) (was_refused before.result && not (is_expected_in xs))) (sym none) in
-    go refused (was_refused before.result) is ∙ bare
-  where
-    go : (one other : Bool) → one ≡ other → (if one then Ran.Noted else Ran.Held) ≡ comes true (other && true)
-    go true true e = refl
-    go false false e = refl
-    go true false e = absurd cc
-    go false true e = absurd cc
 
 -- what came of a line that was tried in the ways that stand for its own
 abbrev IsTried : Seen → Line → Ways → Seen → Result Ran AllocError → Type 0

@@ -3,7 +3,7 @@ use Rattle.std.proofs.Common.{◌≡◌, ◌∙◌, ◌<◌, ◌≤◌, ◌+◌,
 use Rattle.std.specs.Global.{Vec}
 use Rattle.std.specs.Prelude.{count_by, if◌then◌else◌, slice_get}
 use Rattle.std.specs.Cmp.Lexicographic.{pointwise}
-use Rattle.std.proofs.lemmas.List.{append-nil, append_assoc, drop_more, get_or-map, length-drop}
+use Rattle.std.proofs.lemmas.List.{append-nil, append_assoc, get_or-map, length-drop}
 use Rattle.std.proofs.lemmas.Option.{slice_get_cases, slice_get_read}
 use mathlib.Core.Bool.{beq}
 use Rattle.i3c_explore.specs.declared.node.Node.{Node}
@@ -17,7 +17,7 @@ use Rattle.i3c_scene.specs.Trying.{LineBreaks, LineSteps, Runs, all_hold}
 use Rattle.i3c_tracks.specs.declared.plan.Plan.{Plan}
 use Rattle.i3c_tracks.specs.declared.question.Question.{Question}
 use Rattle.i3c_tracks.specs.declared.showing.Showing.{Showing}
-use Rattle.i3c_tracks.specs.Groups.{Adds, AreGroupTexts, IsExample, IsGroupText, LeadTo, answer_text, answers_text, are_alike, begins_at, group_head, group_of, groups_in, holds_in, key_of, keys_of}
+use Rattle.i3c_tracks.specs.Groups.{Adds, AreGroupTexts, IsExample, IsGroupText, LeadTo, answers_text, are_alike, begins_at, group_head, group_of, groups_in, holds_in, key_of, keys_of}
 use Rattle.i3c_tracks.specs.Planning.{Step, step_of}
 use Rattle.i3c_tracks.specs.Questions.{asking}
 use Rattle.i3c_tracks.proofs.KeyLaws.{Tells, compared, count_images, kept_more, list_more, maps_at, maps_length, over, plus, plus_is, plus_more, unknown}

@@ -47,7 +47,11 @@ impl Front {
 
     /// Obeys a command as a script does, and answers the bus if the command makes one. A command that is refused does
     /// nothing, and its number is kept.
-    pub(crate) fn obey(&mut self, number: u64, command: &Command) -> Result<Option<Scene>, AllocError>
+    pub(crate) fn obey(
+        &mut self,
+        number: u64,
+        command: &Command,
+    ) -> Result<Option<Scene>, AllocError>
         ensures { IfOk result (λ made. MatchOption made (Declares self.old number command.now self.new) (Begins self.old number command.now self.new)) }
     {
         match command {
@@ -78,7 +82,13 @@ impl Front {
     }
 
     /// `legacy`: declares a legacy target, unless its name was given or its address is refused.
-    fn add_legacy(&mut self, number: u64, name: &Name, address: Addr7, lvr: Lvr) -> Result<(), AllocError>
+    fn add_legacy(
+        &mut self,
+        number: u64,
+        name: &Name,
+        address: Addr7,
+        lvr: Lvr,
+    ) -> Result<(), AllocError>
         ensures { OnOk result (Declares self.old number (CommandValue.Legacy name.now address lvr) self.new) }
     {
         if is_given(&self.names, name) {

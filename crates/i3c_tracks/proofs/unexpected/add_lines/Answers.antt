@@ -20,11 +20,12 @@ loop-index-preserved c =
     let within : i < length lines = omega (arith, few) in
     let inside : i < length marks = omega (arith, few) in
     let rest = marked_lines (drop (i + 1) lines) (drop (i + 1) marks) in
-    elim c.if-marks-index.branch
-    [ then-marks-index+in_ok-push w ↦
-        let line = w.index-lines-index.result in
-        ap (λ items. items ++ rest) (ap (λ v. v.items) w.numbers-is ∙ w.in_ok-push.ensures.items ∙ ap (λ (l : Line). c.loop-index.numbers.items ++ l.number ∷ []) (sym w.index-lines-index.is)) ∙ append_assoc c.loop-index.numbers.items (line.number ∷ []) rest
-        ∙ sym (ap (λ more. c.loop-index.numbers.items ++ more) (marked_here lines marks i line within inside w.index-lines-index.is (sym w.if-marks-index.true))) ∙ c.loop-index.invariant
-    | else-marks-index w ↦
-        ap (λ v. v.items ++ rest) w.numbers-is
-        ∙ sym (ap (λ more. c.loop-index.numbers.items ++ more) (unmarked_here lines marks i within inside (sym w.if-marks-index.false))) ∙ c.loop-index.invariant ]
+    elim c.if-marks-index.branch [
+      | then-marks-index+in_ok-push w ↦
+          let line = w.index-lines-index.result in
+          ap (λ items. items ++ rest) (ap (λ v. v.items) w.numbers-is ∙ w.in_ok-push.ensures.items ∙ ap (λ (l : Line). c.loop-index.numbers.items ++ l.number ∷ []) (sym w.index-lines-index.is)) ∙ append_assoc c.loop-index.numbers.items (line.number ∷ []) rest
+          ∙ sym (ap (λ more. c.loop-index.numbers.items ++ more) (marked_here lines marks i line within inside w.index-lines-index.is (sym w.if-marks-index.true))) ∙ c.loop-index.invariant
+      | else-marks-index w ↦
+          ap (λ v. v.items ++ rest) w.numbers-is
+          ∙ sym (ap (λ more. c.loop-index.numbers.items ++ more) (unmarked_here lines marks i within inside (sym w.if-marks-index.false))) ∙ c.loop-index.invariant
+    ]

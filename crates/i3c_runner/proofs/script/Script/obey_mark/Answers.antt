@@ -3,7 +3,7 @@ use Rattle.i3c_facts.specs.declared.marks.Mark.{Mark}
 use Rattle.i3c_facts.specs.Forms.{IsMark}
 use Rattle.i3c_lines.specs.declared.refusals.Refusal.{Refusal}
 use Rattle.i3c_text.specs.declared.line_error.LineError.{LineError}
-use Rattle.i3c_runner.specs.Expecting.{IsMarked, MarkDoes, misread}
+use Rattle.i3c_runner.specs.Expecting.{MarkDoes, misread}
 use Rattle.i3c_runner.specs.Scripts.{CountedRuns}
 use Rattle.i3c_runner.specs.ScriptSteps.{noted, refused_so, state}
 use Rattle.i3c_runner.proofs.Expected.{prints_so}
