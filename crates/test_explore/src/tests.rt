@@ -896,14 +896,20 @@ fn node_at(
     }
     let mut own = Vec::new(alloc);
     own.extend_from_slice(places)?;
-    let mut order = Vec::new(alloc);
-    order.push(Turn { track: 9, way: 0 })?;
+    let order = first_turn(alloc)?;
     Ok(Node {
         state: Counter { count },
         places: own,
         order,
         orders: Some(1),
     })
+}
+
+/// An order of the first line of track 9.
+fn first_turn(alloc: Global) -> Result<Vec<Turn>, AllocError> {
+    let mut order = Vec::new(alloc);
+    order.push(Turn { track: 9, way: 0 })?;
+    Ok(order)
 }
 
 /// What is reached from a counter at these places of some tracks.
