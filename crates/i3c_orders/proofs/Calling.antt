@@ -7,7 +7,7 @@ use Rattle.i3c_orders.specs.declared.choice.Choice.{Choice}
 use Rattle.i3c_orders.specs.declared.choice.Step.{Step}
 use Rattle.i3c_orders.specs.declared.orders.SendFault.{SendFault}
 use Rattle.i3c_orders.specs.declared.orders.Unfinished.{Unfinished}
-use Rattle.i3c_orders.specs.Paths.{Answers, Ends, IsSent, Sends, Tree, steps_of, told_on, tree}
+use Rattle.i3c_orders.specs.Paths.{Answers, Ends, IsAnswered, IsSent, Sends, Tree, steps_of, told_on, tree}
 use Rattle.i3c_orders.specs.Runs.{AreTried, CanLead, IsRun, told_by}
 use Rattle.i3c_orders.specs.Sessions.{Call, IsSession, IsTried, Move, told_now}
 use Rattle.i3c_orders.proofs.Trying.{IsUnderway, all_tried, covered, none_is_some, only_tried, told_more}
@@ -37,7 +37,7 @@ module _ {L S A : Type 0} (gives : S → L → List (Step S A) → Type 0) (prog
   told_all : (old : Tree L S A) (o : Option L) → length old.path ≤ old.at → program (told_now old) ≡ o → program (told_on old.path) ≡ o
   told_all old o past is = subst (λ path. program (told_on path) ≡ o) (take_all old.at old.path past) is
 
-  sends : (start : S) (tried : List (List (Step S A))) (old : Tree L S A) (line : L) (new : Tree L S A) → IsMoved start tried old → program (told_now old) ≡ Some line → Answers gives old line (Ok tt) new → IsMoved start tried new
+  sends : (start : S) (tried : List (List (Step S A))) (old : Tree L S A) (line : L) (new : Tree L S A) → IsMoved start tried old → program (told_now old) ≡ Some line → IsAnswered gives old line new → IsMoved start tried new
   sends start tried old line new was asks answered = go ((slice_get_cases old.path old.at).1)
     where
       go : ((choice : Choice L S A) × (old.at < length old.path) × (slice_get old.path old.at ≡ Some choice) × (get_or old.path old.at choice ≡ choice)) ⊎ ((length old.path ≤ old.at) × (slice_get old.path old.at ≡ None)) → IsMoved start tried new
@@ -86,9 +86,9 @@ module _ {L S A : Type 0} (gives : S → L → List (Step S A) → Type 0) (prog
       only_tried gives program start was.moves tried old.path was.is (told_all old None (omega (arith, last)) ends)
 
   -- no line of the program is taken for another
-  pub never_differs : (start : S) (calls : List Call) (tried : List (List (Step S A))) (old new : Tree L S A) (line : L) → IsSession gives program start calls tried old → program (told_now old) ≡ Some line
-      → Answers gives old line (Err SendFault.Differs) new → ⊥
-  never_differs start calls tried old new line is asks (choice, there, other, kept) =
+  pub never_differs : {F : Type 0} (fails : S → L → F → Type 0) (start : S) (calls : List Call) (tried : List (List (Step S A))) (old new : Tree L S A) (line : L) → IsSession gives program start calls tried old → program (told_now old) ≡ Some line
+      → Answers gives fails old line (Err SendFault.Differs) new → ⊥
+  never_differs fails start calls tried old new line is asks (choice, there, other, kept) =
       other (same_Some choice.line line (sym (line_now start tried old choice (moved start calls tried old is) there) ∙ asks))
 
   -- and none of its runs ends too early

@@ -4,12 +4,8 @@ use Rattle.std.proofs.lemmas.Option.{same_Some, slice_get_past}
 use Rattle.std.specs.List.{slice_get}
 use Rattle.i3c_orders.specs.declared.choice.Choice.{Choice}
 use Rattle.i3c_orders.specs.declared.choice.Step.{Step}
-use Rattle.i3c_orders.specs.Paths.{Answers, IsSent, Tree, last_step, state_behind, tree}
-
--- what holds holds after a failure
-pub on_err : {X E : Type 0} (result : Result X E) (P : Type 0) → P → OnErr result P
-on_err (Ok x) P p = tt
-on_err (Err e) P p = p
+use Rattle.i3c_orders.specs.declared.orders.SendFault.{SendFault}
+use Rattle.i3c_orders.specs.Paths.{Answers, IsAnswered, IsSent, IsUnsent, Tree, last_step, state_behind, tree}
 
 module _ {L S A : Type 0} where
   none_there : (choice : Choice L S A) → None ≡ Some choice → ⊥
@@ -36,13 +32,20 @@ module _ {L S A : Type 0} where
 
   -- a line along the path is the one that is there
   pub replayed : (gives : S → L → List (Step S A) → Type 0) (start : S) (path : List (Choice L S A)) (at : ℕ) (line : L) (choice : Choice L S A) → slice_get path at ≡ Some choice → choice.line ≡ line
-      → Answers gives (tree start path at) line (Ok tt) (tree start path (at + 1))
+      → IsAnswered gives (tree start path at) line (tree start path (at + 1))
   replayed gives start path at line choice there same =
       subst (λ o. MatchOption o (IsSent gives (tree start path at) line (tree start path (at + 1))) (λ one. (one.line ≡ line) × (tree start path (at + 1) ≡ tree start path (suc at)))) (sym there)
       (same, ap (tree start path) (omega arith))
 
   -- behind the path there is none
   pub answered : (gives : S → L → List (Step S A) → Type 0) (start : S) (path : List (Choice L S A)) (at : ℕ) (line : L) (new : Tree L S A) → length path ≤ at → IsSent gives (tree start path at) line new
-      → Answers gives (tree start path at) line (Ok tt) new
+      → IsAnswered gives (tree start path at) line new
   answered gives start path at line new past sent =
       subst (λ o. MatchOption o (IsSent gives (tree start path at) line new) (λ one. (one.line ≡ line) × (new ≡ tree start path (suc at)))) (sym (slice_get_past path at past)) sent
+
+  -- a line that isn't answered changes nothing
+  pub unanswered : {F : Type 0} (gives : S → L → List (Step S A) → Type 0) (fails : S → L → F → Type 0) (start : S) (path new : List (Choice L S A)) (at : ℕ) (line : L) (fault : SendFault F) → at ≤ length path → length path ≤ at → new ≡ path
+      → IsUnsent fails (state_behind start path) line fault → Answers gives fails (tree start path at) line (Err fault) (tree start new at)
+  unanswered gives fails start path new at line SendFault.Differs le ge same unsent = absurd unsent
+  unanswered gives fails start path new at line SendFault.Memory le ge same unsent = (omega (arith, le, ge), ap (λ p. tree start p at) same)
+  unanswered gives fails start path new at line (SendFault.Failed fault) le ge same unsent = (omega (arith, le, ge), unsent, ap (λ p. tree start p at) same)

@@ -56,13 +56,24 @@ pub record IsSent {S L A : Type 0} (gives : S → L → List (Step S A) → Type
   pub path : Sends gives old.start old.path line new.path
   pub at : new.at ≡ length new.path
 
--- what a line comes to: at the end of the path it is answered; before it has to be the line of the run before, and is answered as there
-abbrev pub Answers : {S L A : Type 0} → (S → L → List (Step S A) → Type 0) → Tree L S A → L → Result (Unit {0}) SendFault → Tree L S A → Type 0
-Answers gives old line (Ok done) new =
+-- a line is answered: at the end of the path as the machine does; before it has to be the line of the run before, and is answered as there
+abbrev pub IsAnswered : {S L A : Type 0} → (S → L → List (Step S A) → Type 0) → Tree L S A → L → Tree L S A → Type 0
+IsAnswered gives old line new =
     MatchOption (slice_get old.path old.at) (IsSent gives old line new) (λ choice. (choice.line ≡ line) × (new ≡ tree old.start old.path (suc old.at)))
-Answers {S} {L} {A} gives old line (Err SendFault.Differs) new =
+
+-- why a line isn't answered at the end of a path: there was no memory, or the machine has no answers
+abbrev pub IsUnsent : {S L F : Type 0} → (S → L → F → Type 0) → S → L → SendFault F → Type 0
+IsUnsent fails state line SendFault.Differs = ⊥
+IsUnsent fails state line SendFault.Memory = Unit {0}
+IsUnsent fails state line (SendFault.Failed fault) = fails state line fault
+
+-- what a line comes to
+abbrev pub Answers : {S L A F : Type 0} → (S → L → List (Step S A) → Type 0) → (S → L → F → Type 0) → Tree L S A → L → Result (Unit {0}) (SendFault F) → Tree L S A → Type 0
+Answers gives fails old line (Ok done) new = IsAnswered gives old line new
+Answers {S} {L} {A} gives fails old line (Err SendFault.Differs) new =
     (choice : Choice L S A) × (slice_get old.path old.at ≡ Some choice) × (choice.line ≢ line) × (new ≡ old)
-Answers gives old line (Err SendFault.Memory) new = (old.at ≡ length old.path) × (new ≡ old)
+Answers gives fails old line (Err SendFault.Memory) new = (old.at ≡ length old.path) × (new ≡ old)
+Answers gives fails old line (Err (SendFault.Failed fault)) new = (old.at ≡ length old.path) × fails (state_behind old.start old.path) line fault × (new ≡ old)
 
 -- what the end of a run comes to, which has to be at the end of the path: the next run begins, or no run is left
 abbrev pub Ends : {S L A : Type 0} → Tree L S A → Result Bool Unfinished → Tree L S A → Type 0

@@ -2,7 +2,7 @@
 use Rattle.std.specs.Prelude.{◌≡◌, true, List, [], ◌∷◌, Option, None, Some, Ok, take}
 use Rattle.i3c_orders.specs.declared.choice.Choice.{Choice}
 use Rattle.i3c_orders.specs.declared.choice.Step.{Step}
-use Rattle.i3c_orders.specs.Paths.{Answers, Ends, Retreats, Sends, Tree, steps_of, told_on, tree}
+use Rattle.i3c_orders.specs.Paths.{Ends, IsAnswered, Retreats, Sends, Tree, steps_of, told_on, tree}
 
 -- what a program does that isn't yet on its path: it sends a line, or its run is over and the next one begins
 pub data Move : Type 0 where
@@ -31,6 +31,6 @@ told_now orders = told_on (take orders.at orders.path)
 abbrev pub IsSession : {L S A : Type 0} → (S → L → List (Step S A) → Type 0) → (List A → Option L) → S → List Call → List (List (Step S A)) → Tree L S A → Type 0
 IsSession gives program start [] tried new = (tried ≡ []) × (new ≡ tree start [] 0)
 IsSession {L} {S} {A} gives program start (Call.Send ∷ before) tried new =
-    (old : Tree L S A) × (line : L) × IsSession gives program start before tried old × (program (told_now old) ≡ Some line) × Answers gives old line (Ok tt) new
+    (old : Tree L S A) × (line : L) × IsSession gives program start before tried old × (program (told_now old) ≡ Some line) × IsAnswered gives old line new
 IsSession {L} {S} {A} gives program start (Call.Again ∷ before) tried new =
     (old : Tree L S A) × (done : List (List (Step S A))) × IsSession gives program start before done old × (program (told_now old) ≡ None) × Ends old (Ok true) new × (tried ≡ steps_of old.path ∷ done)

@@ -1,5 +1,5 @@
-ghost use Rattle.std.specs.Prelude.{◌≡◌, ◌<◌, IfOk, length, OnErr, OnOk};
-ghost use Rattle.i3c_orders.specs.Paths.{Answers, IsOther, Sends, Turns, state_behind};
+ghost use Rattle.std.specs.Prelude.{◌≡◌, ◌<◌, ◌++◌, ◌∷◌, [], IfErr, IfOk, OnErr, OnOk, length};
+ghost use Rattle.i3c_orders.specs.Paths.{Answers, IsOther, IsUnsent, Sends, Turns, state_behind};
 
 use crate::choice::{Choice, Step};
 use crate::responder::Responder;
@@ -7,12 +7,14 @@ use std::alloc::{AllocError, Global};
 use std::marker::Model;
 
 /// Why a line isn't answered.
-#[derive(Clone, Copy, Debug, PartialEq, Eq)]
-pub enum SendFault {
+#[derive(Drop)]
+pub enum SendFault<F> {
     /// A run that began as this one sent another line here: the program isn't determined by its answers.
     Differs,
     /// There was no memory for its answers.
     Memory,
+    /// The machine has no answers, for this reason.
+    Failed(F),
 }
 
 /// A run that ends where one that began as this one went on: the program isn't determined by its answers.
@@ -108,13 +110,15 @@ fn other<L: Drop, S: Drop, A: Drop>(choice: Choice<L, S, A>) -> Option<Choice<L,
 ///
 /// # Errors
 ///
-/// `Differs` if it isn't the line that a run which began as this one sent here, and `Memory`. Then nothing has changed.
+/// `Differs` if it isn't the line that a run which began as this one sent here; `Memory`; and `Failed` if the machine has no
+/// answers. Then nothing has changed.
 pub fn send<M: Responder>(
     alloc: Global,
-    orders: &mut Orders<M::Line, M, M::Answer>,
+    machine: &M,
+    orders: &mut Orders<M::Line, M::State, M::Answer>,
     line: M::Line,
-) -> Result<(), SendFault>
-    ensures { Answers M.gives orders.old line result orders.new }
+) -> Result<(), SendFault<M::Fault>>
+    ensures { Answers (M.gives machine.now) (M.fails machine.now) orders.old line result orders.new }
 {
     if orders.at < orders.path.len() {
         if !M::is_same(&orders.path[orders.at].line, &line) {
@@ -123,45 +127,74 @@ pub fn send<M: Responder>(
         orders.at += 1;
         return Ok(());
     }
-    match extend(alloc, &orders.start, &mut orders.path, line) {
+    match extend(alloc, machine, &orders.start, &mut orders.path, line) {
         Ok(()) => {
             orders.at = orders.path.len();
             Ok(())
         }
-        Err(_) => Err(SendFault::Memory),
+        Err(fault) => Err(fault),
     }
 }
 
 /// A line is answered by the machine, at the end of a path.
 fn extend<M: Responder>(
     alloc: Global,
-    start: &M,
-    path: &mut Vec<Choice<M::Line, M, M::Answer>>,
+    machine: &M,
+    start: &M::State,
+    path: &mut Vec<Choice<M::Line, M::State, M::Answer>>,
     line: M::Line,
-) -> Result<(), AllocError>
-    ensures sends { OnOk result (Sends M.gives start.now path.old.items line path.new.items) }
+) -> Result<(), SendFault<M::Fault>>
+    ensures sends { OnOk result (Sends (M.gives machine.now) start.now path.old.items line path.new.items) }
+    ensures unsent { IfErr result (IsUnsent (M.fails machine.now) (state_behind start.now path.old.items) line) }
     ensures kept { OnErr result (path.new.items ≡ path.old.items) }
 {
-    let mut left = steps_behind(alloc, start, path, &line)?;
+    let mut left = match steps_behind(alloc, machine, start, path, &line) {
+        Ok(steps) => steps,
+        Err(fault) => return Err(SendFault::Failed(fault)),
+    };
     let Some(taken) = left.pop() else {
         unreachable!()
     };
-    path.push(Choice { line, taken, left })?;
+    match keep(path, Choice { line, taken, left }) {
+        Ok(()) => {}
+        Err(_) => return Err(SendFault::Memory),
+    }
+    Ok(())
+}
+
+/// Puts a choice behind a path.
+fn keep<L: Drop, S: Drop, A: Drop>(
+    path: &mut Vec<Choice<L, S, A>>,
+    choice: Choice<L, S, A>,
+) -> Result<(), AllocError>
+    ensures kept { OnOk result (path.new.items ≡ path.old.items ++ choice ∷ []) }
+    ensures same { OnErr result (path.new.items ≡ path.old.items) }
+{
+    path.push(choice)?;
     Ok(())
 }
 
 /// The answers that a line is given behind a path.
 fn steps_behind<M: Responder>(
     alloc: Global,
-    start: &M,
-    path: &Vec<Choice<M::Line, M, M::Answer>>,
+    machine: &M,
+    start: &M::State,
+    path: &Vec<Choice<M::Line, M::State, M::Answer>>,
     line: &M::Line,
-) -> Result<Vec<Step<M, M::Answer>>, AllocError>
-    ensures given { IfOk result (λ steps. M.gives (state_behind start.now path.now.items) line.now steps.items) }
+) -> Result<Vec<Step<M::State, M::Answer>>, M::Fault>
+    ensures given { IfOk result (λ steps. M.gives machine.now (state_behind start.now path.now.items) line.now steps.items) }
     ensures some { IfOk result (λ steps. 0 < length steps.items) }
+    ensures failed { IfErr result (M.fails machine.now (state_behind start.now path.now.items) line.now) }
+{
+    machine.steps(alloc, last_state(start, path), line)
+}
+
+/// The state behind a path.
+fn last_state<'a, L, S, A>(start: &'a S, path: &'a Vec<Choice<L, S, A>>) -> &'a S
+    ensures { result.now ≡ state_behind start.now path.now.items }
 {
     match path.last() {
-        Some(choice) => choice.taken.state.steps(alloc, line),
-        None => start.steps(alloc, line),
+        Some(choice) => &choice.taken.state,
+        None => start,
     }
 }

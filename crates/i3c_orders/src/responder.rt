@@ -1,28 +1,40 @@
-ghost use Rattle.std.specs.Prelude.{◌≡◌, ◌<◌, ◌↔◌, IfOk, IsTrue, List, length};
+ghost use Rattle.std.specs.Prelude.{◌≡◌, ◌<◌, ◌↔◌, IfErr, IfOk, IsTrue, List, length};
 ghost use Rattle.i3c_orders.specs.declared.choice.Step.{Step as StepValue};
 
 use crate::choice::Step;
-use std::alloc::{AllocError, Global};
+use std::alloc::Global;
 
-/// A machine that answers a program's lines.
-pub trait Responder: Sized + Drop {
+/// A machine that answers a program's lines. It is the same in each run, and a run has a state of it.
+pub trait Responder: Sized {
+    /// A state of the machine.
+    type State: Drop;
+
     /// A line.
     type Line: Drop;
 
     /// What a program is answered.
     type Answer: Drop;
 
-    /// These are answers that a line is given in a state, each with where it leads: enough of them for all that may happen.
-    ghost gives: { Self → Self.Line → List (StepValue Self Self.Answer) → Type 0 };
+    /// Why a line has no answers.
+    type Fault: Drop;
 
-    /// The answers that a line is given in this state, each with where it leads. There is an answer to each line.
+    /// These are answers that a line is given in a state, each with where it leads: enough of them for all that may happen.
+    ghost gives: { Self → Self.State → Self.Line → List (StepValue Self.State Self.Answer) → Type 0 };
+
+    /// A line has no answers in a state, for this reason.
+    ghost fails: { Self → Self.State → Self.Line → Self.Fault → Type 0 };
+
+    /// The answers that a line is given in a state, each with where it leads. There is an answer to each line, unless the
+    /// machine has a fault.
     fn steps(
         &self,
         alloc: Global,
+        state: &Self::State,
         line: &Self::Line,
-    ) -> Result<Vec<Step<Self, Self::Answer>>, AllocError>
-        ensures given { IfOk result (λ steps. gives self.now line.now steps.items) }
-        ensures some { IfOk result (λ steps. 0 < length steps.items) };
+    ) -> Result<Vec<Step<Self::State, Self::Answer>>, Self::Fault>
+        ensures given { IfOk result (λ steps. gives self.now state.now line.now steps.items) }
+        ensures some { IfOk result (λ steps. 0 < length steps.items) }
+        ensures failed { IfErr result (fails self.now state.now line.now) };
 
     /// Whether two lines are the same.
     fn is_same(one: &Self::Line, other: &Self::Line) -> bool

@@ -22,21 +22,38 @@ pub enum Line {
     Look,
 }
 
-impl Responder for Coin {
+/// A table, on which a coin is tossed.
+#[derive(Clone, Copy, Debug)]
+pub struct Table;
+
+impl Responder for Table {
+    ghost use Rattle.std.specs.Prelude.{⊤};
+
+    type State = Coin;
+
     type Line = Line;
 
     type Answer = bool;
 
-    ghost gives = { AreAll Falls };
+    type Fault = AllocError;
 
-    fn steps(&self, alloc: Global, line: &Line) -> Result<Vec<Step<Coin, bool>>, AllocError> {
+    ghost gives = { λ table. AreAll Falls };
+
+    ghost fails = { λ table coin line fault. ⊤ };
+
+    fn steps(
+        &self,
+        alloc: Global,
+        coin: &Coin,
+        line: &Line,
+    ) -> Result<Vec<Step<Coin, bool>>, AllocError> {
         let mut steps = Vec::new(alloc);
         match line {
             Line::Toss => {
                 steps.push(fallen(false))?;
                 steps.push(fallen(true))?;
             }
-            Line::Look => steps.push(fallen(self.head))?,
+            Line::Look => steps.push(fallen(coin.head))?,
         }
         Ok(steps)
     }

@@ -5,4 +5,4 @@ mod coin;
 #[cfg(test)]
 mod tests;
 
-pub use coin::{Coin, Line};
+pub use coin::{Coin, Line, Table};

@@ -1,4 +1,4 @@
-use crate::coin::{Coin, Line};
+use crate::coin::{Coin, Line, Table};
 use i3c_orders::{Orders, SendFault, Unfinished, send};
 use std::alloc::Global;
 use std::test::Fail;
@@ -10,7 +10,7 @@ fn runs(alloc: Global) -> Orders<Line, Coin, bool> {
 
 /// What a line that is sent is answered, if it is.
 fn answer(alloc: Global, orders: &mut Orders<Line, Coin, bool>, line: Line) -> Option<bool> {
-    if send(alloc, orders, line).is_err() {
+    if send(alloc, &Table, orders, line).is_err() {
         return None;
     }
     match orders.newest() {
@@ -79,7 +79,12 @@ fn another_line_than_in_the_run_before_is_found(rt: HostRuntime) -> Result<(), F
     let mut orders = runs(alloc);
     assert!(rt; answer(alloc, &mut orders, Line::Toss).is_some());
     assert!(rt; orders.again() == Ok(true));
-    assert!(rt; send(alloc, &mut orders, Line::Look) == Err(SendFault::Differs));
+    assert!(rt;
+        matches!(
+            send(alloc, &Table, &mut orders, Line::Look),
+            Err(SendFault::Differs)
+        )
+    );
     assert!(rt; answer(alloc, &mut orders, Line::Toss).is_some());
     assert!(rt; orders.again() == Ok(false));
     Ok(())
