@@ -26,8 +26,8 @@ pub fn calls_try_all_runs<M: Responder>()
         → IsSession (M.gives machine) program start calls tried old → program (told_now old) ≡ None → Ends old (Ok false) new → (run : List (StepValue M.State M.Answer)) → Contains (steps_of old.path ∷ tried) run → IsRun (CanLead (M.gives machine)) program start run }
 {}
 
-/// Of a machine that always gives a line the same answers in a state, each with the same state behind it: where `again` says
-/// that no run is left, those that were tried are all runs of the program, and nothing else was tried.
+/// A machine may always give a line the same answers in a state, each with the same state behind it. Where `again` says that
+/// no run is left, those that were tried are then all runs of the program, and nothing else was tried.
 pub fn settled_machines_try_all_runs<M: Responder>()
     ensures { (machine : M) → IsSettled (M.gives machine)
         → (program : List M.Answer → Option M.Line) (start : M.State) (calls : List Call) (tried : List (List (StepValue M.State M.Answer))) (old new : Tree M.Line M.State M.Answer)
