@@ -19,18 +19,18 @@ pub on_ok : {E P Q : Type 0} → (result : Result (Unit {0}) E) → (P → Q) �
 on_ok (Ok done) follows p = follows p
 on_ok (Err fault) follows p = tt
 
-none_in : {X : Type 0} (xs : List X) (x : X) → xs ≡ [] → Contains xs x → ⊥
+pub none_in : {X : Type 0} (xs : List X) (x : X) → xs ≡ [] → Contains xs x → ⊥
 none_in xs x none at = go (subst (λ l. Contains l x) none at)
   where
     go : Contains [] x → ⊥
     go (k, few, is) = omega (arith, few)
 
 module _ {S A : Type 0} where
-  adds_kept : (one step : Step (Met S) (Told A)) (old new : List (Step (Met S) (Told A))) → Adds one old new → Contains old step → Contains new step
+  pub adds_kept : (one step : Step (Met S) (Told A)) (old new : List (Step (Met S) (Told A))) → Adds one old new → Contains old step → Contains new step
   adds_kept one step old new (inl more) at = subst (λ l. Contains l step) (sym more) (Contains-append_left old (one ∷ []) step at)
   adds_kept one step old new (inr (same, found)) at = subst (λ l. Contains l step) (sym same) at
 
-  adds_from : (one step : Step (Met S) (Told A)) (old new : List (Step (Met S) (Told A))) → Adds one old new → Contains new step → Contains old step ⊎ (step ≡ one)
+  pub adds_from : (one step : Step (Met S) (Told A)) (old new : List (Step (Met S) (Told A))) → Adds one old new → Contains new step → Contains old step ⊎ (step ≡ one)
   adds_from one step old new (inl more) at = go (Contains-append_cases old (one ∷ []) step (subst (λ l. Contains l step) more at))
     where
       go : Contains old step ⊎ Contains (one ∷ []) step → Contains old step ⊎ (step ≡ one)
@@ -38,7 +38,7 @@ module _ {S A : Type 0} where
       go (inr last) = inr (only_one one step last)
   adds_from one step old new (inr (same, found)) at = inl (subst (λ l. Contains l step) same at)
 
-  adds_has : (one : Step (Met S) (Told A)) (old new : List (Step (Met S) (Told A))) → Adds one old new → (step : Step (Met S) (Told A)) × Contains new step × IsAlike step one
+  pub adds_has : (one : Step (Met S) (Told A)) (old new : List (Step (Met S) (Told A))) → Adds one old new → (step : Step (Met S) (Told A)) × Contains new step × IsAlike step one
   adds_has one old new (inl more) = (one, subst (λ l. Contains l one) (sym more) (Contains-append_right old (one ∷ []) one (zero, omega (arith), refl)), (refl, refl, refl))
   adds_has one old new (inr (same, (step, at, alike))) = (step, subst (λ l. Contains l step) (sym same) at, alike)
 

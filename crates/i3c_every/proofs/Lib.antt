@@ -1,1 +1,4 @@
 mod Adding
+mod Between
+mod Looking
+mod Waiting

@@ -65,7 +65,7 @@ pub(crate) fn add<M: Answering>(
 }
 
 /// A run that came to a node's places, with its turns, and is in this state now.
-fn met_at<M: Drop>(
+pub(crate) fn met_at<M: Drop>(
     alloc: Global,
     node: &Node<M>,
     state: M,
