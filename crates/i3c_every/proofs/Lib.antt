@@ -1,0 +1,5 @@
+mod Adding
+mod Between
+mod Covering
+mod Looking
+mod Waiting

@@ -1,0 +1,4 @@
+pub mod Answered
+pub mod Every
+pub mod Meeting
+pub mod Seen

@@ -1,0 +1,50 @@
+ghost use Rattle.std.specs.Prelude.{◌≡◌, ◌<◌, ◌≤◌, ◌^◌, ◌↔◌, ℕ, IfOk, IsTrue};
+
+use i3c_explore::Machine;
+use i3c_orders::Step;
+use std::alloc::{AllocError, Global};
+
+/// A machine that answers a program while lines of tracks run on it.
+pub trait Answering: Machine {
+    /// What holds of each line that a program sends: what it may meet, and what is expected behind it.
+    type Rules: Drop;
+
+    /// A line that a program sends.
+    type ProgramLine: Drop;
+
+    /// What a program is told.
+    type Answer: Drop;
+
+    /// Under some rules a line that goes a way is answered so, and leads to a state.
+    ghost answers: { Self.Rules → Self → Self.ProgramLine → ℕ → Self.Answer → Self → Type 0 };
+
+    /// A program that waits is told so in a state.
+    ghost sees: { Self → Self.Answer → Type 0 };
+
+    /// The last way to answer, below 4,294,967,296. A later way is answered as some way up to this one.
+    fn last_answer(&self, rules: &Self::Rules, line: &Self::ProgramLine) -> usize
+        ensures small { result < 2 ^ 32 }
+        ensures last { (way : ℕ) → (tried : ℕ) × (tried ≤ result) × ((answer : Self.Answer) (new : Self) → answers rules.now self.now line.now tried answer new → answers rules.now self.now line.now way answer new) };
+
+    /// What a line that goes a way is answered, with the state that it leads to.
+    fn answer(
+        &self,
+        alloc: Global,
+        rules: &Self::Rules,
+        line: &Self::ProgramLine,
+        way: usize,
+    ) -> Result<Step<Self, Self::Answer>, AllocError>
+        ensures { IfOk result (λ step. answers rules.now self.now line.now way step.answer step.state) };
+
+    /// What a program that waits is told in this state.
+    fn look(&self, alloc: Global) -> Result<Self::Answer, AllocError>
+        ensures { IfOk result (sees self.now) };
+
+    /// Whether two answers are the same.
+    fn is_same_answer(one: &Self::Answer, other: &Self::Answer) -> bool
+        ensures { IsTrue result → one.now ≡ other.now };
+
+    /// Whether two lines are the same.
+    fn is_same_line(one: &Self::ProgramLine, other: &Self::ProgramLine) -> bool
+        ensures { IsTrue result ↔ (one.now ≡ other.now) };
+}

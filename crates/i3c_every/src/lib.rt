@@ -1,0 +1,45 @@
+//! A machine that answers a program while lines of tracks run on it, in every order.
+//!
+//! A program sends lines to a machine and reads the answers. Meanwhile lines of tracks run on the machine: each track's lines
+//! keep their order, and the tracks interleave. [`Tracks`] is such a machine for `i3c_orders`, which lets the program run
+//! again and again until it has met every order.
+//!
+//! * `answering` is a machine whose lines are answered ([`Answering`]). The program's lines are of another type than those of
+//!   the tracks.
+//! * `sent` is what a program sends: a line before which lines of the tracks may run, a line before which none runs, or that
+//!   it waits until something happens. `told` is what it is told.
+//! * `met` is where a run is: a state, and the places in the tracks.
+//! * `answered` has the answers that a line is given in some states, and `seen` what a program that waited sees there.
+//! * `tracks` answers what a program sends.
+//! * `laws` says what was tried where no run is left.
+//!
+//! Before a line that meets them any number of the tracks' lines run, in any interleaving and each in any way. In a wait at
+//! least one runs, if one is left. The line goes any way too. Each of these orders and ways is told (`AreMet` in
+//! specs/Meeting.antt). Where two of them tell the same, and lead to equal states at the same places, one step is kept: the
+//! program can't tell them apart, and they have the same future.
+//!
+//! [`programs_meet_every_order`] is the theorem, for each program that is determined by its answers. Where
+//! [`Orders::again`](i3c_orders::Orders::again) answers that no run is left, each line of the program met every order in every
+//! way, and whatever goes on from there was tried (`MeetsEvery` in specs/Every.antt). Each run that was tried is one that the
+//! program may have. If the machine is determined too, then of every run that the program may have one was tried with the
+//! same answers, the same state at its end, and the same places.
+//!
+//! Not claimed: that steps are few, that there is memory enough, that the limits are enough, or how much time it takes. A
+//! program has to end each of its runs. If a machine isn't determined, only what it did and answered was tried.
+#![tactic(auto)]
+
+mod answered;
+mod answering;
+mod laws;
+mod met;
+mod seen;
+mod sent;
+mod told;
+mod tracks;
+
+pub use answering::Answering;
+pub use laws::programs_meet_every_order;
+pub use met::Met;
+pub use sent::Sent;
+pub use told::Told;
+pub use tracks::Tracks;

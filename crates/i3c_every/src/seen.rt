@@ -1,0 +1,56 @@
+ghost use Rattle.std.specs.Prelude.{◌≡◌, [], IfOk, OnOk, false, true};
+ghost use Rattle.i3c_every.specs.Seen.{AreSeen, IsSeenAdded};
+
+use crate::answered::{add, met_at};
+use crate::answering::Answering;
+use crate::met::Met;
+use crate::told::Told;
+use crate::tracks::copied;
+use i3c_explore::Node;
+use i3c_orders::Step;
+use std::alloc::{AllocError, Global};
+
+/// Whether lines of the tracks ran before a node.
+fn has_turns<M>(node: &Node<M>) -> bool
+    ensures some { result ≡ true → node.now.order.items ≡ [] → ⊥ }
+    ensures none { result ≡ false → node.now.order.items ≡ [] }
+{
+    !node.order.is_empty()
+}
+
+/// Adds what a program that waited sees at a node, if lines of the tracks ran before it.
+fn add_seen<M: Answering>(
+    alloc: Global,
+    node: &Node<M>,
+    steps: &mut Vec<Step<Met<M>, Told<M::Answer>>>,
+) -> Result<(), AllocError>
+    ensures { OnOk result (IsSeenAdded M.sees node.now steps.old.items steps.new.items) }
+{
+    if !has_turns(node) {
+        return Ok(());
+    }
+    let answer = node.state.look(alloc)?;
+    let state = copied(alloc, &node.state)?;
+    let met = met_at(alloc, node, state, 0)?;
+    add::<M>(
+        steps,
+        Step {
+            answer: Told::Happened(answer),
+            state: met,
+        },
+    )
+}
+
+/// What a program that waited sees at the nodes before which lines of the tracks ran.
+pub(crate) fn seen_at<M: Answering>(
+    alloc: Global,
+    nodes: &[Node<M>],
+) -> Result<Vec<Step<Met<M>, Told<M::Answer>>>, AllocError>
+    ensures { IfOk result (λ steps. AreSeen M.sees nodes.now steps.items) }
+{
+    let mut steps = Vec::new(alloc);
+    for index in 0..nodes.len() {
+        add_seen(alloc, &nodes[index], &mut steps)?;
+    }
+    Ok(steps)
+}

@@ -1,0 +1,10 @@
+/// What a program sends.
+#[derive(Drop)]
+pub enum Sent<L> {
+    /// A line before which lines of the tracks may run.
+    Meets(L),
+    /// A line before which none runs.
+    Alone(L),
+    /// It waits: a line of the tracks runs at least, if one is left.
+    Waits,
+}

@@ -1,0 +1,207 @@
+ghost use Rattle.std.specs.Prelude.{◌≡◌, ◌<◌, ◌⊎◌, [], Err, IfErr, IfOk, List, false, length, true};
+ghost use Rattle.i3c_explore.specs.declared.node.Node.{Node as NodeValue};
+ghost use Rattle.i3c_explore.specs.declared.turn.Turn.{Turn as TurnValue};
+ghost use Rattle.i3c_explore.specs.declared.stop.Stop.{Stop as StopValue};
+ghost use Rattle.i3c_explore.specs.Reached.{AreTaken, Reaches};
+ghost use Rattle.i3c_every.specs.Meeting.{AreSeenBehind, AreTold, FailsAt, IsBegunAt, IsNothingLeft};
+
+use crate::answered::answers_at;
+use crate::answering::Answering;
+use crate::met::Met;
+use crate::seen::seen_at;
+use crate::sent::Sent;
+use crate::told::Told;
+use i3c_explore::{Limits, Node, Stop, reach};
+use i3c_orders::{Responder, Step};
+use std::alloc::{AllocError, Global};
+
+/// Tracks of lines that run while a program talks with a machine.
+#[derive(Drop)]
+pub struct Tracks<M: Answering> {
+    /// What holds of each line of the program.
+    pub rules: M::Rules,
+    /// The lines of the tracks.
+    pub lines: Vec<Vec<M::Line>>,
+    /// What may be run, and kept, before a line of the program.
+    pub limits: Limits,
+}
+
+impl<M: Answering> Responder for Tracks<M> {
+    ghost use Rattle.i3c_every.specs.Meeting.{AreMet, Fails};
+
+    type State = Met<M>;
+
+    type Line = Sent<M::ProgramLine>;
+
+    type Answer = Told<M::Answer>;
+
+    type Fault = Stop;
+
+    ghost gives = { λ tracks. AreMet M.steps (M.answers tracks.rules) M.sees tracks.lines.items };
+
+    ghost fails = { λ tracks. Fails M.steps M.last M.breaks tracks.lines.items tracks.limits };
+
+    fn steps(
+        &self,
+        alloc: Global,
+        met: &Met<M>,
+        sent: &Sent<M::ProgramLine>,
+    ) -> Result<Vec<Step<Met<M>, Told<M::Answer>>>, Stop> {
+        let line = match sent {
+            Sent::Meets(line) => {
+                return meeting(alloc, &self.lines, self.limits, met, &self.rules, line);
+            }
+            Sent::Waits => return waiting(alloc, &self.lines, self.limits, met),
+            Sent::Alone(line) => line,
+        };
+        let steps = alone(alloc, &self.lines, met, &self.rules, line)?;
+        Ok(steps)
+    }
+
+    fn is_same(one: &Sent<M::ProgramLine>, other: &Sent<M::ProgramLine>) -> bool {
+        match (one, other) {
+            (Sent::Meets(one), Sent::Meets(other)) => M::is_same_line(one, other),
+            (Sent::Alone(one), Sent::Alone(other)) => M::is_same_line(one, other),
+            (Sent::Waits, Sent::Waits) => true,
+            _ => false,
+        }
+    }
+}
+
+/// A copy of a state.
+pub(crate) fn copied<M: Answering>(alloc: Global, state: &M) -> Result<M, AllocError>
+    ensures { IfOk result (λ copy. copy ≡ state.now) }
+{
+    let runner = state.runner(alloc)?;
+    M::kept(alloc, &runner, None)
+}
+
+/// A node that begins where a run is, with no turn.
+fn start_of<M: Answering>(alloc: Global, met: &Met<M>) -> Result<Node<M>, AllocError>
+    ensures { IfOk result (IsBegunAt met.now) }
+{
+    let state = copied(alloc, &met.state)?;
+    let places = met.places.clone()?;
+    Ok(Node {
+        state,
+        places,
+        order: Vec::new(alloc),
+        orders: Some(1),
+    })
+}
+
+/// What a line is answered where a run is, behind no line of the tracks.
+pub(crate) fn alone<M: Answering>(
+    alloc: Global,
+    tracks: &[Vec<M::Line>],
+    met: &Met<M>,
+    rules: &M::Rules,
+    line: &M::ProgramLine,
+) -> Result<Vec<Step<Met<M>, Told<M::Answer>>>, AllocError>
+    ensures told { IfOk result (λ steps. AreTold M.steps (M.answers rules.now) tracks.now met.now (λ order. order ≡ []) line.now steps.items) }
+    ensures some { IfOk result (λ steps. 0 < length steps.items) }
+{
+    let mut nodes = Vec::new(alloc);
+    nodes.push(start_of(alloc, met)?)?;
+    answers_at(alloc, &nodes, rules, line)
+}
+
+/// The nodes that are reached from where a run is. If the places are of other tracks, it says that there was no memory.
+pub(crate) fn reached_from<M: Answering>(
+    alloc: Global,
+    tracks: &[Vec<M::Line>],
+    limits: Limits,
+    met: &Met<M>,
+) -> Result<Vec<Node<M>>, Stop>
+    ensures { (result ≡ Err StopValue.Memory) ⊎ ((start : NodeValue M) × IsBegunAt met.now start × (length start.places.items ≡ length tracks.now) × Reaches M.steps M.last M.breaks tracks.now start limits result) }
+{
+    let start = start_of(alloc, met)?;
+    if start.places.len() != tracks.len() {
+        return Err(Stop::Memory);
+    }
+    reach(alloc, start, tracks, limits)
+}
+
+/// What a line is answered behind each order of the tracks' lines.
+pub(crate) fn meeting<M: Answering>(
+    alloc: Global,
+    tracks: &[Vec<M::Line>],
+    limits: Limits,
+    met: &Met<M>,
+    rules: &M::Rules,
+    line: &M::ProgramLine,
+) -> Result<Vec<Step<Met<M>, Told<M::Answer>>>, Stop>
+    ensures told { IfOk result (λ steps. AreTold M.steps (M.answers rules.now) tracks.now met.now (AreTaken tracks.now met.now.places.items) line.now steps.items) }
+    ensures some { IfOk result (λ steps. 0 < length steps.items) }
+    ensures failed { IfErr result (FailsAt M.steps M.last M.breaks tracks.now limits met.now) }
+{
+    let nodes = match reached_from(alloc, tracks, limits, met) {
+        Ok(nodes) => nodes,
+        Err(stop) => return Err(stop),
+    };
+    let steps = answers_at(alloc, &nodes, rules, line)?;
+    Ok(steps)
+}
+
+/// What a program that waits is told: that something happened, by each order of a line at least; or that nothing is left.
+pub(crate) fn waiting<M: Answering>(
+    alloc: Global,
+    tracks: &[Vec<M::Line>],
+    limits: Limits,
+    met: &Met<M>,
+) -> Result<Vec<Step<Met<M>, Told<M::Answer>>>, Stop>
+    ensures told { IfOk result (λ steps. AreSeenBehind M.steps M.sees tracks.now met.now steps.items) }
+    ensures some { IfOk result (λ steps. 0 < length steps.items) }
+    ensures failed { IfErr result (FailsAt M.steps M.last M.breaks tracks.now limits met.now) }
+{
+    let nodes = match reached_from(alloc, tracks, limits, met) {
+        Ok(nodes) => nodes,
+        Err(stop) => return Err(stop),
+    };
+    let steps = seen_at(alloc, &nodes)?;
+    if has_some(&steps) {
+        return Ok(steps);
+    }
+    let none = nothing_left(alloc, met)?;
+    Ok(none)
+}
+
+/// Whether there is a step.
+fn has_some<S, A>(steps: &Vec<Step<S, A>>) -> bool
+    ensures some { result ≡ true → 0 < length steps.now.items }
+    ensures none { result ≡ false → length steps.now.items ≡ 0 }
+{
+    !steps.is_empty()
+}
+
+/// A run that is where another one is, with no turn.
+fn stayed<M: Answering>(alloc: Global, met: &Met<M>) -> Result<Met<M>, AllocError>
+    ensures state { IfOk result (λ stays. stays.state ≡ met.now.state) }
+    ensures places { IfOk result (λ stays. stays.places.items ≡ met.now.places.items) }
+{
+    let state = copied(alloc, &met.state)?;
+    let places = met.places.clone()?;
+    Ok(Met {
+        state,
+        places,
+        turns: Vec::new(alloc),
+        way: 0,
+    })
+}
+
+/// What a program that waits is told where no line of the tracks is left.
+fn nothing_left<M: Answering>(
+    alloc: Global,
+    met: &Met<M>,
+) -> Result<Vec<Step<Met<M>, Told<M::Answer>>>, AllocError>
+    ensures { IfOk result (λ steps. IsNothingLeft M.sees met.now steps.items) }
+{
+    let answer = met.state.look(alloc)?;
+    let state = stayed(alloc, met)?;
+    let mut steps = Vec::new(alloc);
+    steps.push(Step {
+        answer: Told::NothingLeft(answer),
+        state,
+    })?;
+    Ok(steps)
+}
