@@ -6,7 +6,7 @@ use Rattle.std.proofs.lemmas.List.{get_or_read_under}
 use Rattle.std.proofs.lemmas.List.Elements.{Contains-append_cases, Contains-append_left, Contains-append_right}
 use Rattle.i3c_explore.specs.declared.node.Node.{Node}
 use Rattle.i3c_orders.specs.declared.choice.Step.{Step}
-use Rattle.i3c_every.specs.Answered.{Adds, AreAdded, AreAnswered, IsAlike, IsAnsweredAt}
+use Rattle.i3c_every.specs.Answered.{Adds, AreAdded, AreAnswered, IsAlike, IsAnsweredAt, IsKeptAt}
 use Rattle.i3c_every.specs.declared.met.Met.{Met}
 use Rattle.i3c_every.specs.declared.told.Told.{Told}
 
@@ -53,15 +53,15 @@ module _ {S P A : Type 0} (answers : S → P → ℕ → A → S → Type 0) (li
 
   -- the answers in the first ways were added
   pub record IsWayUp (node : Node S) (count : ℕ) (old new : List (Step (Met S) (Told A))) : Type 0 where
-    pub from : (step : Step (Met S) (Told A)) → Contains new step → Contains old step ⊎ ((way : ℕ) × IsAnsweredAt answers node line way step)
+    pub from : (step : Step (Met S) (Told A)) → Contains new step → Contains old step ⊎ ((way : ℕ) × IsAnsweredAt answers node line way step × IsKeptAt node way step)
     pub kept : (step : Step (Met S) (Told A)) → Contains old step → Contains new step
     pub all : (way : ℕ) → way < count → (step : Step (Met S) (Told A)) × Contains new step × IsAnsweredAt answers node line way step
 
   pub way_first : (node : Node S) (old : List (Step (Met S) (Told A))) → IsWayUp node 0 old old
   way_first node old = record { from = λ step at. inl at; kept = λ step at. at; all = λ way few. absurd (omega (arith, few)) }
 
-  pub way_next : (node : Node S) (count : ℕ) (old mid new : List (Step (Met S) (Told A))) (one : Step (Met S) (Told A)) → IsWayUp node count old mid → IsAnsweredAt answers node line count one → Adds one mid new → IsWayUp node (count + 1) old new
-  way_next node count old mid new one was own adds = record {
+  pub way_next : (node : Node S) (count : ℕ) (old mid new : List (Step (Met S) (Told A))) (one : Step (Met S) (Told A)) → IsWayUp node count old mid → IsAnsweredAt answers node line count one → IsKeptAt node count one → Adds one mid new → IsWayUp node (count + 1) old new
+  way_next node count old mid new one was own keeps adds = record {
     from = λ step at. go step (adds_from one step mid new adds at);
     kept = λ step at. adds_kept one step mid new adds (was.kept step at);
     all = λ way few. elim (eqb_tells way count) [
@@ -70,9 +70,9 @@ module _ {S P A : Type 0} (answers : S → P → ℕ → A → S → Type 0) (li
     ];
   }
     where
-      go : (step : Step (Met S) (Told A)) → Contains mid step ⊎ (step ≡ one) → Contains old step ⊎ ((way : ℕ) × IsAnsweredAt answers node line way step)
+      go : (step : Step (Met S) (Told A)) → Contains mid step ⊎ (step ≡ one) → Contains old step ⊎ ((way : ℕ) × IsAnsweredAt answers node line way step × IsKeptAt node way step)
       go step (inl before) = was.from step before
-      go step (inr is) = inr (count, subst (λ (s : Step (Met S) (Told A)). IsAnsweredAt answers node line count s) (sym is) own)
+      go step (inr is) = inr (count, subst (λ (s : Step (Met S) (Told A)). IsAnsweredAt answers node line count s) (sym is) own, subst (λ (s : Step (Met S) (Told A)). IsKeptAt node count s) (sym is) keeps)
 
   pub way_all : (node : Node S) (last count : ℕ) (old new : List (Step (Met S) (Told A))) → last < count → IsWayUp node count old new
       → ((way : ℕ) → (tried : ℕ) × (tried ≤ last) × ((answer : A) (end : S) → answers node.state line tried answer end → answers node.state line way answer end)) → AreAdded answers node line old new
@@ -85,7 +85,7 @@ module _ {S P A : Type 0} (answers : S → P → ℕ → A → S → Type 0) (li
 
   -- the answers at the first nodes were added
   pub record IsUpTo (nodes : List (Node S)) (count : ℕ) (steps : List (Step (Met S) (Told A))) : Type 0 where
-    pub from : (step : Step (Met S) (Told A)) → Contains steps step → (node : Node S) × Contains nodes node × ((way : ℕ) × IsAnsweredAt answers node line way step)
+    pub from : (step : Step (Met S) (Told A)) → Contains steps step → (node : Node S) × Contains nodes node × ((way : ℕ) × IsAnsweredAt answers node line way step × IsKeptAt node way step)
     pub all : (k : ℕ) (node : Node S) → k < count → get_or nodes k node ≡ node → (way : ℕ) → (step : Step (Met S) (Told A)) × Contains steps step × IsAnsweredAt answers node line way step
 
   pub up_first : (nodes : List (Node S)) (steps : List (Step (Met S) (Told A))) → steps ≡ [] → IsUpTo nodes 0 steps
@@ -100,7 +100,7 @@ module _ {S P A : Type 0} (answers : S → P → ℕ → A → S → Type 0) (li
     ];
   }
     where
-      go : (step : Step (Met S) (Told A)) → Contains old step ⊎ ((way : ℕ) × IsAnsweredAt answers own line way step) → (node : Node S) × Contains nodes node × ((way : ℕ) × IsAnsweredAt answers node line way step)
+      go : (step : Step (Met S) (Told A)) → Contains old step ⊎ ((way : ℕ) × IsAnsweredAt answers own line way step × IsKeptAt own way step) → (node : Node S) × Contains nodes node × ((way : ℕ) × IsAnsweredAt answers node line way step × IsKeptAt node way step)
       go step (inl before) = was.from step before
       go step (inr led) = (own, (count, within, sym is), led)
 

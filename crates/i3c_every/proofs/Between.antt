@@ -1,5 +1,5 @@
 -- What is told behind the tracks' lines.
-use Rattle.std.proofs.Common.{◌≡◌, ◌⊎◌, ◌∙◌, ◌<◌, ℕ, zero, suc, List, [], ◌∷◌, Contains, Err, Ok, Result, IfOk, ap, arith, inl, inr, length, refl, subst, sym}
+use Rattle.std.proofs.Common.{◌≡◌, ◌⊎◌, ◌∙◌, ◌<◌, ℕ, zero, suc, List, [], ◌∷◌, ◌++◌, Contains, Err, Ok, Result, IfOk, ap, arith, inl, inr, length, refl, reverse, subst, sym}
 use Rattle.std.specs.Global.{Vec}
 use Rattle.i3c_explore.specs.declared.limits.Limits.{Limits}
 use Rattle.i3c_explore.specs.declared.node.Node.{Node}
@@ -39,10 +39,14 @@ module _ {S L P A : Type 0} (steps : S → L → ℕ → S → Type 0) (answers 
     places = is.places ∙ places ∙ ap (λ (p : List ℕ). places_after p order) begun.places;
   }
 
+  by_way : (old : Met S) (order : List Turn) (line : P) (way : ℕ) (step : Step (Met S) (Told A)) → step.state.way ≡ way → IsToldBehind steps answers tracks old order line way step → IsToldBehind steps answers tracks old order line step.state.way step
+  by_way old order line way step own told = subst (λ (w : ℕ). IsToldBehind steps answers tracks old order line w step) (sym own) told
+
   pub told_alone : (old : Met S) (start : Node S) (nodes : List (Node S)) (line : P) (all : List (Step (Met S) (Told A))) → IsBegunAt old start → nodes ≡ start ∷ [] → AreAnswered answers nodes line all → AreTold steps answers tracks old (λ order. order ≡ []) line all
   told_alone old start nodes line all begun one answered = record {
-    from = λ step at. let (node, there, (way, is)) = answered.from step at in
-        ([], refl, (way, behind old start start [] line way step begun refl refl (subst (λ (n : Node S). IsAnsweredAt answers n line way step) (one_there start node nodes one there) is)));
+    from = λ step at. let (node, there, (way, is, (turns, own))) = answered.from step at in
+        let same : node ≡ start = one_there start node nodes one there in
+        ([], refl, by_way old [] line way step own (behind old start start [] line way step begun refl refl (subst (λ (n : Node S). IsAnsweredAt answers n line way step) same is)), turns ∙ ap (λ (n : Node S). n.order.items) same ∙ begun.order);
     each = λ order none way. let (step, there, is) = answered.all start (here start nodes one) way in
         (step, there, subst (λ (o : List Turn). IsToldBehind steps answers tracks old o line way step) (sym none) (behind old start start [] line way step begun refl refl is));
   }
@@ -50,8 +54,8 @@ module _ {S L P A : Type 0} (steps : S → L → ℕ → S → Type 0) (answers 
   pub told_meeting : (old : Met S) (start : Node S) (nodes : List (Node S)) (line : P) (all : List (Step (Met S) (Told A))) → IsBegunAt old start → AreReached steps tracks start nodes → AreAnswered answers nodes line all
       → AreTold steps answers tracks old (AreTaken tracks old.places.items) line all
   told_meeting old start nodes line all begun reached answered = record {
-    from = λ step at. let (node, there, (way, is)) = answered.from step at in let (order, by, (places, led)) = reached.from node there in
-        (order, subst (λ (p : List ℕ). AreTaken tracks p order) begun.places (taken_of steps tracks start.places.items start.state order node.state led), (way, behind old start node order line way step begun places led is));
+    from = λ step at. let (node, there, (way, is, (turns, own))) = answered.from step at in let (order, by, (places, led)) = reached.from node there in
+        (order, subst (λ (p : List ℕ). AreTaken tracks p order) begun.places (taken_of steps tracks start.places.items start.state order node.state led), by_way old order line way step own (behind old start node order line way step begun places led is), turns ∙ by ∙ ap (λ (l : List Turn). l ++ reverse order) begun.order);
     each = λ order taken way. let (node, there, (places, led)) = reached.all order (subst (λ (p : List ℕ). AreTaken tracks p order) (sym begun.places) taken) in let (step, at, is) = answered.all node there way in
         (step, at, behind old start node order line way step begun places led is);
   }

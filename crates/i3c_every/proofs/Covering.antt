@@ -10,7 +10,7 @@ use Rattle.i3c_orders.specs.Runs.{AreTried, CanLead, IsRun, IsRunFrom, state_aft
 use Rattle.i3c_every.specs.declared.met.Met.{Met}
 use Rattle.i3c_every.specs.declared.sent.Sent.{Sent}
 use Rattle.i3c_every.specs.declared.told.Told.{Told}
-use Rattle.i3c_every.specs.Every.{AreAlike, IsDetermined, IsMet, IsToldSo, MayMeet, MayRun, MeetsEvery}
+use Rattle.i3c_every.specs.Every.{AreAlike, HasMet, IsDetermined, IsMet, IsToldSo, MayMeet, MayRun, MeetsEvery}
 use Rattle.i3c_every.specs.Meeting.{AreAwaited, AreMet, IsSeenBehind, IsToldBehind, waited}
 
 none_is_some : {X : Type 0} (o : Option X) (x : X) → o ≡ None → o ≡ Some x → ⊥
@@ -32,11 +32,11 @@ module _ {S L P A : Type 0} (steps : S → L → ℕ → S → Type 0) (answers 
   each_met old (Sent.Alone line) all met order may way = met.each order may way
   each_met old Sent.Waits all met order may way = met.each order may
 
-  -- and each step is of an order and a way
-  from_met : (old : Met S) (sent : Sent P) (all : List (Step (Met S) (Told A))) → AreMet steps answers sees tracks old sent all → (step : Step (Met S) (Told A)) → Contains all step → MayMeet steps answers sees tracks old sent step.answer step.state
+  -- and each step is of the order and the way that it keeps
+  from_met : (old : Met S) (sent : Sent P) (all : List (Step (Met S) (Told A))) → AreMet steps answers sees tracks old sent all → (step : Step (Met S) (Told A)) → Contains all step → HasMet steps answers sees tracks old sent step.answer step.state
   from_met old (Sent.Meets line) all met step at = met.from step at
   from_met old (Sent.Alone line) all met step at = met.from step at
-  from_met old Sent.Waits all met step at = let (order, may, is) = met.from step at in (order, may, (0, is))
+  from_met old Sent.Waits all met step at = met.from step at
 
   module _ (program : List (Told A) → Option (Sent P)) (start : Met S) (tried : List (List (Step (Met S) (Told A)))) where
     -- where all answers were tried, all orders were
@@ -47,12 +47,12 @@ module _ {S L P A : Type 0} (steps : S → L → ℕ → S → Type 0) (answers 
         let found = each_met (state_after start run) sent all given order may way in
         IsMet.By run sent order way found.0 found.2 (meets (run ++ found.0 ∷ []) (on found.0 found.1)))
 
-    goes : (told : List (Told A)) (state : Met S) (run : List (Step (Met S) (Told A))) → IsRunFrom (CanLead (AreMet steps answers sees tracks)) program told state run → IsRunFrom (MayMeet steps answers sees tracks) program told state run
+    goes : (told : List (Told A)) (state : Met S) (run : List (Step (Met S) (Told A))) → IsRunFrom (CanLead (AreMet steps answers sees tracks)) program told state run → IsRunFrom (HasMet steps answers sees tracks) program told state run
     goes told state [] over = over
     goes told state (step ∷ run) (sent, asks, (all, given, at), rest) = (sent, asks, from_met state sent all given step at, goes (told ++ step.answer ∷ []) step.state run rest)
 
-    -- a run of the answers that were given is one that the program may have
-    pub only_met : (run : List (Step (Met S) (Told A))) → IsRun (CanLead (AreMet steps answers sees tracks)) program start run → IsRun (MayMeet steps answers sees tracks) program start run
+    -- a run of the answers that were given is one that the program may have, by what its states keep
+    pub only_met : (run : List (Step (Met S) (Told A))) → IsRun (CanLead (AreMet steps answers sees tracks)) program start run → IsRun (HasMet steps answers sees tracks) program start run
     only_met run is = goes [] start run is
 
     met_by : (run : List (Step (Met S) (Told A))) (sent : Sent P) (order : List Turn) (way : ℕ) → IsMet steps answers sees tracks program start tried run sent order way

@@ -5,7 +5,7 @@ use Rattle.std.proofs.lemmas.List.{get_or_read_under}
 use Rattle.i3c_explore.specs.declared.node.Node.{Node}
 use Rattle.i3c_orders.specs.declared.choice.Step.{Step}
 use Rattle.i3c_every.specs.Answered.{Adds, IsAlike}
-use Rattle.i3c_every.specs.Seen.{AreSeen, IsSeenAdded, IsSeenAt}
+use Rattle.i3c_every.specs.Seen.{AreSeen, HasTurnsOf, IsSeenAdded, IsSeenAt}
 use Rattle.i3c_every.specs.declared.met.Met.{Met}
 use Rattle.i3c_every.specs.declared.told.Told.{Told}
 use Rattle.i3c_every.proofs.Adding.{adds_from, adds_has, adds_kept, none_in}
@@ -17,20 +17,20 @@ module _ {S A : Type 0} (sees : S → A → Type 0) where
   pub not_added : (node : Node S) (old : List (Step (Met S) (Told A))) → node.order.items ≡ [] → IsSeenAdded sees node old old
   not_added node old none = record { from = λ step at. inl at; kept = λ step at. at; all = λ ran. absurd (ran none) }
 
-  pub added : (node : Node S) (one : Step (Met S) (Told A)) (old new : List (Step (Met S) (Told A))) → IsSeenAt sees node one → Adds one old new → IsSeenAdded sees node old new
-  added node one old new own adds = record {
+  pub added : (node : Node S) (one : Step (Met S) (Told A)) (old new : List (Step (Met S) (Told A))) → IsSeenAt sees node one → HasTurnsOf node one → Adds one old new → IsSeenAdded sees node old new
+  added node one old new own turns adds = record {
     from = λ step at. go step (adds_from one step old new adds at);
     kept = λ step at. adds_kept one step old new adds at;
     all = λ ran. let (step, at, alike) = adds_has one old new adds in (step, at, alike_seen node step one alike own);
   }
     where
-      go : (step : Step (Met S) (Told A)) → Contains old step ⊎ (step ≡ one) → Contains old step ⊎ IsSeenAt sees node step
+      go : (step : Step (Met S) (Told A)) → Contains old step ⊎ (step ≡ one) → Contains old step ⊎ (IsSeenAt sees node step × HasTurnsOf node step)
       go step (inl before) = inl before
-      go step (inr is) = inr (subst (λ (s : Step (Met S) (Told A)). IsSeenAt sees node s) (sym is) own)
+      go step (inr is) = inr (subst (λ (s : Step (Met S) (Told A)). IsSeenAt sees node s) (sym is) own, subst (λ (s : Step (Met S) (Told A)). HasTurnsOf node s) (sym is) turns)
 
   -- what is seen at the first nodes was added
   pub record IsUpTo (nodes : List (Node S)) (count : ℕ) (steps : List (Step (Met S) (Told A))) : Type 0 where
-    pub from : (step : Step (Met S) (Told A)) → Contains steps step → (node : Node S) × Contains nodes node × IsSeenAt sees node step
+    pub from : (step : Step (Met S) (Told A)) → Contains steps step → (node : Node S) × Contains nodes node × IsSeenAt sees node step × HasTurnsOf node step
     pub all : (k : ℕ) (node : Node S) → k < count → get_or nodes k node ≡ node → node.order.items ≢ [] → (step : Step (Met S) (Told A)) × Contains steps step × IsSeenAt sees node step
 
   pub up_first : (nodes : List (Node S)) (steps : List (Step (Met S) (Told A))) → steps ≡ [] → IsUpTo nodes 0 steps
@@ -49,9 +49,9 @@ module _ {S A : Type 0} (sees : S → A → Type 0) where
     ];
   }
     where
-      go : (step : Step (Met S) (Told A)) → Contains old step ⊎ IsSeenAt sees own step → (node : Node S) × Contains nodes node × IsSeenAt sees node step
+      go : (step : Step (Met S) (Told A)) → Contains old step ⊎ (IsSeenAt sees own step × HasTurnsOf own step) → (node : Node S) × Contains nodes node × IsSeenAt sees node step × HasTurnsOf node step
       go step (inl before) = was.from step before
-      go step (inr seen) = (own, (count, within, sym is), seen)
+      go step (inr (seen, turns)) = (own, (count, within, sym is), seen, turns)
 
       one_node : (k : ℕ) (node : Node S) → k ≡ count → get_or nodes k node ≡ node → own ≡ node
       one_node k node same at = get_or_read_under nodes count (length nodes) own node is within refl ∙ subst (λ (j : ℕ). get_or nodes j node ≡ node) same at

@@ -10,7 +10,7 @@ use Rattle.i3c_explore.specs.Layers.{advanced}
 use Rattle.i3c_explore.specs.Orders.{lines_in, track}
 use Rattle.i3c_explore.specs.Reached.{AreReached, AreTaken, LeadsFrom, places_after}
 use Rattle.i3c_orders.specs.declared.choice.Step.{Step}
-use Rattle.i3c_every.specs.Meeting.{AreAwaited, AreSeenBehind, IsBegunAt, IsNothingLeft, IsSeenBehind, waited}
+use Rattle.i3c_every.specs.Meeting.{AreAwaited, AreSeenBehind, HasTurns, IsBegunAt, IsNothingLeft, IsSeenBehind, waited}
 use Rattle.i3c_every.specs.Seen.{AreSeen, IsSeenAt}
 use Rattle.i3c_every.specs.declared.met.Met.{Met}
 use Rattle.i3c_every.specs.declared.told.Told.{Told}
@@ -106,29 +106,30 @@ module _ {S L A : Type 0} (steps : S → L → ℕ → S → Type 0) (sees : S �
 
   -- each step is seen behind a line at least
   from_seen : (old : Met S) (start : Node S) (nodes : List (Node S)) (all : List (Step (Met S) (Told A))) → IsBegunAt old start → AreReached steps tracks start nodes → AreSeen sees nodes all
-      → (step : Step (Met S) (Told A)) → Contains all step → (order : List Turn) × (order ≢ []) × AreTaken tracks old.places.items order × IsSeenBehind steps sees tracks old order step
+      → (step : Step (Met S) (Told A)) → Contains all step → (order : List Turn) × (order ≢ []) × AreTaken tracks old.places.items order × IsSeenBehind steps sees tracks old order step × HasTurns order step
   from_seen old start nodes all begun reached seen step at =
-      let (node, there, is) = seen.from step at in
+      let (node, there, is, turns) = seen.from step at in
       let (order, by, (places, led)) = reached.from node there in
       let some : order ≢ [] = turned start.order.items node.order.items order begun.order by is.ran in
-      (order, some, subst (λ (p : List ℕ). AreTaken tracks p order) begun.places (taken_of steps tracks start.places.items start.state order node.state led), happened old start node order step begun some places led is)
+      (order, some, subst (λ (p : List ℕ). AreTaken tracks p order) begun.places (taken_of steps tracks start.places.items start.state order node.state led), happened old start node order step begun some places led is, turns ∙ by ∙ ap (λ (l : List Turn). l ++ reverse order) begun.order)
 
   pub seen_behind : (old : Met S) (start : Node S) (nodes : List (Node S)) (all : List (Step (Met S) (Told A))) → IsBegunAt old start → length start.places.items ≡ length tracks → AreReached steps tracks start nodes → AreSeen sees nodes all → 0 < length all
       → AreSeenBehind steps sees tracks old all
   seen_behind old start nodes all begun sized reached seen some = record {
-    from = λ step at. let (order, ran, taken, is) = from_seen old start nodes all begun reached seen step at in (order, (taken, λ none. absurd (ran none)), is);
+    from = λ step at. let (order, ran, taken, is, turns) = from_seen old start nodes all begun reached seen step at in (order, (taken, λ none. absurd (ran none)), is, turns);
     each = each;
   }
     where
       each : (order : List Turn) → AreAwaited tracks old.places.items order → (step : Step (Met S) (Told A)) × Contains all step × IsSeenBehind steps sees tracks old order step
-      each [] (taken, left) = let (step, at) = one_of all some in let (order, ran, is_taken, is) = from_seen old start nodes all begun reached seen step at in absurd (ran (left refl order is_taken))
+      each [] (taken, left) = let (step, at) = one_of all some in let (order, ran, is_taken, is, turns) = from_seen old start nodes all begun reached seen step at in absurd (ran (left refl order is_taken))
       each (turn ∷ before) (taken, left) = each_seen old start nodes all begun sized reached seen (turn ∷ before) taken (λ none. cc)
 
   -- where nothing is seen, nothing is left
   pub nothing_seen : (old : Met S) (start : Node S) (nodes : List (Node S)) (none all : List (Step (Met S) (Told A))) → IsBegunAt old start → length start.places.items ≡ length tracks → AreReached steps tracks start nodes → AreSeen sees nodes none → length none ≡ 0
       → IsNothingLeft sees old all → AreSeenBehind steps sees tracks old all
-  nothing_seen old start nodes none all begun sized reached seen empty (step, answer, one, told, sees_it, state, places) = record {
-    from = λ other at. ([], (tt, λ nothing. is_none), subst (λ (s : Step (Met S) (Told A)). IsSeenBehind steps sees tracks old [] s) (sym (one_there step other (subst (λ l. Contains l other) one at))) own);
+  nothing_seen old start nodes none all begun sized reached seen empty (step, answer, one, told, sees_it, state, places, turns) = record {
+    from = λ other at. let same : other ≡ step = one_there step other (subst (λ l. Contains l other) one at) in
+        ([], (tt, λ nothing. is_none), subst (λ (s : Step (Met S) (Told A)). IsSeenBehind steps sees tracks old [] s) (sym same) own, subst (λ (s : Step (Met S) (Told A)). HasTurns [] s) (sym same) turns);
     each = each;
   }
     where

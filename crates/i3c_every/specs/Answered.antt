@@ -20,13 +20,17 @@ pub record IsAnsweredAt {S P A : Type 0} (answers : S → P → ℕ → A → S 
   pub led : answers node.state line way answer step.state.state
   pub places : step.state.places.items ≡ node.places.items
 
+-- a step keeps the turns that led to a node, and the way of the line
+abbrev pub IsKeptAt : {S A : Type 0} → Node S → ℕ → Step (Met S) (Told A) → Type 0
+IsKeptAt node way step = (step.state.turns.items ≡ node.order.items) × (step.state.way ≡ way)
+
 -- the answers of a line at a node are added, in each way
 pub record AreAdded {S P A : Type 0} (answers : S → P → ℕ → A → S → Type 0) (node : Node S) (line : P) (old new : List (Step (Met S) (Told A))) : Type 0 where
-  pub from : (step : Step (Met S) (Told A)) → Contains new step → Contains old step ⊎ ((way : ℕ) × IsAnsweredAt answers node line way step)
+  pub from : (step : Step (Met S) (Told A)) → Contains new step → Contains old step ⊎ ((way : ℕ) × IsAnsweredAt answers node line way step × IsKeptAt node way step)
   pub kept : (step : Step (Met S) (Told A)) → Contains old step → Contains new step
   pub all : (way : ℕ) → (step : Step (Met S) (Told A)) × Contains new step × IsAnsweredAt answers node line way step
 
 -- these are the answers of a line at some nodes: each is one, and each way of the line at each node is answered by one
 pub record AreAnswered {S P A : Type 0} (answers : S → P → ℕ → A → S → Type 0) (nodes : List (Node S)) (line : P) (steps : List (Step (Met S) (Told A))) : Type 0 where
-  pub from : (step : Step (Met S) (Told A)) → Contains steps step → (node : Node S) × Contains nodes node × ((way : ℕ) × IsAnsweredAt answers node line way step)
+  pub from : (step : Step (Met S) (Told A)) → Contains steps step → (node : Node S) × Contains nodes node × ((way : ℕ) × IsAnsweredAt answers node line way step × IsKeptAt node way step)
   pub all : (node : Node S) → Contains nodes node → (way : ℕ) → (step : Step (Met S) (Told A)) × Contains steps step × IsAnsweredAt answers node line way step

@@ -1,5 +1,5 @@
 -- Every run that a program may have while lines of the tracks run.
-use Rattle.std.specs.Prelude.{◌≡◌, ◌++◌, ℕ, List, [], ◌∷◌, Contains, Option, None, Some}
+use Rattle.std.specs.Prelude.{◌≡◌, ◌++◌, ℕ, List, [], ◌∷◌, Contains, Option, None, Some, reverse}
 use Rattle.std.specs.Global.{Vec}
 use Rattle.i3c_explore.specs.declared.turn.Turn.{Turn}
 use Rattle.i3c_explore.specs.Reached.{AreTaken}
@@ -38,6 +38,11 @@ mutual
 abbrev pub MayMeet : {S L P A : Type 0} → (S → L → ℕ → S → Type 0) → (S → P → ℕ → A → S → Type 0) → (S → A → Type 0) → List (Vec L) → Met S → Sent P → Told A → Met S → Type 0
 MayMeet steps answers sees tracks old sent told new =
     (order : List Turn) × MayRun tracks old.places.items sent order × ((way : ℕ) × IsToldSo steps answers sees tracks old sent order way (record { answer = told; state = new }))
+
+-- a program was told so, and came to this state, by the turns and the way that the state keeps
+abbrev pub HasMet : {S L P A : Type 0} → (S → L → ℕ → S → Type 0) → (S → P → ℕ → A → S → Type 0) → (S → A → Type 0) → List (Vec L) → Met S → Sent P → Told A → Met S → Type 0
+HasMet steps answers sees tracks old sent told new =
+    (order : List Turn) × MayRun tracks old.places.items sent order × IsToldSo steps answers sees tracks old sent order new.way (record { answer = told; state = new }) × (new.turns.items ≡ reverse order)
 
 -- a machine is determined: each line leads to one state in a way, with one answer, and a program that waits sees one thing in a state
 pub record IsDetermined {S L P A : Type 0} (steps : S → L → ℕ → S → Type 0) (answers : S → P → ℕ → A → S → Type 0) (sees : S → A → Type 0) : Type 0 where

@@ -1,5 +1,5 @@
 -- What a program is told while lines of the tracks run.
-use Rattle.std.specs.Prelude.{◌≡◌, ◌⊎◌, ℕ, List, [], ◌∷◌, Contains, Err}
+use Rattle.std.specs.Prelude.{◌≡◌, ◌⊎◌, ℕ, List, [], ◌∷◌, Contains, Err, reverse}
 use Rattle.std.specs.Global.{Vec}
 use Rattle.i3c_explore.specs.declared.limits.Limits.{Limits}
 use Rattle.i3c_explore.specs.declared.node.Node.{Node}
@@ -20,6 +20,10 @@ pub record IsToldBehind {S L P A : Type 0} (steps : S → L → ℕ → S → Ty
   pub told : step.answer ≡ Told.Answered answer
   pub places : step.state.places.items ≡ places_after old.places.items order
 
+-- a step keeps the turns of an order, the oldest first
+abbrev pub HasTurns : {S A : Type 0} → List Turn → Step (Met S) (Told A) → Type 0
+HasTurns order step = step.state.turns.items ≡ reverse order
+
 -- what a program that waited is told: that nothing is left, or behind some lines of the tracks that something happened
 abbrev pub waited : {A : Type 0} → List Turn → A → Told A
 waited [] answer = Told.NothingLeft answer
@@ -33,15 +37,15 @@ pub record IsSeenBehind {S L A : Type 0} (steps : S → L → ℕ → S → Type
   pub told : step.answer ≡ waited order answer
   pub places : step.state.places.items ≡ places_after old.places.items order
 
--- all that a line may be told behind the orders of which this holds: each order and each way is told by a step, and no step is of another
+-- all that a line may be told behind the orders of which this holds: each order and each way is told by a step, and each step is of the order and the way that it keeps
 pub record AreTold {S L P A : Type 0} (steps : S → L → ℕ → S → Type 0) (answers : S → P → ℕ → A → S → Type 0) (tracks : List (Vec L)) (old : Met S) (Is : List Turn → Type 0) (line : P) (all : List (Step (Met S) (Told A))) : Type 0 where
-  pub from : (step : Step (Met S) (Told A)) → Contains all step → (order : List Turn) × Is order × ((way : ℕ) × IsToldBehind steps answers tracks old order line way step)
+  pub from : (step : Step (Met S) (Told A)) → Contains all step → (order : List Turn) × Is order × IsToldBehind steps answers tracks old order line step.state.way step × HasTurns order step
   pub each : (order : List Turn) → Is order → (way : ℕ) → (step : Step (Met S) (Told A)) × Contains all step × IsToldBehind steps answers tracks old order line way step
 
 -- the one thing that a program which waits is told where nothing is left
 abbrev pub IsNothingLeft : {S A : Type 0} → (S → A → Type 0) → Met S → List (Step (Met S) (Told A)) → Type 0
 IsNothingLeft {S} {A} sees old all =
-    (step : Step (Met S) (Told A)) × (answer : A) × (all ≡ step ∷ []) × (step.answer ≡ Told.NothingLeft answer) × sees old.state answer × (step.state.state ≡ old.state) × (step.state.places.items ≡ old.places.items)
+    (step : Step (Met S) (Told A)) × (answer : A) × (all ≡ step ∷ []) × (step.answer ≡ Told.NothingLeft answer) × sees old.state answer × (step.state.state ≡ old.state) × (step.state.places.items ≡ old.places.items) × (step.state.turns.items ≡ [])
 
 -- no line of the tracks is left
 abbrev pub IsNoneLeft : {L : Type 0} → List (Vec L) → List ℕ → Type 0
@@ -51,9 +55,9 @@ IsNoneLeft tracks places = (order : List Turn) → AreTaken tracks places order 
 abbrev pub AreAwaited : {L : Type 0} → List (Vec L) → List ℕ → List Turn → Type 0
 AreAwaited tracks places order = AreTaken tracks places order × (order ≡ [] → IsNoneLeft tracks places)
 
--- all that a program which waits may be told: each order is seen by a step, and no step is of another
+-- all that a program which waits may be told: each order is seen by a step, and each step is of the order that it keeps
 pub record AreSeenBehind {S L A : Type 0} (steps : S → L → ℕ → S → Type 0) (sees : S → A → Type 0) (tracks : List (Vec L)) (old : Met S) (all : List (Step (Met S) (Told A))) : Type 0 where
-  pub from : (step : Step (Met S) (Told A)) → Contains all step → (order : List Turn) × AreAwaited tracks old.places.items order × IsSeenBehind steps sees tracks old order step
+  pub from : (step : Step (Met S) (Told A)) → Contains all step → (order : List Turn) × AreAwaited tracks old.places.items order × IsSeenBehind steps sees tracks old order step × HasTurns order step
   pub each : (order : List Turn) → AreAwaited tracks old.places.items order → (step : Step (Met S) (Told A)) × Contains all step × IsSeenBehind steps sees tracks old order step
 
 -- what a program may be told of what it sends: before a line that meets them any of the tracks' lines run, before another one none

@@ -1,6 +1,6 @@
 ghost use Rattle.std.specs.Prelude.{◌≡◌, ◌⊎◌, ◌++◌, ◌∷◌, [], List, Contains, IfOk, IsTrue, OnOk};
 ghost use Rattle.i3c_orders.specs.declared.choice.Step.{Step as StepValue};
-ghost use Rattle.i3c_every.specs.Answered.{Adds, AreAdded, AreAnswered, IsAlike, IsAnsweredAt};
+ghost use Rattle.i3c_every.specs.Answered.{Adds, AreAdded, AreAnswered, IsAlike, IsAnsweredAt, IsKeptAt};
 ghost use Rattle.i3c_every.specs.declared.met.Met.{Met as MetValue};
 ghost use Rattle.i3c_every.specs.declared.told.Told.{Told as ToldValue};
 
@@ -95,7 +95,7 @@ fn add_answer<M: Answering>(
     way: usize,
     steps: &mut Vec<Step<Met<M>, Told<M::Answer>>>,
 ) -> Result<(), AllocError>
-    ensures { OnOk result ((step : StepValue (MetValue M) (ToldValue M.Answer)) × IsAnsweredAt (M.answers rules.now) node.now line.now way step × Adds step steps.old.items steps.new.items) }
+    ensures { OnOk result ((step : StepValue (MetValue M) (ToldValue M.Answer)) × IsAnsweredAt (M.answers rules.now) node.now line.now way step × IsKeptAt node.now way step × Adds step steps.old.items steps.new.items) }
 {
     let Step { answer, state } = node.state.answer(alloc, rules, line, way)?;
     let met = met_at(alloc, node, state, way)?;

@@ -21,8 +21,8 @@
 //! [`programs_meet_every_order`] is the theorem, for each program that is determined by its answers. Where
 //! [`Orders::again`](i3c_orders::Orders::again) answers that no run is left, each line of the program met every order in every
 //! way, and whatever goes on from there was tried (`MeetsEvery` in specs/Every.antt). Each run that was tried is one that the
-//! program may have. If the machine is determined too, then of every run that the program may have one was tried with the
-//! same answers, the same state at its end, and the same places.
+//! program may have, by the turns and the ways that its states keep ([`Met`]). If the machine is determined too, then of every
+//! run that the program may have one was tried with the same answers, the same state at its end, and the same places.
 //!
 //! Not claimed: that steps are few, that there is memory enough, that the limits are enough, or how much time it takes. A
 //! program has to end each of its runs. If a machine isn't determined, only what it did and answered was tried.

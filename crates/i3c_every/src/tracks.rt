@@ -178,6 +178,7 @@ fn has_some<S, A>(steps: &Vec<Step<S, A>>) -> bool
 fn stayed<M: Answering>(alloc: Global, met: &Met<M>) -> Result<Met<M>, AllocError>
     ensures state { IfOk result (λ stays. stays.state ≡ met.now.state) }
     ensures places { IfOk result (λ stays. stays.places.items ≡ met.now.places.items) }
+    ensures turns { IfOk result (λ stays. stays.turns.items ≡ []) }
 {
     let state = copied(alloc, &met.state)?;
     let places = met.places.clone()?;

@@ -12,5 +12,6 @@ returns g c =
     on_ok c.add.result (λ adds. (
       step,
       record { answer = answer; told = refl; led = subst (λ s. (g.M.Answering.answers c.args.rules.now) c.args.node.now.state c.args.line.now c.args.way answer s) (sym c.in_ok-met.ensures.state) c.in_ok-answer.ensures; places = c.in_ok-met.ensures.places },
+      (c.in_ok-met.ensures.turns, c.in_ok-met.ensures.way),
       adds,
     )) c.add.ensures

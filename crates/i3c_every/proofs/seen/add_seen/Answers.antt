@@ -17,7 +17,7 @@ returns g c =
       state = c.in_ok-met.ensures.state ∙ c.in_ok-state.ensures;
       places = c.in_ok-met.ensures.places;
       ran = c.has_turns.ensures.some c.if-not-has_turns.false;
-    }) adds) c.add.ensures
+    }) c.in_ok-met.ensures.turns adds) c.add.ensures
 
 pub returns-then-not-has_turns : goal.returns-then-not-has_turns
 returns-then-not-has_turns g c = not_added g.M.Answering.sees c.args.node.now c.args.steps.now.items (c.has_turns.ensures.none c.if-not-has_turns.true)

@@ -15,4 +15,5 @@ returns g c =
       c.in_ok-answer.ensures,
       c.in_ok-state.ensures.state,
       c.in_ok-state.ensures.places,
+      c.in_ok-state.ensures.turns,
     )
