@@ -4,14 +4,14 @@ use Rattle.std.specs.Global.{Vec}
 use Rattle.std.proofs.lemmas.List.{append_assoc, map_push}
 use Rattle.std.proofs.lemmas.Option.{same_Some}
 use Rattle.i3c_explore.specs.declared.turn.Turn.{Turn}
-use Rattle.i3c_explore.specs.Reached.{AreTaken, LeadsFrom, places_after}
+use Rattle.i3c_explore.specs.Reached.{LeadsFrom, places_after}
 use Rattle.i3c_orders.specs.declared.choice.Step.{Step}
 use Rattle.i3c_orders.specs.Runs.{AreTried, CanLead, IsRun, IsRunFrom, state_after, told_by}
 use Rattle.i3c_every.specs.declared.met.Met.{Met}
 use Rattle.i3c_every.specs.declared.sent.Sent.{Sent}
 use Rattle.i3c_every.specs.declared.told.Told.{Told}
 use Rattle.i3c_every.specs.Every.{AreAlike, HasMet, IsDetermined, IsMet, IsToldSo, MayMeet, MayRun, MeetsEvery}
-use Rattle.i3c_every.specs.Meeting.{AreAwaited, AreMet, IsSeenBehind, IsToldBehind, waited}
+use Rattle.i3c_every.specs.Meeting.{AreMet, IsSeenBehind, IsToldBehind, waited}
 
 none_is_some : {X : Type 0} (o : Option X) (x : X) → o ≡ None → o ≡ Some x → ⊥
 none_is_some o x none some = cc

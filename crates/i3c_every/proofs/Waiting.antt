@@ -1,5 +1,5 @@
 -- What a program that waits is told behind the tracks' lines.
-use Rattle.std.proofs.Common.{◌≡◌, ◌≢◌, ◌⊎◌, ◌∙◌, ◌<◌, ◌+◌, ℕ, Some, get_or, zero, suc, List, [], ◌∷◌, ◌++◌, Contains, ap, append-nil, arith, inl, inr, length, refl, reverse, subst, sym}
+use Rattle.std.proofs.Common.{◌≡◌, ◌≢◌, ◌∙◌, ◌<◌, ◌+◌, ℕ, Some, get_or, zero, suc, List, [], ◌∷◌, ◌++◌, Contains, ap, arith, inl, inr, length, refl, reverse, subst, sym}
 use Rattle.std.specs.Global.{Vec}
 use Rattle.std.specs.List.{slice_get}
 use Rattle.std.proofs.lemmas.List.{length-reverse, length-set}

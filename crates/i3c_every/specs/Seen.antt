@@ -1,5 +1,5 @@
 -- What a program that waits sees.
-use Rattle.std.specs.Prelude.{◌≡◌, ◌≢◌, ◌⊎◌, ℕ, List, [], ◌∷◌, Contains}
+use Rattle.std.specs.Prelude.{◌≡◌, ◌≢◌, ◌⊎◌, List, [], Contains}
 use Rattle.i3c_explore.specs.declared.node.Node.{Node}
 use Rattle.i3c_orders.specs.declared.choice.Step.{Step}
 use Rattle.i3c_every.specs.declared.met.Met.{Met}

@@ -1,4 +1,4 @@
-ghost use Rattle.std.specs.Prelude.{◌≡◌, ◌⊎◌, ◌++◌, ◌∷◌, [], List, Contains, IfOk, IsTrue, OnOk};
+ghost use Rattle.std.specs.Prelude.{◌≡◌, Contains, IfOk, IsTrue, OnOk};
 ghost use Rattle.i3c_orders.specs.declared.choice.Step.{Step as StepValue};
 ghost use Rattle.i3c_every.specs.Answered.{Adds, AreAdded, AreAnswered, IsAlike, IsAnsweredAt, IsKeptAt};
 ghost use Rattle.i3c_every.specs.declared.met.Met.{Met as MetValue};
@@ -7,7 +7,7 @@ ghost use Rattle.i3c_every.specs.declared.told.Told.{Told as ToldValue};
 use crate::answering::Answering;
 use crate::met::Met;
 use crate::told::Told;
-use i3c_explore::{Node, Turn};
+use i3c_explore::Node;
 use i3c_orders::Step;
 use std::alloc::{AllocError, Global};
 

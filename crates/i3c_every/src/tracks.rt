@@ -1,6 +1,5 @@
-ghost use Rattle.std.specs.Prelude.{◌≡◌, ◌<◌, ◌⊎◌, [], Err, IfErr, IfOk, List, false, length, true};
+ghost use Rattle.std.specs.Prelude.{◌≡◌, ◌<◌, ◌⊎◌, [], Err, IfErr, IfOk, false, length, true};
 ghost use Rattle.i3c_explore.specs.declared.node.Node.{Node as NodeValue};
-ghost use Rattle.i3c_explore.specs.declared.turn.Turn.{Turn as TurnValue};
 ghost use Rattle.i3c_explore.specs.declared.stop.Stop.{Stop as StopValue};
 ghost use Rattle.i3c_explore.specs.Reached.{AreTaken, Reaches};
 ghost use Rattle.i3c_every.specs.Meeting.{AreSeenBehind, AreTold, FailsAt, IsBegunAt, IsNothingLeft};

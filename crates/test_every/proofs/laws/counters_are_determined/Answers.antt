@@ -4,7 +4,7 @@ use Rattle.test_every.specs.declared.counter.Ask.{Ask}
 use Rattle.test_every.specs.declared.counter.Counter.{Counter}
 use Rattle.test_every.specs.declared.counter.Reply.{Reply}
 use Rattle.test_every.specs.declared.counter.Rules.{Rules}
-use Rattle.test_every.specs.Counters.{IsLost, Replies, Says, counted}
+use Rattle.test_every.specs.Counters.{Replies, Says}
 use Rattle.test_every.proofs.laws.counters_are_determined.Goals as goal
 
 same_counter : (one other : Counter) → one.count ≡ other.count → one ≡ other

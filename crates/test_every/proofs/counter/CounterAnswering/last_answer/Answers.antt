@@ -1,5 +1,5 @@
 -- In each way behind way 1 a line is lost as in that one, if lines may be lost.
-use Rattle.std.proofs.Common.{◌≡◌, ◌<◌, ◌≤◌, ℕ, IsTrue, arith, suc, zero, true, false}
+use Rattle.std.proofs.Common.{◌≡◌, ◌≤◌, ℕ, IsTrue, arith, suc, zero, true, false}
 use Rattle.test_every.specs.declared.counter.Ask.{Ask}
 use Rattle.test_every.specs.declared.counter.Counter.{Counter}
 use Rattle.test_every.specs.declared.counter.Reply.{Reply}
