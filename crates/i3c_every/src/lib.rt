@@ -25,7 +25,8 @@
 //! run that the program may have one was tried with the same answers, the same state at its end, and the same places.
 //!
 //! Not claimed: that steps are few, that there is memory enough, that the limits are enough, or how much time it takes. A
-//! program has to end each of its runs. If a machine isn't determined, only what it did and answered was tried.
+//! program has to end each of its runs. If a machine isn't determined, only what it did and answered was tried. Nor does the
+//! theorem speak of expectations: a line whose orders break one has no answers, and says why (`Fails` in specs/Meeting.antt).
 #![tactic(auto)]
 
 mod answered;
