@@ -12,6 +12,7 @@ use Rattle.i3c_lines.specs.declared.names.Names.{Names}
 use Rattle.i3c_lines.specs.declared.refusals.Refusal.{Refusal}
 use Rattle.i3c_lines.specs.Capitals.{in_capitals}
 use Rattle.i3c_lines.specs.Forms.{HasNoForm, IsCommand, IsSkipped}
+use Rattle.i3c_lines.specs.Keeping.{name_of_slot}
 use Rattle.i3c_lines.specs.Naming.{letters}
 use Rattle.i3c_lines.specs.Refusing.{refusal_text}
 use Rattle.i3c_streams.specs.declared.faults.ScriptFault.{ScriptFault}
@@ -48,7 +49,7 @@ last_line number (Some why) = codes "refused " ++ (decimal number ++ (codes " " 
 -- the names of those whose requests the next frame would meet; before the bus there are none
 abbrev pub AsksAt : Stage → Names → List Name → Type 0
 AsksAt (Stage.Before legacies) names asking = asking ≡ []
-AsksAt (Stage.Running ran) names asking = AreAsking ran.state names asking
+AsksAt (Stage.Running ran) names asking = AreAsking ran.state (name_of_slot names) asking
 
 abbrev pub Asks : ScriptState → List Name → Type 0
 Asks state asking = AsksAt state.stage state.names asking

@@ -1,5 +1,6 @@
 mod Adding
 mod Between
+mod Closed
 mod Covering
 mod Looking
 mod Waiting

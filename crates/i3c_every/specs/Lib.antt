@@ -1,4 +1,5 @@
 pub mod Answered
+pub mod Closing
 pub mod Every
 pub mod Meeting
 pub mod Seen

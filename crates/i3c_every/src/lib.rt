@@ -11,6 +11,7 @@
 //! * `met` is where a run is: a state, and the places in the tracks.
 //! * `answered` has the answers that a line is given in some states, and `seen` what a program that waited sees there.
 //! * `tracks` answers what a program sends.
+//! * `closing` runs what is left where a program's run is over: the lines that are left in the tracks, and blocks behind them.
 //! * `laws` says what was tried where no run is left.
 //!
 //! Before a line that meets them any number of the tracks' lines run, in any interleaving and each in any way. In a wait at
@@ -31,6 +32,7 @@
 
 mod answered;
 mod answering;
+mod closing;
 mod laws;
 mod met;
 mod seen;
@@ -39,6 +41,7 @@ mod told;
 mod tracks;
 
 pub use answering::Answering;
+pub use closing::close;
 pub use laws::programs_meet_every_order;
 pub use met::Met;
 pub use sent::Sent;

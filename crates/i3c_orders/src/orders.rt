@@ -57,6 +57,13 @@ impl<L: Drop, S: Drop, A: Drop> Orders<L, S, A> {
         }
     }
 
+    /// The lines of this run so far, each with its answer.
+    pub fn choices(&self) -> &[Choice<L, S, A>]
+        ensures { result.now ≡ take self.now.at self.now.path }
+    {
+        &self.path[..self.at]
+    }
+
     /// The newest answer of this run, with the state behind it: none before the first line.
     pub fn newest(&self) -> Option<&Step<S, A>>
         ensures { option_copied result ≡ last_step (take self.now.at self.now.path) }

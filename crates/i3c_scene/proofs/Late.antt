@@ -47,7 +47,7 @@ use Rattle.i3c_scene.specs.Going.{Does, cut_in, is_acting, on_bus, risked, sends
 use Rattle.i3c_scene.specs.Latest.{last_bit, last_of_frame, last_of_sent, latest, tried_as}
 use Rattle.i3c_scene.specs.Pairs.{pair, within}
 use Rattle.i3c_scene.specs.Scenes.{Seen, known_kept, place_in, seen}
-use Rattle.i3c_scene.specs.Trying.{LineComesTo, LineSteps, Runs, RunsIn, slot_at_risk}
+use Rattle.i3c_scene.specs.Trying.{DoesIn, LineComesTo, LineSteps, Runs, RunsIn, slot_at_risk, ways_of}
 use Rattle.i3c_scene.proofs.Pairs.{placed}
 
 -- with a late cut of a device that isn't the active controller, each step of the uncut frame is allowed
@@ -356,42 +356,40 @@ both_cover old command first second tried tested one other for_one for_other pie
     subst (λ (s : Seen). Does s command pieces refused new) (cut_in_commutes old second first other one) both
 
 -- the ways that are tried for a way do what that does
-pub runs_tried : (old : Seen) (command : Option Command) (risk : Risk) (before : Before) (new : Seen) (way : ℕ) → RunsIn old command risk (tried_as old.state risk command way) before new → Runs old command risk way before new
-runs_tried old None risk before new way runs = runs
-runs_tried old (Some command) Risk.Nobody before new way runs = runs
-runs_tried old (Some command) (Risk.One name) before new way (pieces, refused, does, came) =
+pub does_tried : (old : Seen) (command : Command) (risk : Risk) (way : ℕ) (pieces : List Piece) (refused : Option Refusal) (new : Seen) → DoesIn old command risk (tried_as old.state risk (Some command) way) pieces refused new → DoesIn old command risk (ways_of risk way) pieces refused new
+does_tried old command Risk.Nobody way pieces refused new does = does
+does_tried old command (Risk.One name) way pieces refused new does =
     let last = suc (last_bit old.state command) in
     let slot = slot_at_risk old (sends old.state old.names command) name in
-    (pieces, refused, within_covers old.state old.names command slot last way (may_lose old command name) old refl refl pieces refused new does, came)
-runs_tried old (Some command) (Risk.Two name other) before new way (pieces, refused, does, came) =
+    within_covers old.state old.names command slot last way (may_lose old command name) old refl refl pieces refused new does
+does_tried old command (Risk.Two name other) way pieces refused new does =
     let ways = pair way in
     let last = suc (last_bit old.state command) in
     let first = slot_at_risk old (sends old.state old.names command) name in
-    let second = slot_at_risk old (sends old.state old.names command) other in (
-      pieces,
-      refused,
-      both_cover old command first second (within last ways.one) (within last ways.other) ways.one ways.other
-          (within_covers old.state old.names command first last ways.one (may_lose old command name)) (within_covers old.state old.names command second last ways.other (may_lose old command other)) pieces refused new does,
-      came,
-    )
+    let second = slot_at_risk old (sends old.state old.names command) other in
+    both_cover old command first second (within last ways.one) (within last ways.other) ways.one ways.other
+    (within_covers old.state old.names command first last ways.one (may_lose old command name)) (within_covers old.state old.names command second last ways.other (may_lose old command other)) pieces refused new does
 
--- a way up to the last one covers a way of a line
-abbrev IsTriedFor : Seen → Option Command → Risk → ℕ → ℕ → Type 0
-IsTriedFor old command risk way tried = (tried ≤ latest old risk command) × ((before : Before) → (new : Seen) → Runs old command risk tried before new → Runs old command risk way before new)
+runs_tried : (old : Seen) (command : Option Command) (risk : Risk) (before : Before) (new : Seen) (way : ℕ) → RunsIn old command risk (tried_as old.state risk command way) before new → Runs old command risk way before new
+runs_tried old None risk before new way runs = runs
+runs_tried old (Some command) risk before new way (pieces, refused, does, came) = (pieces, refused, does_tried old command risk way pieces refused new does, came)
 
-pub way_tried : (old : Seen) (command : Option Command) (risk : Risk) (way : ℕ) → (tried : ℕ) × IsTriedFor old command risk way tried
-way_tried old None risk way = (0, (omega arith, λ before new runs. runs))
-way_tried old (Some command) Risk.Nobody way = (0, (omega arith, λ before new runs. runs))
-way_tried old (Some command) (Risk.One name) way =
+-- a way up to the last one covers a way of a command
+abbrev IsTriedFor : Seen → Command → Risk → ℕ → ℕ → Type 0
+IsTriedFor old command risk way tried = (tried ≤ latest old risk (Some command)) × ((pieces : List Piece) (refused : Option Refusal) (new : Seen) → DoesIn old command risk (ways_of risk tried) pieces refused new → DoesIn old command risk (ways_of risk way) pieces refused new)
+
+pub command_late : (old : Seen) (command : Command) (risk : Risk) (way : ℕ) → (tried : ℕ) × IsTriedFor old command risk way tried
+command_late old command Risk.Nobody way = (0, (omega arith, λ pieces refused new does. does))
+command_late old command (Risk.One name) way =
     let last = suc (last_bit old.state command) in
     let slot = slot_at_risk old (sends old.state old.names command) name in (
       tried_for slot last way,
       (
         tried_last slot last way,
-        λ before new (pieces, refused, does, came). (pieces, refused, tried_covers old.state old.names command slot last way (may_lose old command name) old refl refl pieces refused new does, came),
+        λ pieces refused new does. tried_covers old.state old.names command slot last way (may_lose old command name) old refl refl pieces refused new does,
       ),
     )
-way_tried old (Some command) (Risk.Two name other) way =
+command_late old command (Risk.Two name other) way =
     let ways = pair way in
     let last = suc (last_bit old.state command) in
     let first = slot_at_risk old (sends old.state old.names command) name in
@@ -406,20 +404,23 @@ way_tried old (Some command) (Risk.Two name other) way =
       number,
       (
         le,
-        λ before new runs. let (pieces, refused, does, came) = subst (λ (w : Ways). RunsIn old (Some command) (Risk.Two name other) w before new) is runs in (
-          pieces,
-          refused,
-          both_cover old command first second one two ways.one ways.other
-              (tried_covers old.state old.names command first last ways.one (may_lose old command name)) (tried_covers old.state old.names command second last ways.other (may_lose old command other)) pieces refused new does,
-          came,
-        ),
+        λ pieces refused new does.
+            both_cover old command first second one two ways.one ways.other
+            (tried_covers old.state old.names command first last ways.one (may_lose old command name)) (tried_covers old.state old.names command second last ways.other (may_lose old command other)) pieces refused new
+            (subst (λ (w : Ways). DoesIn old command (Risk.Two name other) w pieces refused new) is does),
       ),
     )
+
+-- the same of a line: what it comes to
+way_tried : (old : Seen) (command : Option Command) (risk : Risk) (way : ℕ) → (tried : ℕ) × (tried ≤ latest old risk command) × ((before : Before) → (new : Seen) → Runs old command risk tried before new → Runs old command risk way before new)
+way_tried old None risk way = (0, omega arith, λ before new runs. runs)
+way_tried old (Some command) risk way =
+    let (tried, (le, leads)) = command_late old command risk way in (tried, le, λ before new (pieces, refused, does, came). (pieces, refused, leads pieces refused new does, came))
 
 -- so each way of a line does what one of those up to the last one does
 pub line_late : (old : Seen) (line : Line) (way : ℕ) → (tried : ℕ) × (tried ≤ latest old line.risk line.command) × ((new : Seen) → LineSteps old line tried new → LineSteps old line way new) × (LineComesTo Ran.Held old line tried → LineComesTo Ran.Held old line way)
 line_late old line way =
-    let (tried, (le, leads)) = way_tried old line.command line.risk way in
+    let (tried, le, leads) = way_tried old line.command line.risk way in
     (tried, le, λ new (before, runs, held). (before, leads before new runs, held), λ (before, new, runs, is). (before, new, leads before new runs, is))
 
 -- a line that ran in the ways that are tried for a way ran in that way

@@ -3,4 +3,5 @@ pub mod Late
 mod Behind
 mod Setting
 mod Ran
+pub mod Replied
 pub mod Outcomes

@@ -51,20 +51,19 @@ last_bit st (Command.As name sent) = last_of_sent st sent
 last_bit st _ = 0
 
 -- the last way in which a device is cut at a bit of the command's frame
-abbrev pub last_cut : State → Option Command → ℕ
-last_cut st None = 0
-last_cut st (Some command) = suc (last_bit st command)
+abbrev pub last_cut : State → Command → ℕ
+last_cut st command = suc (last_bit st command)
 
 -- the last way of a name's device that has to be tried. A device that can't be cut in the frame has way 0 alone
-abbrev pub last_of : Seen → Option Command → Name → ℕ
-last_of old None name = 0
-last_of old (Some command) name = if is_some (slot_at_risk old (sends old.state old.names command) name) then last_cut old.state (Some command) else 0
+abbrev pub last_of : Seen → Command → Name → ℕ
+last_of old command name = if is_some (slot_at_risk old (sends old.state old.names command) name) then last_cut old.state command else 0
 
--- the last way of a line that has to be tried
+-- the last way of a line that has to be tried; a line without a command has way 0 alone
 abbrev pub latest : Seen → Risk → Option Command → ℕ
-latest old Risk.Nobody command = 0
-latest old (Risk.One name) command = last_of old command name
-latest old (Risk.Two one other) command = last_pair (max (last_of old command one) (last_of old command other))
+latest old risk None = 0
+latest old Risk.Nobody (Some command) = 0
+latest old (Risk.One name) (Some command) = last_of old command name
+latest old (Risk.Two one other) (Some command) = last_pair (max (last_of old command one) (last_of old command other))
 
 -- the same by a line's parts
 abbrev pub latest_of : Seen → Line → ℕ
@@ -72,6 +71,7 @@ latest_of old line = latest old line.risk line.command
 
 -- the ways that are tried for a way of a line: a device that would be cut behind the frame's last bit isn't cut
 abbrev pub tried_as : State → Risk → Option Command → ℕ → Ways
-tried_as st Risk.Nobody command way = two_ways 0 0
-tried_as st (Risk.One name) command way = both_within (last_cut st command) (two_ways way 0)
-tried_as st (Risk.Two one other) command way = both_within (last_cut st command) (pair way)
+tried_as st risk None way = two_ways 0 0
+tried_as st Risk.Nobody (Some command) way = two_ways 0 0
+tried_as st (Risk.One name) (Some command) way = both_within (last_cut st command) (two_ways way 0)
+tried_as st (Risk.Two one other) (Some command) way = both_within (last_cut st command) (pair way)

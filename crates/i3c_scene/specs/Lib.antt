@@ -7,3 +7,4 @@ pub mod Unmet
 pub mod Latest
 pub mod Near
 pub mod PlaceCodes
+pub mod Replying

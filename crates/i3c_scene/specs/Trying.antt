@@ -41,10 +41,14 @@ IsEndOf (Ok done) ended = ended ≡ LineResult.Done
 IsEndOf (Err (LineError.Refused why)) ended = ended ≡ LineResult.Refused why
 IsEndOf (Err LineError.Memory) ended = ⊥
 
+-- a command runs in these ways of the devices at risk: what it comes to, and why it is refused, if it is
+abbrev pub DoesIn : Seen → Command → Risk → Ways → List Piece → Option Refusal → Seen → Type 0
+DoesIn old command risk ways pieces refused new = Does (cut_as old (sends old.state old.names command) risk ways) command pieces refused new
+
 -- a line runs in these ways of the devices at risk, with this result
 abbrev pub RunsIn : Seen → Option Command → Risk → Ways → Before → Seen → Type 0
 RunsIn old None risk ways before new = (new ≡ old) × (before ≡ no_line)
-RunsIn old (Some command) risk ways before new = (pieces : List Piece) × (refused : Option Refusal) × Does (cut_as old (sends old.state old.names command) risk ways) command pieces refused new × (before ≡ came_to pieces refused)
+RunsIn old (Some command) risk ways before new = (pieces : List Piece) × (refused : Option Refusal) × DoesIn old command risk ways pieces refused new × (before ≡ came_to pieces refused)
 
 -- a line runs in a way, with this result
 abbrev pub Runs : Seen → Option Command → Risk → ℕ → Before → Seen → Type 0

@@ -35,7 +35,7 @@ impl Machine for Scene {
     ghost near = { λ runner scene. IsCloseTo runner.set runner.touched scene runner.live };
 
     fn last_way(&self, line: &Line) -> usize {
-        self.latest(line)
+        self.latest_of_line(line)
     }
 
     fn runner(&self, alloc: Global) -> Result<Runner, AllocError> {
@@ -51,7 +51,7 @@ impl Machine for Scene {
         again: bool,
         runner: &mut Runner,
     ) -> Result<Ran, AllocError> {
-        let tried = self.ways_tried(line, way);
+        let tried = self.ways_of_line(line, way);
         runner.wake_to(alloc, self, again)?;
         runner.tried(line, tried)
     }
@@ -82,7 +82,7 @@ impl Machine for Scene {
 }
 
 impl Scene {
-    ghost use Rattle.std.specs.Prelude.{◌≡◌, ◌<◌, ◌≤◌, ◌+◌, ◌^◌, None, is_some, IfOk, IfSome};
+    ghost use Rattle.std.specs.Prelude.{◌≡◌, ◌<◌, ◌≤◌, ◌+◌, ◌^◌, None, Some, is_some, IfOk, IfSome};
     ghost use Rattle.i3c_scene.specs.Going.{is_acting, risked, sends};
     ghost use Rattle.i3c_scene.specs.Latest.{last_bit, last_cut, last_of, last_of_frame, last_of_sent, latest, tried_as};
     ghost use Rattle.i3c_scene.specs.Trying.{LineBreaks, LineSteps, slot_at_risk};
@@ -107,28 +107,40 @@ impl Scene {
     }
 
     /// The last way of a line that has to be tried.
-    fn latest(&self, line: &Line) -> usize
+    fn latest_of_line(&self, line: &Line) -> usize
         ensures way { result ≡ latest self.now line.now.risk line.now.command }
         ensures small { result < 2 ^ 32 }
     {
-        match &line.risk {
+        match &line.command {
+            Some(command) => self.latest(&line.risk, command),
+            None => 0,
+        }
+    }
+
+    /// The last way of a command that has to be tried.
+    pub(crate) fn latest(&self, risk: &Risk, command: &Command) -> usize
+        ensures way { result ≡ latest self.now risk.now (Some command.now) }
+        ensures small { result < 2 ^ 32 }
+    {
+        match risk {
             Risk::Nobody => 0,
-            Risk::One(name) => self.last_of(line, name),
+            Risk::One(name) => self.last_of(command, name),
             Risk::Two(one, other) => {
-                let last = self.last_of(line, one).max(self.last_of(line, other));
+                let last = self.last_of(command, one).max(self.last_of(command, other));
                 last * last + (last + last)
             }
         }
     }
 
     /// The last way of a name's device that has to be tried.
-    fn last_of(&self, line: &Line, name: &Name) -> usize
-        ensures way { result ≡ last_of self.now line.now.command name.now }
+    fn last_of(&self, command: &Command, name: &Name) -> usize
+        ensures way { result ≡ last_of self.now command.now name.now }
         ensures small { result ≤ 4501 }
     {
-        match &line.command {
-            Some(command) if self.is_at_risk(self.sends(command), name) => self.last_cut(line),
-            _ => 0,
+        if self.is_at_risk(self.sends(command), name) {
+            self.last_cut(command)
+        } else {
+            0
         }
     }
 
@@ -185,27 +197,35 @@ impl Scene {
         }
     }
 
-    /// The last way in which a device is cut at a bit of the line's frame.
-    fn last_cut(&self, line: &Line) -> usize
-        ensures way { result ≡ last_cut self.now.state line.now.command }
+    /// The last way in which a device is cut at a bit of the command's frame.
+    fn last_cut(&self, command: &Command) -> usize
+        ensures way { result ≡ last_cut self.now.state command.now }
         ensures small { result ≤ 4501 }
     {
-        match &line.command {
-            Some(command) => self.last_bit(command) + 1,
-            None => 0,
-        }
+        self.last_bit(command) + 1
     }
 
-    /// The ways of the devices at risk that are tried for a way of their line. A device that would be cut behind the frame's
-    /// last bit isn't cut, which does the same.
-    pub(crate) fn ways_tried(&self, line: &Line, way: usize) -> Ways
+    /// The ways of the devices at risk that are tried for a way of a line.
+    pub(crate) fn ways_of_line(&self, line: &Line, way: usize) -> Ways
         ensures ways { result ≡ tried_as self.now.state line.now.risk line.now.command way }
         ensures one { result.one < 2 ^ 16 }
         ensures other { result.other < 2 ^ 16 }
     {
-        match line.risk {
+        match &line.command {
+            Some(command) => self.ways_tried(&line.risk, command, way),
+            None => Ways { one: 0, other: 0 },
+        }
+    }
+
+    /// The same of a command. A device that would be cut behind the frame's last bit isn't cut, which does the same.
+    pub(crate) fn ways_tried(&self, risk: &Risk, command: &Command, way: usize) -> Ways
+        ensures ways { result ≡ tried_as self.now.state risk.now (Some command.now) way }
+        ensures one { result.one < 2 ^ 16 }
+        ensures other { result.other < 2 ^ 16 }
+    {
+        match risk {
             Risk::Nobody => Ways { one: 0, other: 0 },
-            Risk::One(_) | Risk::Two(..) => { ways_of(&line.risk, way).within(self.last_cut(line)) }
+            Risk::One(_) | Risk::Two(..) => ways_of(risk, way).within(self.last_cut(command)),
         }
     }
 

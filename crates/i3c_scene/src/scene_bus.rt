@@ -67,7 +67,7 @@ impl SceneBus {
     ghost use Rattle.i3c_scene.specs.Near.{HasSameSettings, IsBehind, Raises, RaisesIn};
     ghost use Rattle.i3c_script.specs.Hearing.{Hears};
     ghost use Rattle.i3c_facts.specs.declared.before.Before.{Before as BeforeValue};
-    ghost use Rattle.i3c_scene.specs.Trying.{RunsIn, all_hold, cut_as, outcome, slot_at_risk, was_refused};
+    ghost use Rattle.i3c_scene.specs.Trying.{DoesIn, RunsIn, all_hold, cut_as, outcome, slot_at_risk, was_refused};
     ghost use Rattle.i3c_scene.specs.declared.ways.Ways.{Ways as WaysValue};
     ghost use Rattle.i3c_scene.specs.Going.{Does, cut_in, is_acting, risked, sends};
 
@@ -222,9 +222,7 @@ impl SceneBus {
         let Some(command) = &line.command else {
             return Ok(false);
         };
-        let sent = self.sends(command);
-        self.cut_as(sent, &line.risk, ways);
-        match end_of(self.obey(command, &mut Deaf)) {
+        match end_of(self.obey_in(command, &line.risk, ways, &mut Deaf)) {
             Ok(ended) => Ok(was_refused(&ended)),
             Err(short) => Err(short),
         }
@@ -239,10 +237,8 @@ impl SceneBus {
         let Some(command) = &line.command else {
             return Ok(Before::nothing());
         };
-        let sent = self.sends(command);
-        self.cut_as(sent, &line.risk, ways);
         let mut heard = Heard::nothing();
-        let ended = end_of(self.obey(command, &mut heard))?;
+        let ended = end_of(self.obey_in(command, &line.risk, ways, &mut heard))?;
         Ok(Before {
             result: ended,
             heard,
@@ -361,6 +357,23 @@ impl SceneBus {
             return true;
         };
         first.facts.hold(self.bus(), &self.known, before) && self.all_hold(before, rest)
+    }
+
+    /// Obeys a command in these ways of the devices at risk, and lets a listener hear what it comes to.
+    pub(crate) fn obey_in<L: Listener>(
+        &mut self,
+        command: &Command,
+        risk: &Risk,
+        ways: Ways,
+        listener: &mut L,
+    ) -> Result<(), LineError<Refusal>>
+        requires one { ways.one < 2 ^ 16 }
+        requires other { ways.other < 2 ^ 16 }
+        ensures { Hears L.heard (λ pieces refused. DoesIn self.old command.now risk.now ways pieces refused self.new) listener.old listener.new result }
+    {
+        let sent = self.sends(command);
+        self.cut_as(sent, risk, ways);
+        self.obey(command, listener)
     }
 
     /// Obeys a line's command, and lets a listener hear what it comes to.

@@ -46,7 +46,7 @@ impl Scene {
     ) -> Result<Option<u64>, AllocError>
         ensures { IfOk result (λ told. (said : List ℕ) × LineTells self.now line.now way told said × (text.new ≡ text.old ++ said)) }
     {
-        let tried = self.ways_tried(line, way);
+        let tried = self.ways_of_line(line, way);
         let mut live = self.wake(alloc)?;
         live.unmet(line, tried, text)
     }
@@ -72,7 +72,7 @@ impl SceneBus {
     }
 
     /// Tells the first expectation that doesn't hold.
-    fn print_unmet(
+    pub(crate) fn print_unmet(
         &self,
         before: &Before,
         expectations: &[Expectation],

@@ -2,7 +2,7 @@
 use Rattle.std.proofs.Common.{◌≡◌, ◌⊎◌, ◌<◌, ◌≤◌, ◌∙◌, ℕ, suc, ◌+◌, true, false, cond, [], ◌++◌, arith, ap, inl, inr, refl, subst, sym, if◌then◌else◌}
 use Rattle.std.proofs.lemmas.Bool.{cases_Bool, cases_lt, eq-eqb, ne_eqb}
 use Rattle.std.proofs.lemmas.List.{append-nil}
-use Rattle.std.specs.Prelude.{None, slice_index_or, ◌==◌}
+use Rattle.std.specs.Prelude.{Option, ◌==◌}
 use Rattle.i3c_base.specs.declared.range.TheConstants.{SLOTS}
 use Rattle.i3c_base.specs.declared.requests.Request.{Request}
 use Rattle.i3c_base.specs.Serve.{drives}
@@ -10,8 +10,7 @@ use Rattle.i3c_base.specs.State.{State}
 use Rattle.i3c_bus.specs.Readings.{AreAskers}
 use Rattle.i3c_device.specs.declared.slot_set.SlotSet.{SlotSet}
 use Rattle.i3c_device.specs.Sets.{IsLowestOf, has}
-use Rattle.i3c_lines.specs.declared.names.Names.{Names}
-use Rattle.i3c_lines.specs.Naming.{slot_names}
+use Rattle.i3c_lines.specs.declared.names.Name.{Name}
 use Rattle.i3c_script.specs.Pieces.{asker_of, askers_below}
 
 -- in the set are the slots from this one on whose devices drive the request
@@ -60,16 +59,16 @@ next_is_silent st r n left within are other = (sym (are.behind n (omega arith) w
 after : (n : ℕ) → n + 1 ≡ suc n
 after n = omega arith
 
-pub none_asked : (st : State) (names : Names) (r : Request) → askers_below st names r 0 ≡ []
+pub none_asked : (st : State) (name_of : ℕ → Option Name) (r : Request) → askers_below st name_of r 0 ≡ []
 unfolding askers_below
-none_asked st names r = refl
+none_asked st name_of r = refl
 
 -- one more slot, which asks
-pub asker_more : (st : State) (names : Names) (r : Request) (slot : ℕ) → drives st r slot ≡ true → askers_below st names r (slot + 1) ≡ askers_below st names r slot ++ asker_of (slice_index_or (slot_names names) slot None)
+pub asker_more : (st : State) (name_of : ℕ → Option Name) (r : Request) (slot : ℕ) → drives st r slot ≡ true → askers_below st name_of r (slot + 1) ≡ askers_below st name_of r slot ++ asker_of (name_of slot)
 unfolding askers_below
-asker_more st names r slot asks = ap (askers_below st names r) (after slot) ∙ ap (λ b. askers_below st names r slot ++ cond b (asker_of (slice_index_or (slot_names names) slot None)) []) asks
+asker_more st name_of r slot asks = ap (askers_below st name_of r) (after slot) ∙ ap (λ b. askers_below st name_of r slot ++ cond b (asker_of (name_of slot)) []) asks
 
 -- one more slot, which doesn't ask
-pub silent_more : (st : State) (names : Names) (r : Request) (slot : ℕ) → drives st r slot ≡ false → askers_below st names r (slot + 1) ≡ askers_below st names r slot
+pub silent_more : (st : State) (name_of : ℕ → Option Name) (r : Request) (slot : ℕ) → drives st r slot ≡ false → askers_below st name_of r (slot + 1) ≡ askers_below st name_of r slot
 unfolding askers_below
-silent_more st names r slot silent = ap (askers_below st names r) (after slot) ∙ ap (λ b. askers_below st names r slot ++ cond b (asker_of (slice_index_or (slot_names names) slot None)) []) silent ∙ append-nil (askers_below st names r slot)
+silent_more st name_of r slot silent = ap (askers_below st name_of r) (after slot) ∙ ap (λ b. askers_below st name_of r slot ++ cond b (asker_of (name_of slot)) []) silent ∙ append-nil (askers_below st name_of r slot)

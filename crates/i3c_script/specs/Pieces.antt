@@ -15,8 +15,7 @@ use Rattle.i3c_bus.specs.Readings.{address_of}
 use Rattle.i3c_device.specs.Wishing.{choice_of}
 use Rattle.i3c_frame.specs.declared.symbols.Symbol.{Symbol}
 use Rattle.i3c_lines.specs.declared.names.Name.{Name}
-use Rattle.i3c_lines.specs.declared.names.Names.{Names}
-use Rattle.i3c_lines.specs.Keeping.{NamesKept, name_of_slot}
+use Rattle.i3c_lines.specs.Keeping.{NamesKept}
 use Rattle.i3c_step.specs.declared.events.Command.{Command as Frame}
 use Rattle.i3c_step.specs.declared.events.Event.{Event}
 use Rattle.i3c_step.specs.declared.replies.Reply.{Reply}
@@ -227,15 +226,15 @@ asker_of None = []
 asker_of (Some name) = name ∷ []
 
 -- the names of the devices that drive this request, of the slots below a number, the lowest slot first
-unfoldable pub askers_below : State → Names → Request → ℕ → List Name
-askers_below st names r zero = []
-askers_below st names r (suc slot) = askers_below st names r slot ++ (if drives st r slot then asker_of (name_of_slot names slot) else [])
+unfoldable pub askers_below : State → (ℕ → Option Name) → Request → ℕ → List Name
+askers_below st name_of r zero = []
+askers_below st name_of r (suc slot) = askers_below st name_of r slot ++ (if drives st r slot then asker_of (name_of slot) else [])
 
 -- the names of the devices that drive the first request, if there is one
-abbrev pub askers_of : State → Names → Option Request → List Name
-askers_of st names None = []
-askers_of st names (Some r) = askers_below st names r SLOTS
+abbrev pub askers_of : State → (ℕ → Option Name) → Option Request → List Name
+askers_of st name_of None = []
+askers_of st name_of (Some r) = askers_below st name_of r SLOTS
 
--- these are the names of the devices whose requests the next frame would meet
-abbrev pub AreAsking : State → Names → List Name → Type 0
-AreAsking st names found = (first : Option Request) × IsFirstRequest st first × (found ≡ askers_of st names first)
+-- these are the names of the devices whose requests the next frame would meet, by the names of their slots
+abbrev pub AreAsking : State → (ℕ → Option Name) → List Name → Type 0
+AreAsking st name_of found = (first : Option Request) × IsFirstRequest st first × (found ≡ askers_of st name_of first)

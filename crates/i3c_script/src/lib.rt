@@ -5,7 +5,7 @@
 //! answer it, and `replies` makes pieces of the answer.
 //!
 //! * `piece` has the pieces, and what a listener is. `printed` makes a text a listener: it prints each piece. `piece_list` keeps
-//!   them.
+//!   them, and `same_piece` compares them.
 //! * `stage` is where a script is, before its bus and with it. `script_bus` obeys a line's command on a bus, whoever listens,
 //!   however names are kept (`Naming` of `i3c_lines`) and whatever is kept of the past (`past`). `journal` is what scripts
 //!   keep of it. `settings` is what lines have set. `slot_lookup` finds the slots that names mean.
@@ -26,6 +26,7 @@ mod piece;
 mod piece_list;
 mod printed;
 mod replies;
+mod same_piece;
 mod script_bus;
 mod settings;
 mod show;

@@ -3,7 +3,6 @@ ghost use Rattle.i3c_base.specs.declared.range.TheConstants.{ADDRESSES, SLOTS};
 ghost use Rattle.i3c_bus.specs.Readings.{AreAskers};
 ghost use Rattle.i3c_device.specs.Sets.{IsLowestOf};
 ghost use Rattle.i3c_base.specs.State.{device_at};
-ghost use Rattle.i3c_lines.specs.Keeping.{name_of_slot};
 ghost use Rattle.i3c_script.specs.Hearing.{all_heard};
 ghost use Rattle.i3c_lines.specs.declared.names.Name.{Name as NameValue};
 ghost use Rattle.i3c_script.specs.Pieces.{AreAsking, asker_of, askers_below, behind_pieces, device_pieces, devices_pieces, records_pieces, show_behind_pieces, show_pieces, target_pieces, targets_pieces};
@@ -13,7 +12,7 @@ use crate::piece::{Listener, Piece};
 use crate::settings::sum_of;
 use i3c_base::{ADDRESSES, Addr7, Record, SLOTS, Slot};
 use i3c_bus::{Bus, Request, SlotSet};
-use i3c_lines::{Name, Names, Naming};
+use i3c_lines::{Name, Naming};
 use i3c_text::Text;
 use std::alloc::AllocError;
 
@@ -157,8 +156,12 @@ fn hear_records_behind<L: Listener>(
 }
 
 /// Appends the names of those whose requests the next frame would meet, by slot.
-pub fn push_askers(bus: &Bus, names: &Names, askers: &mut Vec<Name>) -> Result<(), AllocError>
-    ensures { OnOk result ((found : List NameValue) × AreAsking bus.now.state names.now found × (askers.new.items ≡ askers.old.items ++ found)) }
+pub fn push_askers<N: Naming>(
+    bus: &Bus,
+    names: &N,
+    askers: &mut Vec<Name>,
+) -> Result<(), AllocError>
+    ensures { OnOk result ((found : List NameValue) × AreAsking bus.now.state (N.kept.in_slot names.now) found × (askers.new.items ≡ askers.old.items ++ found)) }
 {
     match bus.asking() {
         Some((request, slots)) => return push_names(bus, names, &request, slots, askers),
@@ -167,15 +170,15 @@ pub fn push_askers(bus: &Bus, names: &Names, askers: &mut Vec<Name>) -> Result<(
 }
 
 /// Appends the names of these slots, whose devices drive a request.
-fn push_names(
+fn push_names<N: Naming>(
     bus: &Bus,
-    names: &Names,
+    names: &N,
     request: &Request,
     slots: SlotSet,
     askers: &mut Vec<Name>,
 ) -> Result<(), AllocError>
     requires { AreAskers bus.now.state request.now slots }
-    ensures { OnOk result (askers.new.items ≡ askers.old.items ++ askers_below bus.now.state names.now request.now SLOTS) }
+    ensures { OnOk result (askers.new.items ≡ askers.old.items ++ askers_below bus.now.state (N.kept.in_slot names.now) request.now SLOTS) }
 {
     let mut left = slots;
     for number in 0..SLOTS as u8 {
@@ -200,11 +203,11 @@ fn is_lowest(slots: SlotSet, slot: Slot) -> bool
 }
 
 /// Appends the name of a slot.
-fn push_name(names: &Names, slot: Slot, askers: &mut Vec<Name>) -> Result<(), AllocError>
-    ensures { OnOk result (askers.new.items ≡ askers.old.items ++ asker_of (name_of_slot names.now slot)) }
+fn push_name<N: Naming>(names: &N, slot: Slot, askers: &mut Vec<Name>) -> Result<(), AllocError>
+    ensures { OnOk result (askers.new.items ≡ askers.old.items ++ asker_of (N.kept.in_slot names.now slot)) }
 {
     match names.in_slot(slot) {
-        Some(name) => match askers.push(*name) {
+        Some(name) => match askers.push(name) {
             Ok(()) => Ok(()),
             Err(_) => Err(AllocError),
         },

@@ -92,5 +92,6 @@ one_plan lines one other first second =
       refused = first.of.refused ∙ ap (λ (o : Outline). o.refused) out ∙ sym second.of.refused;
       blocks = first.of.blocks ∙ ap (λ (o : Outline). o.blocks) out ∙ sym second.of.blocks;
       opened = first.of.opened ∙ ap (λ (o : Outline). o.opened) out ∙ sym second.of.opened;
+      rules = first.of.rules ∙ ap (λ (o : Outline). o.rules) out ∙ sym second.of.rules;
       risky = first.of.risky ∙ ap (λ (o : Outline). o.risky) out ∙ sym second.of.risky;
     }

@@ -1,5 +1,5 @@
 -- Each line that is read leaves the outline of the whole file as it is.
-use Rattle.std.proofs.Common.{◌≡◌, ◌<◌, ◌≤◌, ◌∙◌, ℕ, ◌+◌, Result, Ok, Err, append-nil, append_assoc, get_or, length, List, [], ◌∷◌, ◌++◌, Bool, Option, Some, None, true, false, ◌||◌, ap, refl, subst, sym, take}
+use Rattle.std.proofs.Common.{◌≡◌, ◌<◌, ◌≤◌, ◌∙◌, ℕ, ◌+◌, Result, Ok, Err, append-nil, append_assoc, get_or, length, List, [], ◌∷◌, ◌++◌, map, Bool, Option, Some, None, true, false, ◌||◌, ap, refl, subst, sym, take}
 use Rattle.std.specs.Global.{Vec}
 use Rattle.std.proofs.lemmas.List.{take_all, take_more}
 use Rattle.std.specs.Option.{is_some, option_map}
@@ -16,6 +16,7 @@ use Rattle.i3c_scene.specs.declared.line.Expectation.{Expectation}
 use Rattle.i3c_scene.specs.declared.line.Line.{Line}
 use Rattle.i3c_scene.specs.declared.named.Named.{Named}
 use Rattle.i3c_scene.specs.declared.risk.Risk.{Risk}
+use Rattle.i3c_scene.specs.declared.rules.Rules.{Rules}
 use Rattle.i3c_scene.specs.Scenes.{place_in}
 use Rattle.i3c_scene.specs.Scenes.{Seen}
 use Rattle.i3c_tracks.specs.declared.body.Body.{Body}
@@ -28,8 +29,8 @@ use Rattle.i3c_tracks.specs.declared.refusal.Refusal.{Refusal}
 use Rattle.i3c_tracks.specs.declared.plan.Plan.{Plan}
 use Rattle.i3c_tracks.specs.declared.plan.PlanFault.{PlanFault}
 use Rattle.i3c_tracks.specs.Taking.{IsTakenNot}
-use Rattle.i3c_tracks.specs.Drafting.{Begins, Declares, IsBegunBy, IsEndFault, IsUnread, Open, Reads, Settles, asked, ReadsOn, all_tracks, comes, comes_on, comes_to, has_command_of, held_before, here_of, inside_of, left, open_of, opened_left, opens, refusal_left, refuses, refuses_on, risk_with, risks}
-use Rattle.i3c_tracks.specs.Planning.{AreSaid, HasNoPlan, IsPlan, IsPlanOf, IsStartOf, Outline, Step, any_at_risk, blocks_in, blocks_of, expected, lines_to, made, named, opened_in, outline, place, step_of, steps_in, steps_of, tracks_in, tracks_of, unless, unopened}
+use Rattle.i3c_tracks.specs.Drafting.{Begins, Declares, IsBegunBy, IsEndFault, IsUnread, Open, Reads, Settles, asked, ReadsOn, all_rules, all_tracks, comes, comes_on, comes_to, has_command_of, held_before, here_of, inside_of, left, open_of, opened_left, opens, refusal_left, refuses, refuses_on, risk_with, risks, rules_here, rules_left}
+use Rattle.i3c_tracks.specs.Planning.{AreSaid, BlockRules, HasNoPlan, IsPlan, IsPlanOf, IsStartOf, Outline, Step, any_at_risk, blocks_in, blocks_of, expected, lines_to, made, named, opened_in, outline, place, rules_in, rules_of, step_of, steps_in, steps_of, tracks_in, tracks_of, unless, unopened}
 use Rattle.i3c_tracks.specs.Refusing.{Here, Inside, at_line, behind, first_refusal, one_line, one_track, or_later, outside, refuses_before, refuses_here}
 
 -- a line behind the bus that isn't refused leaves the refusal to later ones
@@ -46,21 +47,22 @@ read_behind old new body later line was is same fronts taken on first begun =
       first,
       subst (λ b. IsBegunBy b first) (sym is) (starts.0, starts.1, subst (IsStartOf starts.0) (sym on.start) starts.2),
       λ rest. ap (λ b. comes_on b new.front new.before.items first rest) is
-          ∙ ap (λ (v : Vec ℕ). asked (refusal_left later rest) first v.items new.front.refused.items (comes_to later rest) (opens later rest) (risks later rest)) same
-          ∙ ap (λ (f : Front). asked (refusal_left later rest) first before f.refused.items (comes_to later rest) (opens later rest) (risks later rest)) fronts
-          ∙ ap (λ (h : Here). asked (first_refusal h rest) first before refused (comes_to later rest) (opens later rest) (risks later rest)) on.here
-          ∙ ap (λ (r : Option Refusal). asked r first before refused (comes_to later rest) (opens later rest) (risks later rest)) (passed (here_of body) line rest free)
-          ∙ ap (λ (bs : List (List (List Step))). asked (refusal_left body (line ∷ rest)) first before refused bs (opens later rest) (risks later rest)) (on.blocks rest)
-          ∙ ap (λ (os : List Bool). asked (refusal_left body (line ∷ rest)) first before refused (comes_to body (line ∷ rest)) os (risks later rest)) (on.opened rest)
-          ∙ ap (λ (r : Bool). asked (refusal_left body (line ∷ rest)) first before refused (comes_to body (line ∷ rest)) (opens body (line ∷ rest)) r) (on.risky rest)
+          ∙ ap (λ (v : Vec ℕ). asked (refusal_left later rest) first v.items new.front.refused.items (comes_to later rest) (opens later rest) (all_rules later rest) (risks later rest)) same
+          ∙ ap (λ (f : Front). asked (refusal_left later rest) first before f.refused.items (comes_to later rest) (opens later rest) (all_rules later rest) (risks later rest)) fronts
+          ∙ ap (λ (h : Here). asked (first_refusal h rest) first before refused (comes_to later rest) (opens later rest) (all_rules later rest) (risks later rest)) on.here
+          ∙ ap (λ (r : Option Refusal). asked r first before refused (comes_to later rest) (opens later rest) (all_rules later rest) (risks later rest)) (passed (here_of body) line rest free)
+          ∙ ap (λ (bs : List (List (List Step))). asked (refusal_left body (line ∷ rest)) first before refused bs (opens later rest) (all_rules later rest) (risks later rest)) (on.blocks rest)
+          ∙ ap (λ (os : List Bool). asked (refusal_left body (line ∷ rest)) first before refused (comes_to body (line ∷ rest)) os (all_rules later rest) (risks later rest)) (on.opened rest)
+          ∙ ap (λ (rs : List BlockRules). asked (refusal_left body (line ∷ rest)) first before refused (comes_to body (line ∷ rest)) (opens body (line ∷ rest)) rs (risks later rest)) (on.rules rest)
+          ∙ ap (λ (r : Bool). asked (refusal_left body (line ∷ rest)) first before refused (comes_to body (line ∷ rest)) (opens body (line ∷ rest)) (all_rules body (line ∷ rest)) r) (on.risky rest)
           ∙ ap (λ b. comes_on b old.front before first (line ∷ rest)) (sym was),
     )
 
 -- behind a bus that was made the lines that are left are its own
-asked_made : (out : Outline) (before refused : List ℕ) (refusal : Option Refusal) (blocks : List (List (List Step))) (opened : List Bool) (risky : Bool)
-    → asked refusal (Some out) before refused blocks opened risky ≡ unless refusal (record out { before = before; refused = refused; blocks = blocks; opened = opened; risky = risky })
-asked_made out before refused None blocks opened risky = refl
-asked_made out before refused (Some refusal) blocks opened risky = refl
+asked_made : (out : Outline) (before refused : List ℕ) (refusal : Option Refusal) (blocks : List (List (List Step))) (opened : List Bool) (rules : List BlockRules) (risky : Bool)
+    → asked refusal (Some out) before refused blocks opened rules risky ≡ unless refusal (record out { before = before; refused = refused; blocks = blocks; opened = opened; rules = rules; risky = risky })
+asked_made out before refused None blocks opened rules risky = refl
+asked_made out before refused (Some refusal) blocks opened rules risky = refl
 
 -- a line that makes the bus
 pub read_begun : (old new : Draft) (number : ℕ) (command : Command) (body : Body) → old.body ≡ None → new.body ≡ Some body → new.before.items ≡ old.before.items ++ number ∷ [] → Begins old.front number command new.front body.start
@@ -72,12 +74,13 @@ read_begun old new number command body was is counted begins none first begun =
       out,
       subst (λ b. IsBegunBy b out) (sym is) (begins.0, refl, begins.1),
       λ rest. ap (λ b. comes_on b new.front new.before.items out rest) is
-          ∙ ap (λ (ns : List ℕ). asked (refusal_left body rest) out ns refused (comes_to body rest) (opens body rest) (risks body rest)) counted
-          ∙ ap (λ (h : Here). asked (first_refusal h rest) out before refused (comes_to body rest) (opens body rest) (risks body rest)) none.here
-          ∙ ap (λ (bs : List (List (List Step))). asked (first_refusal outside rest) out before refused bs (opens body rest) (risks body rest)) (none.blocks rest)
-          ∙ ap (λ (os : List Bool). asked (first_refusal outside rest) out before refused (place (expected rest) ++ blocks_in false rest) os (risks body rest)) (none.opened rest)
-          ∙ ap (λ (r : Bool). asked (first_refusal outside rest) out before refused (place (expected rest) ++ blocks_in false rest) (unopened (place (expected rest)) ++ opened_in false rest) r) (none.risky rest)
-          ∙ asked_made begins.0 before refused (first_refusal outside rest) (place (expected rest) ++ blocks_in false rest) (unopened (place (expected rest)) ++ opened_in false rest) (any_at_risk rest)
+          ∙ ap (λ (ns : List ℕ). asked (refusal_left body rest) out ns refused (comes_to body rest) (opens body rest) (all_rules body rest) (risks body rest)) counted
+          ∙ ap (λ (h : Here). asked (first_refusal h rest) out before refused (comes_to body rest) (opens body rest) (all_rules body rest) (risks body rest)) none.here
+          ∙ ap (λ (bs : List (List (List Step))). asked (first_refusal outside rest) out before refused bs (opens body rest) (all_rules body rest) (risks body rest)) (none.blocks rest)
+          ∙ ap (λ (os : List Bool). asked (first_refusal outside rest) out before refused (place (expected rest) ++ blocks_in false rest) os (all_rules body rest) (risks body rest)) (none.opened rest)
+          ∙ ap (λ (rs : List BlockRules). asked (first_refusal outside rest) out before refused (place (expected rest) ++ blocks_in false rest) (unopened (place (expected rest)) ++ opened_in false rest) rs (risks body rest)) (none.rules rest)
+          ∙ ap (λ (r : Bool). asked (first_refusal outside rest) out before refused (place (expected rest) ++ blocks_in false rest) (unopened (place (expected rest)) ++ opened_in false rest) (rules_in false rest) r) (none.risky rest)
+          ∙ asked_made begins.0 before refused (first_refusal outside rest) (place (expected rest) ++ blocks_in false rest) (unopened (place (expected rest)) ++ opened_in false rest) (rules_in false rest) (any_at_risk rest)
           ∙ sym (begins.2 old.before.items rest)
           ∙ ap (λ b. comes_on b old.front old.before.items first ((number, FileLine.Does command) ∷ rest)) (sym was),
     )
@@ -109,7 +112,7 @@ refused_comes draft first number said reason rest e = go draft.body e
     go None e = before_refused draft.front.legacies draft.front.names.items draft.before.items draft.front.refused.items number said reason rest e
     go (Some body) e =
         let line : ℕ × FileLine = (number, said) in
-        ap (λ (r : Option Reason). asked (or_later number r (first_refusal (behind (here_of body) said) rest)) first draft.before.items draft.front.refused.items (comes_to body (line ∷ rest)) (opens body (line ∷ rest)) (risks body (line ∷ rest))) e
+        ap (λ (r : Option Reason). asked (or_later number r (first_refusal (behind (here_of body) said) rest)) first draft.before.items draft.front.refused.items (comes_to body (line ∷ rest)) (opens body (line ∷ rest)) (all_rules body (line ∷ rest)) (risks body (line ∷ rest))) e
 
 -- `main` makes the bus
 pub begun_by : (board : Board) (names : List Named) (name : Name) (setup : Setup) (number : ℕ) (before refused : List ℕ) (rest : List (ℕ × FileLine)) → is_some (place_in names name) ≡ false → is_capable setup.identity.bcr ≡ true
@@ -126,17 +129,17 @@ both_ok (Ok done) follows p q = follows p q
 both_ok (Err e) follows p q = tt
 
 -- an outline's blocks, and the lines before its bus, have no part in its start
-pub same_start : (first : Outline) (before refused : List ℕ) (blocks : List (List (List Step))) (opened : List Bool) (risky : Bool) (start later : Seen) → later ≡ start → IsStartOf first start
-    → IsStartOf (record first { before = before; refused = refused; blocks = blocks; opened = opened; risky = risky }) later
-same_start first before refused blocks opened risky start later same is =
-    subst (IsStartOf (record first { before = before; refused = refused; blocks = blocks; opened = opened; risky = risky })) (sym same) (record { state = is.state; settings = is.settings; cuts = is.cuts; names = is.names })
+pub same_start : (first : Outline) (before refused : List ℕ) (blocks : List (List (List Step))) (opened : List Bool) (rules : List BlockRules) (risky : Bool) (start later : Seen) → later ≡ start → IsStartOf first start
+    → IsStartOf (record first { before = before; refused = refused; blocks = blocks; opened = opened; rules = rules; risky = risky }) later
+same_start first before refused blocks opened rules risky start later same is =
+    subst (IsStartOf (record first { before = before; refused = refused; blocks = blocks; opened = opened; rules = rules; risky = risky })) (sym same) (record { state = is.state; settings = is.settings; cuts = is.cuts; names = is.names })
 
 -- behind the last line nothing is refused
 pub none_left : (body : Body) (first : Option Outline) (out : Outline) (front : Front) (before : List ℕ) → refusal_left body [] ≡ None → first ≡ Some out
-    → comes_on (Some body) front before first [] ≡ Ok (record out { before = before; refused = front.refused.items; blocks = comes_to body []; opened = opens body []; risky = risks body [] })
+    → comes_on (Some body) front before first [] ≡ Ok (record out { before = before; refused = front.refused.items; blocks = comes_to body []; opened = opens body []; rules = all_rules body []; risky = risks body [] })
 none_left body first out front before closed is =
-    ap (λ (r : Option Refusal). asked r first before front.refused.items (comes_to body []) (opens body []) (risks body [])) closed
-    ∙ ap (λ (f : Option Outline). asked None f before front.refused.items (comes_to body []) (opens body []) (risks body [])) is
+    ap (λ (r : Option Refusal). asked r first before front.refused.items (comes_to body []) (opens body []) (all_rules body []) (risks body [])) closed
+    ∙ ap (λ (f : Option Outline). asked None f before front.refused.items (comes_to body []) (opens body []) (all_rules body []) (risks body [])) is
 
 -- the blocks behind the last line, where none is open
 pub none_open : (block : Option OpenBlock) → is_some block ≡ false → block ≡ None
@@ -164,6 +167,36 @@ all_opened old new settles none =
     let shut : new.block ≡ None = none_inside new.block (settles.inside ∙ ap (option_map inside_of) none) in
     sym (append-nil new.opened.items) ∙ ap (λ (b : Option OpenBlock). new.opened.items ++ opened_left (option_map open_of b) None []) (sym shut)
     ∙ ap (λ (h : Option Line). new.opened.items ++ opened_left (option_map open_of new.block) (option_map step_of h) []) (sym settles.none) ∙ settles.opened [] refl
+
+-- and what holds in these
+pub all_ruled : (old new : Body) → Settles old new → old.block ≡ None → map rules_of new.rules.items ≡ all_rules old []
+all_ruled old new settles none =
+    let shut : new.block ≡ None = none_inside new.block (settles.inside ∙ ap (option_map inside_of) none) in
+    sym (append-nil (map rules_of new.rules.items)) ∙ ap (λ (b : Option OpenBlock). map rules_of new.rules.items ++ rules_left (option_map open_of b) []) (sym shut) ∙ settles.rules []
+
+-- a block that is closed has the rules that it had
+closed_rules : (block : OpenBlock) (number : ℕ) (rest : List (ℕ × FileLine)) → record { risk = block.risk; always = block.always.items } ≡ rules_here (open_of block) (open_of block).last ((number, FileLine.Marks Mark.Close) ∷ rest)
+closed_rules block number rest = go (option_map steps_of block.last)
+  where
+    none : (risk : Risk) → risk ≡ risk_with risk Risk.Nobody
+    none Risk.Nobody = refl
+    none (Risk.One name) = refl
+    none (Risk.Two one other) = refl
+
+    go : (last : Option (List Step)) → record { risk = block.risk; always = block.always.items } ≡ rules_here (open_of block) last ((number, FileLine.Marks Mark.Close) ∷ rest)
+    go None = λ i. record { risk = none block.risk i; always = sym (append-nil block.always.items) i }
+    go (Some last) = refl
+
+pub close_rules : (old settled new : Body) (block : OpenBlock) (rules : BlockRules) (number : ℕ) (rest : List (ℕ × FileLine)) → settled.block ≡ Some block → Settles old settled → new.block ≡ None → map rules_of new.rules.items ≡ map rules_of settled.rules.items ++ rules ∷ []
+    → rules ≡ record { risk = block.risk; always = block.always.items } → all_rules new rest ≡ all_rules old ((number, FileLine.Marks Mark.Close) ∷ rest)
+close_rules old settled new block rules number rest is settles none ruled rules_are =
+    let before : List BlockRules = map rules_of settled.rules.items in
+    ap (λ (rs : List BlockRules). rs ++ rules_left (option_map open_of new.block) rest) ruled
+    ∙ ap (λ (b : Option OpenBlock). (before ++ rules ∷ []) ++ rules_left (option_map open_of b) rest) none
+    ∙ append_assoc before (rules ∷ []) (rules_in false rest)
+    ∙ ap (λ (r : BlockRules). before ++ r ∷ rules_in false rest) (rules_are ∙ closed_rules block number rest)
+    ∙ ap (λ (b : Option OpenBlock). before ++ rules_left (option_map open_of b) ((number, FileLine.Marks Mark.Close) ∷ rest)) (sym is)
+    ∙ settles.rules ((number, FileLine.Marks Mark.Close) ∷ rest)
 
 -- behind the last line no device is put at risk
 pub none_risked : (risky : Bool) → risky ≡ (risky || any_at_risk [])
@@ -229,6 +262,27 @@ track_opened old settled new block begun number rest is settles begins last held
     ∙ ap (λ (b : Option OpenBlock). before ++ opened_left (option_map open_of b) None ((number, FileLine.Marks Mark.Track) ∷ rest)) (sym is)
     ∙ ap (λ (h : Option Line). before ++ opened_left (option_map open_of settled.block) (option_map step_of h) ((number, FileLine.Marks Mark.Track) ∷ rest)) (sym settles.none)
     ∙ settles.opened ((number, FileLine.Marks Mark.Track) ∷ rest) refl
+
+-- a block has the same rules where its track has begun
+rules_track : (block : Open) (last : Option (List Step)) (number : ℕ) (rest : List (ℕ × FileLine)) → rules_here block (Some []) rest ≡ rules_here block last ((number, FileLine.Marks Mark.Track) ∷ rest)
+rules_track block None number rest = λ i. record { risk = none block.risk i; always = sym (append-nil block.always) i }
+  where
+    none : (risk : Risk) → risk ≡ risk_with risk Risk.Nobody
+    none Risk.Nobody = refl
+    none (Risk.One name) = refl
+    none (Risk.Two one other) = refl
+rules_track block (Some last) number rest = refl
+
+pub track_rules : (old settled new : Body) (block : OpenBlock) (begun : Open) (number : ℕ) (rest : List (ℕ × FileLine)) → settled.block ≡ Some block → Settles old settled → option_map open_of new.block ≡ Some begun
+    → begun ≡ record (open_of block) { tracks = all_tracks (open_of block).tracks (open_of block).last; last = Some [] } → new.rules ≡ settled.rules → all_rules new rest ≡ all_rules old ((number, FileLine.Marks Mark.Track) ∷ rest)
+track_rules old settled new block begun number rest is settles begins begun_is same =
+    let before : List BlockRules = map rules_of settled.rules.items in
+    ap (λ (rs : Vec Rules). map rules_of rs.items ++ rules_left (option_map open_of new.block) rest) same
+    ∙ ap (λ (b : Option Open). before ++ rules_left b rest) begins
+    ∙ ap (λ (b : Open). before ++ (rules_here b b.last rest ∷ rules_in true rest)) begun_is
+    ∙ ap (λ (r : BlockRules). before ++ (r ∷ rules_in true rest)) (rules_track (open_of block) (open_of block).last number rest)
+    ∙ ap (λ (b : Option OpenBlock). before ++ rules_left (option_map open_of b) ((number, FileLine.Marks Mark.Track) ∷ rest)) (sym is)
+    ∙ settles.rules ((number, FileLine.Marks Mark.Track) ∷ rest)
 
 -- one more line of the file
 pub one_taken : (lines : List (Vec ℕ)) (at : ℕ) (line : Vec ℕ) (more : List (Vec ℕ)) → at < length lines → line ≡ get_or lines at line → take at lines ++ line ∷ more ≡ take (at + 1) lines ++ more

@@ -1,5 +1,5 @@
 -- The blocks of the lines that were read, with those that are left.
-use Rattle.std.specs.Prelude.{◌≡◌, ◌||◌, ℕ, Bool, true, false, List, [], ◌∷◌, ◌++◌, Option, Some, None, Ok, Err, Result, is_some, option_map}
+use Rattle.std.specs.Prelude.{◌≡◌, ◌||◌, ℕ, Bool, true, false, List, [], ◌∷◌, ◌++◌, Option, Some, None, Ok, Err, Result, is_some, map, option_map}
 use Rattle.i3c_lines.specs.declared.command.Command.{Command}
 use Rattle.i3c_scene.specs.declared.line.Expectation.{Expectation}
 use Rattle.i3c_scene.specs.declared.risk.Risk.{Risk}
@@ -12,7 +12,7 @@ use Rattle.i3c_tracks.specs.declared.file_line.FileLine.{FileLine}
 use Rattle.i3c_tracks.specs.declared.plan.PlanFault.{PlanFault}
 use Rattle.i3c_tracks.specs.declared.refusal.Reason.{Reason}
 use Rattle.i3c_tracks.specs.declared.refusal.Refusal.{Refusal}
-use Rattle.i3c_tracks.specs.Planning.{IsStartOf, Outline, Step, alone, always_in, any_at_risk, before_more, blocks_in, blocks_of, expected, made, opened_in, outline, place, risk_in, step_of, steps_in, steps_of, tracks_in, tracks_of, unopened}
+use Rattle.i3c_tracks.specs.Planning.{BlockRules, IsStartOf, Outline, Step, alone, always_in, any_at_risk, before_more, blocks_in, blocks_of, expected, made, opened_in, outline, place, risk_in, rules_in, rules_of, step_of, steps_in, steps_of, tracks_in, tracks_of, unopened}
 use Rattle.i3c_tracks.specs.Refusing.{Here, Inside, at_end, behind, first_refusal, one_line, outside, refuses_before, refuses_here, risk_of}
 
 -- a block that isn't closed yet: the devices at risk, what has to hold always, the tracks before the last, and the last if one has begun
@@ -73,6 +73,20 @@ opened_left (Some block) held rest = unopened (held_before block.last held rest)
 abbrev pub opens : Body → List (ℕ × FileLine) → List Bool
 opens body rest = body.opened.items ++ opened_left (option_map open_of body.block) (option_map step_of body.held) rest
 
+-- what holds in the open block, where a last track has begun or not
+abbrev pub rules_here : Open → Option (List Step) → List (ℕ × FileLine) → BlockRules
+rules_here block None rest = record { risk = risk_with block.risk (risk_in rest); always = block.always ++ always_in rest }
+rules_here block (Some last) rest = record { risk = block.risk; always = block.always }
+
+-- what holds in the blocks behind those that were added
+abbrev pub rules_left : Option Open → List (ℕ × FileLine) → List BlockRules
+rules_left None rest = rules_in false rest
+rules_left (Some block) rest = rules_here block block.last rest ∷ rules_in true rest
+
+-- what holds in all blocks behind the bus that a line opens
+abbrev pub all_rules : Body → List (ℕ × FileLine) → List BlockRules
+all_rules body rest = map rules_of body.rules.items ++ rules_left (option_map open_of body.block) rest
+
 -- whether a device may lose power in one of them
 abbrev pub risks : Body → List (ℕ × FileLine) → Bool
 risks body rest = body.risky || any_at_risk rest
@@ -96,6 +110,7 @@ refusal_left body rest = first_refusal (here_of body) rest
 pub record IsUnread (body : Body) : Type 0 where
   pub blocks : (rest : List (ℕ × FileLine)) → comes_to body rest ≡ place (expected rest) ++ blocks_in false rest
   pub opened : (rest : List (ℕ × FileLine)) → opens body rest ≡ unopened (place (expected rest)) ++ opened_in false rest
+  pub rules : (rest : List (ℕ × FileLine)) → all_rules body rest ≡ rules_in false rest
   pub risky : (rest : List (ℕ × FileLine)) → risks body rest ≡ any_at_risk rest
   pub here : here_of body ≡ outside
 
@@ -105,15 +120,15 @@ IsBegunBy None first = Unit {0}
 IsBegunBy (Some body) first = (outline : Outline) × (first ≡ Some outline) × IsStartOf outline body.start
 
 -- an outline's bus, with these lines before it, of which some are refused, and these blocks behind it, unless the file is refused
-abbrev pub asked : Option Refusal → Option Outline → List ℕ → List ℕ → List (List (List Step)) → List Bool → Bool → Result Outline Refusal
-asked (Some refusal) first before refused blocks opened risky = Err refusal
-asked None None before refused blocks opened risky = Err (at_end Reason.NoBus)
-asked None (Some out) before refused blocks opened risky = Ok (record out { before = before; refused = refused; blocks = blocks; opened = opened; risky = risky })
+abbrev pub asked : Option Refusal → Option Outline → List ℕ → List ℕ → List (List (List Step)) → List Bool → List BlockRules → Bool → Result Outline Refusal
+asked (Some refusal) first before refused blocks opened rules risky = Err refusal
+asked None None before refused blocks opened rules risky = Err (at_end Reason.NoBus)
+asked None (Some out) before refused blocks opened rules risky = Ok (record out { before = before; refused = refused; blocks = blocks; opened = opened; rules = rules; risky = risky })
 
 -- the outline of a file, with the lines that are left: before the bus, or behind the one that was begun
 abbrev pub comes_on : Option Body → Front → List ℕ → Option Outline → List (ℕ × FileLine) → Result Outline Refusal
 comes_on None front before first rest = outline front.legacies front.names.items before front.refused.items rest
-comes_on (Some body) front before first rest = asked (refusal_left body rest) first before front.refused.items (comes_to body rest) (opens body rest) (risks body rest)
+comes_on (Some body) front before first rest = asked (refusal_left body rest) first before front.refused.items (comes_to body rest) (opens body rest) (all_rules body rest) (risks body rest)
 
 abbrev pub comes : Draft → Option Outline → List (ℕ × FileLine) → Result Outline Refusal
 comes draft first rest = comes_on draft.body draft.front draft.before.items first rest
@@ -137,6 +152,7 @@ pub record ReadsOn (old : Body) (line : ℕ × FileLine) (new : Body) : Type 0 w
   pub start : new.start ≡ old.start
   pub blocks : (rest : List (ℕ × FileLine)) → comes_to new rest ≡ comes_to old (line ∷ rest)
   pub opened : (rest : List (ℕ × FileLine)) → opens new rest ≡ opens old (line ∷ rest)
+  pub rules : (rest : List (ℕ × FileLine)) → all_rules new rest ≡ all_rules old (line ∷ rest)
   pub risky : (rest : List (ℕ × FileLine)) → risks new rest ≡ risks old (line ∷ rest)
   pub here : here_of new ≡ behind (here_of old) line.1
 
@@ -147,6 +163,7 @@ pub record Settles (old new : Body) : Type 0 where
   pub inside : option_map inside_of new.block ≡ option_map inside_of old.block
   pub same : (rest : List (ℕ × FileLine)) → expected rest ≡ [] → comes_to new rest ≡ comes_to old rest
   pub opened : (rest : List (ℕ × FileLine)) → expected rest ≡ [] → opens new rest ≡ opens old rest
+  pub rules : (rest : List (ℕ × FileLine)) → all_rules new rest ≡ all_rules old rest
   pub risky : new.risky ≡ old.risky
 
 -- the tracks of an open block, with the last
@@ -168,6 +185,17 @@ pub record Adds (old : Body) (tracks : List (List Step)) (by_line : Bool) (new :
   pub start : new.start ≡ old.start
   pub blocks : blocks_of new.blocks.items ≡ blocks_of old.blocks.items ++ tracks ∷ []
   pub opened : new.opened.items ≡ old.opened.items ++ by_line ∷ []
+  pub rules : new.rules ≡ old.rules
+  pub risky : new.risky ≡ old.risky
+  pub block : new.block ≡ old.block
+  pub held : new.held ≡ old.held
+
+-- the body with one more block that a line opened, with its rules
+pub record AddsClosed (old : Body) (closed : Open) (new : Body) : Type 0 where
+  pub start : new.start ≡ old.start
+  pub blocks : blocks_of new.blocks.items ≡ blocks_of old.blocks.items ++ all_tracks closed.tracks closed.last ∷ []
+  pub opened : new.opened.items ≡ old.opened.items ++ true ∷ []
+  pub ruled : map rules_of new.rules.items ≡ map rules_of old.rules.items ++ record { risk = closed.risk; always = closed.always } ∷ []
   pub risky : new.risky ≡ old.risky
   pub block : new.block ≡ old.block
   pub held : new.held ≡ old.held
@@ -176,6 +204,7 @@ pub record Adds (old : Body) (tracks : List (List Step)) (by_line : Bool) (new :
 pub record Holds (old : Body) (step : Step) (new : Body) : Type 0 where
   pub start : new.start ≡ old.start
   pub opened : new.opened ≡ old.opened
+  pub rules : new.rules ≡ old.rules
   pub risky : new.risky ≡ old.risky
   pub blocks : new.blocks ≡ old.blocks
   pub block : new.block ≡ old.block
@@ -185,6 +214,7 @@ pub record Holds (old : Body) (step : Step) (new : Body) : Type 0 where
 pub record Puts (old : Body) (step : Step) (new : Body) : Type 0 where
   pub start : new.start ≡ old.start
   pub opened : new.opened ≡ old.opened
+  pub rules : new.rules ≡ old.rules
   pub risky : new.risky ≡ old.risky
   pub blocks : new.blocks ≡ old.blocks
   pub block : option_map open_of new.block ≡ option_map (with_line step) (option_map open_of old.block)
@@ -200,6 +230,7 @@ risk_here (Some block) command = risk_of block.risk command
 pub record TakesPlace (old : Body) (command : Command) (risked : Risk) (new : Body) : Type 0 where
   pub start : new.start ≡ old.start
   pub opened : new.opened ≡ old.opened
+  pub rules : new.rules ≡ old.rules
   pub risky : new.risky ≡ old.risky
   pub blocks : new.blocks ≡ old.blocks
   pub block : option_map open_of new.block ≡ option_map open_of old.block

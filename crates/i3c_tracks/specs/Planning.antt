@@ -16,6 +16,7 @@ use Rattle.i3c_streams.specs.Outcomes.{HasNoFeed}
 use Rattle.i3c_scene.specs.declared.line.Expectation.{Expectation}
 use Rattle.i3c_scene.specs.declared.line.Line.{Line}
 use Rattle.i3c_scene.specs.declared.risk.Risk.{Risk}
+use Rattle.i3c_scene.specs.declared.rules.Rules.{Rules}
 use Rattle.i3c_scene.specs.declared.named.Named.{Named}
 use Rattle.i3c_scene.specs.Scenes.{Seen, place_in}
 use Rattle.i3c_tracks.specs.declared.file_line.FileLine.{FileLine}
@@ -132,6 +133,18 @@ opened_in false ((number, FileLine.Marks Mark.Any) ∷ rest) = true ∷ opened_i
 opened_in true ((number, FileLine.Marks Mark.Close) ∷ rest) = unopened (place (expected rest)) ++ opened_in false rest
 opened_in inside (line ∷ rest) = opened_in inside rest
 
+-- what holds in a block: the devices at risk in each frame, and what has to hold after each line
+pub record BlockRules : Type 0 where
+  pub risk : Risk
+  pub always : List Expectation
+
+-- the same of each block that a line opens
+abbrev pub rules_in : Bool → List (ℕ × FileLine) → List BlockRules
+rules_in inside [] = []
+rules_in false ((number, FileLine.Marks Mark.Any) ∷ rest) = record { risk = risk_in rest; always = always_in rest } ∷ rules_in true rest
+rules_in true ((number, FileLine.Marks Mark.Close) ∷ rest) = rules_in false rest
+rules_in inside (line ∷ rest) = rules_in inside rest
+
 -- whether a device may lose power in one of the blocks: a line is `anywhere`
 abbrev pub any_at_risk : List (ℕ × FileLine) → Bool
 any_at_risk [] = false
@@ -139,7 +152,7 @@ any_at_risk ((number, FileLine.Marks (Mark.Anywhere name)) ∷ rest) = true
 any_at_risk (line ∷ rest) = any_at_risk rest
 
 -- what a file asks for. Up to `main`: the main controller, what has a static address, the names that are given, the numbers of
--- these commands, and of those that are refused. Behind it: the blocks, which of them a line opened, and whether a device may lose power in one
+-- these commands, and of those that are refused. Behind it: the blocks, which of them a line opened, what holds in these, and whether a device may lose power in one
 pub record Outline : Type 0 where
   pub main : Setup
   pub board : Board
@@ -148,6 +161,7 @@ pub record Outline : Type 0 where
   pub refused : List ℕ
   pub blocks : List (List (List Step))
   pub opened : List Bool
+  pub rules : List BlockRules
   pub risky : Bool
 
 abbrev pub named : Name → Place → Named
@@ -161,7 +175,7 @@ unless (Some refusal) out = Err refusal
 -- a bus was made, and these lines follow
 abbrev pub made : Setup → Board → List Named → List ℕ → List ℕ → List (ℕ × FileLine) → Result Outline Refusal
 made main board names before refused rest =
-    unless (first_refusal outside rest) (record { main = main; board = board; names = names; before = before; refused = refused; blocks = place (expected rest) ++ blocks_in false rest; opened = unopened (place (expected rest)) ++ opened_in false rest; risky = any_at_risk rest })
+    unless (first_refusal outside rest) (record { main = main; board = board; names = names; before = before; refused = refused; blocks = place (expected rest) ++ blocks_in false rest; opened = unopened (place (expected rest)) ++ opened_in false rest; rules = rules_in false rest; risky = any_at_risk rest })
 
 -- a command before the bus declares something, or makes the bus, and then the blocks follow; what a script would refuse does nothing. `before` has the numbers of the commands so far, and `refused` those of the refused ones.
 -- Or the first line by which the file is refused, by its number, or why the file is refused at its end
@@ -204,6 +218,10 @@ tracks_of tracks = map steps_of tracks
 abbrev pub blocks_of : List (Vec (Vec Line)) → List (List (List Step))
 blocks_of blocks = map (λ (block : Vec (Vec Line)). tracks_of block.items) blocks
 
+-- the rules of a plan by their parts
+abbrev pub rules_of : Rules → BlockRules
+rules_of rules = record { risk = rules.risk; always = rules.lasting.items }
+
 -- a plan is what an outline asks for
 pub record IsPlanOf (outline : Outline) (plan : Plan) : Type 0 where
   pub start : IsStartOf outline plan.start
@@ -211,6 +229,7 @@ pub record IsPlanOf (outline : Outline) (plan : Plan) : Type 0 where
   pub refused : plan.refused.items ≡ outline.refused
   pub blocks : blocks_of plan.blocks.items ≡ outline.blocks
   pub opened : plan.opened.items ≡ outline.opened
+  pub rules : map rules_of plan.rules.items ≡ outline.rules
   pub risky : plan.risky ≡ outline.risky
 
 -- the plan of a file's lines: a bus at its start, the numbers of the lines before it, and the blocks of lines that run from there

@@ -8,7 +8,7 @@ use crate::open_block::OpenBlock;
 use crate::refusal::Reason;
 use i3c_facts::{Fact, Facts, Mark};
 use i3c_lines::{Command, Name};
-use i3c_scene::{Expectation, Line, Risk, Scene};
+use i3c_scene::{Expectation, Line, Risk, Rules, Scene};
 use std::alloc::{AllocError, Global};
 use std::mem;
 
@@ -21,6 +21,8 @@ pub(crate) struct Blocks {
     pub blocks: Vec<Vec<Vec<Line>>>,
     /// Which of them were opened by a line.
     pub opened: Vec<bool>,
+    /// What holds of each line in these.
+    pub rules: Vec<Rules>,
     /// Whether a device may lose power in one of them.
     pub risky: bool,
 }
@@ -34,6 +36,8 @@ pub(crate) struct Body {
     blocks: Vec<Vec<Vec<Line>>>,
     // which of these were opened by a line
     opened: Vec<bool>,
+    // what holds of each line in these
+    rules: Vec<Rules>,
     // whether a device may lose power in one of them
     risky: bool,
     // the block that is open
@@ -115,12 +119,12 @@ fn refused_outside(mark: &Mark) -> Option<Reason>
 }
 
 impl Body {
-    ghost use Rattle.std.specs.Prelude.{◌≡◌, ◌++◌, [], ℕ, List, None, Some, IfOk, MatchOption, OnOk, option_map, false};
+    ghost use Rattle.std.specs.Prelude.{◌≡◌, ◌++◌, [], ℕ, List, None, Some, IfOk, MatchOption, OnOk, map, option_map, false};
     ghost use Rattle.i3c_lines.specs.declared.command.Command.{Command as CommandValue};
     ghost use Rattle.i3c_facts.specs.declared.marks.Mark.{Mark as MarkValue};
     ghost use Rattle.i3c_tracks.specs.declared.file_line.FileLine.{FileLine as FileLineValue};
-    ghost use Rattle.i3c_tracks.specs.Planning.{blocks_of, step_of, tracks_of};
-    ghost use Rattle.i3c_tracks.specs.Drafting.{Adds, Holds, IsUnread, Puts, ReadsOn, Settles, TakesPlace, comes_to, here_of, opens, refusal_left, risks, with_expected};
+    ghost use Rattle.i3c_tracks.specs.Planning.{blocks_of, rules_of, step_of, tracks_of};
+    ghost use Rattle.i3c_tracks.specs.Drafting.{Adds, AddsClosed, Holds, IsUnread, Puts, ReadsOn, Settles, TakesPlace, all_rules, comes_to, here_of, open_of, opens, refusal_left, risks, with_expected};
     ghost use Rattle.i3c_tracks.specs.Refusing.{at_end, begins_track, has_command, is_in_track, misses_line, refuses_here, refuses_mark_there, refuses_there};
     ghost use Rattle.i3c_tracks.specs.declared.refusal.Reason.{Reason as ReasonValue};
 
@@ -134,6 +138,7 @@ impl Body {
             start,
             blocks: Vec::new(alloc),
             opened: Vec::new(alloc),
+            rules: Vec::new(alloc),
             risky: false,
             block: None,
             held: None,
@@ -302,18 +307,25 @@ impl Body {
     }
 
     /// `close`: the block is added.
+    #[tactic(auto, using(crate::proofs::Reading::close_rules))]
     fn close(&mut self) -> Result<(), AllocError>
         requires { refuses_mark_there (here_of self.old).block MarkValue.Close ≡ None }
         ensures { OnOk result ((number : ℕ) → ReadsOn self.old (number, FileLineValue.Marks MarkValue.Close) self.new) }
     {
         self.settle()?;
         match mem::replace(&mut self.block, None) {
-            Some(open) => {
-                let tracks = open.close()?;
-                self.add_block(tracks, true)
-            }
+            Some(open) => self.add_closed(open),
             None => Ok(()),
         }
+    }
+
+    /// Adds a block that a line opened, and what holds of each of its lines.
+    fn add_closed(&mut self, block: OpenBlock) -> Result<(), AllocError>
+        ensures { OnOk result (AddsClosed self.old (open_of block) self.new) }
+    {
+        let (tracks, rules) = block.close()?;
+        self.rules.push(rules)?;
+        self.add_block(tracks, true)
     }
 
     /// Adds a block, which a line opened or which is one line by itself.
@@ -360,7 +372,7 @@ impl Body {
     /// The blocks, after the last line, if none is open.
     pub(crate) fn finish(self) -> Result<Option<Blocks>, AllocError>
         ensures { IfOk result (λ found. MatchOption found (refusal_left self [] ≡ Some (at_end ReasonValue.NoClose))
-            (λ blocks. (blocks.start ≡ self.start) × (refusal_left self [] ≡ None) × (blocks_of blocks.blocks.items ≡ comes_to self []) × (blocks.opened.items ≡ opens self []) × (blocks.risky ≡ risks self []))) }
+            (λ blocks. (blocks.start ≡ self.start) × (refusal_left self [] ≡ None) × (blocks_of blocks.blocks.items ≡ comes_to self []) × (blocks.opened.items ≡ opens self []) × (map rules_of blocks.rules.items ≡ all_rules self []) × (blocks.risky ≡ risks self []))) }
     {
         let mut body = self;
         if body.block.is_some() {
@@ -371,6 +383,7 @@ impl Body {
             start: body.start,
             blocks: body.blocks,
             opened: body.opened,
+            rules: body.rules,
             risky: body.risky,
         }))
     }

@@ -155,6 +155,7 @@ impl Draft {
                 refused: front.refused,
                 blocks: found.blocks,
                 opened: found.opened,
+                rules: found.rules,
                 risky: found.risky,
             }),
             None => Err(PlanFault::of_file(Reason::NoClose)),

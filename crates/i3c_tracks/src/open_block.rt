@@ -6,7 +6,7 @@ ghost use Rattle.i3c_tracks.specs.Planning.{step_of};
 use crate::refusal::Reason;
 use i3c_facts::Mark;
 use i3c_lines::{Command, Name, Sent};
-use i3c_scene::{Expectation, Line, Risk};
+use i3c_scene::{Expectation, Line, Risk, Rules};
 use std::alloc::{AllocError, Global};
 use std::mem;
 
@@ -135,7 +135,7 @@ impl OpenBlock {
     ghost use Rattle.i3c_tracks.specs.Refusing.{is_full, is_risky, one_line, one_risk, one_track, opened_block, refuses_command, refuses_mark, risk_of, with_more};
     ghost use Rattle.i3c_tracks.specs.Drafting.{all_tracks, awaited, inside_of, open_of, with_line};
     ghost use Rattle.i3c_scene.specs.declared.risk.Risk.{Risk as RiskValue};
-    ghost use Rattle.i3c_tracks.specs.Planning.{step_of, tracks_of};
+    ghost use Rattle.i3c_tracks.specs.Planning.{rules_of, step_of, tracks_of};
 
     /// A block before its first line.
     pub(crate) fn new(alloc: Global) -> OpenBlock
@@ -266,12 +266,17 @@ impl OpenBlock {
         }
     }
 
-    /// The tracks of the block, which is closed.
-    pub(crate) fn close(self) -> Result<Vec<Vec<Line>>, AllocError>
-        ensures { IfOk result (λ tracks. tracks_of tracks.items ≡ all_tracks (open_of self).tracks (open_of self).last) }
+    /// The tracks of the block, which is closed, and what holds of each of its lines.
+    pub(crate) fn close(self) -> Result<(Vec<Vec<Line>>, Rules), AllocError>
+        ensures tracks { IfOk result (λ closed. tracks_of closed.0.items ≡ all_tracks (open_of self).tracks (open_of self).last) }
+        ensures rules { IfOk result (λ closed. rules_of closed.1 ≡ record { risk = self.risk; always = self.always.items }) }
     {
         let mut block = self;
         block.end_track()?;
-        Ok(block.tracks)
+        let rules = Rules {
+            risk: block.risk,
+            lasting: block.always,
+        };
+        Ok((block.tracks, rules))
     }
 }

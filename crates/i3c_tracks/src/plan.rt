@@ -3,7 +3,7 @@ ghost use Rattle.i3c_tracks.specs.Planning.{HasNoPlan, IsPlan};
 
 use crate::draft::Draft;
 use crate::refusal::{Reason, Refusal};
-use i3c_scene::{Line, Scene};
+use i3c_scene::{Line, Rules, Scene};
 use std::alloc::{AllocError, Global};
 
 /// What a file asks to be explored.
@@ -19,6 +19,8 @@ pub struct Plan {
     pub blocks: Vec<Vec<Vec<Line>>>,
     /// Which of the blocks were opened by a line.
     pub opened: Vec<bool>,
+    /// What holds of each line in these.
+    pub rules: Vec<Rules>,
     /// Whether a device may lose power in one of them.
     pub risky: bool,
 }

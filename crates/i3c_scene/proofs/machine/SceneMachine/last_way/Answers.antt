@@ -6,4 +6,4 @@ use Rattle.i3c_scene.proofs.machine.SceneMachine.last_way.Goals as goal
 pub returns-clause-last : goal.returns-clause-last
 returns-clause-last c way =
     let (tried, le, leads, quiet) = line_late c.args.self.now c.args.line.now way in
-    (tried, subst (λ (n : ℕ). tried ≤ n) (sym c.latest.ensures.way) le, leads, quiet)
+    (tried, subst (λ (n : ℕ). tried ≤ n) (sym c.latest_of_line.ensures.way) le, leads, quiet)

@@ -8,6 +8,7 @@ returns c = record {
   start = c.take_place-risk.ensures.start ∙ c.in_ok-settle.ensures.start;
   blocks = search rules;
   opened = search rules;
+  rules = search rules;
   risky = search rules;
   here = command_here c.args.self.now c.settle.new.self c.take_place-risk.new.self c.in_ok-settle.ensures c.take_place-risk.ensures.inside;
 }

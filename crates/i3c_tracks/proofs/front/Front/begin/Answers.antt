@@ -21,7 +21,7 @@ returns-in-Ok c =
     let board : c.replace-legacies.result ≡ old.legacies = cc in
     let given : is_some (place_in old.names.items name) ≡ false = cc in
     let capable : is_capable setup.identity.bcr ≡ true = search rules in (
-      record { main = setup; board = old.legacies; names = old.names.items ++ named name (Place.Slot 0) ∷ []; before = []; refused = []; blocks = []; opened = []; risky = false },
+      record { main = setup; board = old.legacies; names = old.names.items ++ named name (Place.Slot 0) ∷ []; before = []; refused = []; blocks = []; opened = []; rules = []; risky = false },
       record { state = subst (λ (b : Board). IsStart setup b scene.state) board start.start; settings = start.settings; cuts = start.cuts; names = names },
       λ before rest. begun_by old.legacies old.names.items name setup c.args.number before old.refused.items rest given capable,
     )

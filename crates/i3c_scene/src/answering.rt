@@ -1,0 +1,54 @@
+use crate::program_line::ProgramLine;
+use crate::reply::Reply;
+use crate::rules::Rules;
+use crate::scene::Scene;
+use i3c_every::Answering;
+use i3c_orders::Step;
+use std::alloc::{AllocError, Global};
+
+impl Answering for Scene {
+    ghost use Rattle.std.specs.Prelude.{◌≡◌, IfOk};
+    ghost use Rattle.i3c_scene.specs.Replying.{IsSight, LineReplies};
+
+    type Rules = Rules;
+
+    type ProgramLine = ProgramLine;
+
+    type Answer = Reply;
+
+    ghost answers = { LineReplies };
+
+    ghost sees = { IsSight };
+
+    fn last_answer(&self, rules: &Rules, line: &ProgramLine) -> usize {
+        self.latest(&rules.risk, line.command())
+    }
+
+    fn answer(
+        &self,
+        alloc: Global,
+        rules: &Rules,
+        line: &ProgramLine,
+        way: usize,
+    ) -> Result<Step<Scene, Reply>, AllocError> {
+        let command = line.command();
+        let tried = self.ways_tried(&rules.risk, command, way);
+        let mut live = self.wake(alloc)?;
+        let answer = live.reply(alloc, rules, command, tried)?;
+        let state = live.kept(alloc)?;
+        Ok(Step { answer, state })
+    }
+
+    fn look(&self, alloc: Global) -> Result<Reply, AllocError> {
+        let live = self.wake(alloc)?;
+        live.sight(alloc)
+    }
+
+    fn is_same_answer(one: &Reply, other: &Reply) -> bool {
+        one.is_same(other)
+    }
+
+    fn is_same_line(one: &ProgramLine, other: &ProgramLine) -> bool {
+        one.text() == other.text()
+    }
+}
