@@ -12,8 +12,8 @@ use std::alloc::{AllocError, Global};
 ///
 /// # Errors
 ///
-/// `Breaks` has an order that breaks an expectation: first of the lines that are left in the tracks, and, if it has all of
-/// these, then of the blocks. `Most` comes where a limit is exceeded.
+/// `Breaks` has an order that breaks an expectation at its last line: of lines that are left in the tracks; or of all of these,
+/// and then of the blocks. `Most` comes where a limit is exceeded, in the tracks or behind one order of them.
 pub fn close<M: Answering>(
     alloc: Global,
     tracks: &Tracks<M>,

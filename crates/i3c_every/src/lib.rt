@@ -17,7 +17,7 @@
 //! Before a line that meets them any number of the tracks' lines run, in any interleaving and each in any way. In a wait at
 //! least one runs, if one is left. The line goes any way too. Each of these orders and ways is told (`AreMet` in
 //! specs/Meeting.antt). Where two of them tell the same, and lead to equal states at the same places, one step is kept: the
-//! program can't tell them apart, and they have the same future.
+//! program can't tell them apart, and they have the same possible futures.
 //!
 //! [`programs_meet_every_order`] is the theorem, for each program that is determined by its answers. Where
 //! [`Orders::again`](i3c_orders::Orders::again) answers that no run is left, each line of the program met every order in every

@@ -21,7 +21,7 @@ pub struct Tracks<M: Answering> {
     pub rules: M::Rules,
     /// The lines of the tracks.
     pub lines: Vec<Vec<M::Line>>,
-    /// What may be run, and kept, before a line of the program.
+    /// What may be run, and kept, before a line of the program; and in `close`, in the tracks and behind each order of them.
     pub limits: Limits,
 }
 

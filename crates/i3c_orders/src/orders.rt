@@ -44,7 +44,7 @@ impl<L, S, A> Model for Orders<L, S, A> {
 
 impl<L: Drop, S: Drop, A: Drop> Orders<L, S, A> {
     ghost use Rattle.std.specs.Prelude.{◌≡◌, [], take, option_copied};
-    ghost use Rattle.i3c_orders.specs.Paths.{Ends, last_step, tree};
+    ghost use Rattle.i3c_orders.specs.Paths.{Ends, last_step, state_behind, tree};
 
     /// Before the first run: each begins in this state.
     pub fn new(alloc: Global, start: S) -> Orders<L, S, A>
@@ -64,6 +64,13 @@ impl<L: Drop, S: Drop, A: Drop> Orders<L, S, A> {
         &self.path[..self.at]
     }
 
+    /// The state that this run has come to.
+    pub fn state(&self) -> &S
+        ensures { result.now ≡ state_behind self.now.start (take self.now.at self.now.path) }
+    {
+        last_state(&self.start, self.choices())
+    }
+
     /// The newest answer of this run, with the state behind it: none before the first line.
     pub fn newest(&self) -> Option<&Step<S, A>>
         ensures { option_copied result ≡ last_step (take self.now.at self.now.path) }
@@ -75,7 +82,8 @@ impl<L: Drop, S: Drop, A: Drop> Orders<L, S, A> {
         }
     }
 
-    /// This run is over, and the next one begins: answers whether there is one. If all were tried, they begin again.
+    /// This run is over, and the next one begins: answers whether there is one. If all were tried, they begin again. Behind a
+    /// line that wasn't answered a run isn't over: then this says nothing of the runs that go on there.
     ///
     /// # Errors
     ///
@@ -197,8 +205,8 @@ fn steps_behind<M: Responder>(
 }
 
 /// The state behind a path.
-fn last_state<'a, L, S, A>(start: &'a S, path: &'a Vec<Choice<L, S, A>>) -> &'a S
-    ensures { result.now ≡ state_behind start.now path.now.items }
+fn last_state<'a, L, S, A>(start: &'a S, path: &'a [Choice<L, S, A>]) -> &'a S
+    ensures { result.now ≡ state_behind start.now path.now }
 {
     match path.last() {
         Some(choice) => &choice.taken.state,

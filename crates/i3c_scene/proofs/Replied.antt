@@ -1,6 +1,7 @@
 -- What a program is answered in the ways that are tried.
 use Rattle.std.proofs.Common.{◌≡◌, ◌∙◌, ◌+◌, ℕ, List, [], Option, None, Some, Result, Ok, Err, ap, length, subst, sym}
-use Rattle.std.specs.Prelude.{drop}
+use Rattle.std.specs.Prelude.{drop, true}
+use Rattle.std.proofs.lemmas.Bool.{false≢true}
 use Rattle.i3c_facts.specs.Hearing.{came_to, result_of}
 use Rattle.i3c_lines.specs.declared.command.Command.{Command}
 use Rattle.i3c_lines.specs.declared.refusals.Refusal.{Refusal}
@@ -13,7 +14,8 @@ use Rattle.i3c_script.proofs.Hearing.{list_heard}
 use Rattle.i3c_text.specs.declared.line_error.LineError.{LineError}
 use Rattle.i3c_scene.specs.declared.rules.Rules.{Rules}
 use Rattle.i3c_scene.specs.declared.ways.Ways.{Ways}
-use Rattle.i3c_scene.specs.Replying.{IsReply, IsToldBehind, LineReplies, Replied, replied}
+use Rattle.i3c_scene.specs.Frames.{sends_many, tells_past}
+use Rattle.i3c_scene.specs.Replying.{IsReply, IsToldBehind, LineReplies, MaySend, Replied, replied}
 use Rattle.i3c_scene.specs.Scenes.{Seen}
 use Rattle.i3c_scene.specs.Trying.{DoesIn, IsEndOf, ways_of}
 use Rattle.i3c_scene.specs.Latest.{tried_as}
@@ -23,6 +25,13 @@ use Rattle.i3c_scene.proofs.Late.{does_tried}
 -- a line asks for one command
 pub one_command : (line : List ℕ) (one other : Command) → IsCommand line one → IsCommand line other → one ≡ other
 one_command line one other first second = sym (meant_is (tokens_of line) one first.1) ∙ meant_is (tokens_of line) other second.1
+
+-- a program may not send a line of several frames, nor one that asks for the past
+pub many_unsent : (line : List ℕ) (one other : Command) → IsCommand line one → sends_many one ≡ true → MaySend line other → ⊥
+many_unsent line one other is many (may, few, now) = false≢true (sym few ∙ subst (λ (c : Command). sends_many c ≡ true) (one_command line one other is may) many)
+
+pub past_unsent : (line : List ℕ) (one other : Command) → IsCommand line one → tells_past one ≡ true → MaySend line other → ⊥
+past_unsent line one other is past (may, few, now) = false≢true (sym now ∙ subst (λ (c : Command). tells_past c ≡ true) (one_command line one other is may) past)
 
 -- two replies with the same parts are the same
 pub same_reply : (one other : Replied) → (one.pieces ≡ other.pieces) × (one.refused ≡ other.refused) → (one.behind ≡ other.behind) × (one.added ≡ other.added) → one.asking ≡ other.asking → (one.unmet ≡ other.unmet) × (one.there ≡ other.there) → one ≡ other
@@ -52,14 +61,14 @@ listed_so Is (Err (LineError.Refused why)) (Some other) start heard none (pieces
 listed_so Is (Err LineError.Memory) refused start heard none told ended = absurd ended
 
 -- a line that was obeyed, and what is told behind it
-pub reply_told : (rules : Rules) (old : Seen) (command : Command) (ways : Ways) (count : ℕ) (live : Seen) (pieces : List Piece) (refused : Option Refusal) (begun reply : Replied) → count ≡ length old.state.records
-    → begun ≡ replied pieces refused 0 [] [] None [] → DoesIn old command rules.risk ways pieces refused live → IsToldBehind rules count live begun reply → IsReply rules old command ways reply live
-reply_told rules old command ways count live pieces refused begun reply counted is does told =
+pub reply_told : (rules : Rules) (old : Seen) (command : Command) (ways : Ways) (count behind : ℕ) (live : Seen) (pieces : List Piece) (refused : Option Refusal) (begun reply : Replied) → count ≡ length old.state.records → behind ≡ old.settings.forgotten + count
+    → begun ≡ replied pieces refused behind [] [] None [] → DoesIn old command rules.risk ways pieces refused live → IsToldBehind rules count live begun reply → IsReply rules old command ways reply live
+reply_told rules old command ways count behind live pieces refused begun reply counted summed is does told =
     let pieces_is : reply.pieces ≡ pieces = told.pieces ∙ ap (λ (r : Replied). r.pieces) is in
     let refused_is : reply.refused ≡ refused = told.refused ∙ ap (λ (r : Replied). r.refused) is in
     record {
       does = subst (λ (ps : List Piece). DoesIn old command rules.risk ways ps reply.refused live) (sym pieces_is) (subst (λ (r : Option Refusal). DoesIn old command rules.risk ways pieces r live) (sym refused_is) does);
-      behind = told.behind ∙ ap (λ (n : ℕ). live.settings.forgotten + n) counted;
+      behind = told.behind ∙ ap (λ (r : Replied). r.behind) is ∙ summed ∙ ap (λ (n : ℕ). old.settings.forgotten + n) counted;
       added = told.added ∙ ap (λ (n : ℕ). drop n live.state.records) counted;
       asking = told.asking;
       unmet = subst (λ (ps : List Piece). IsTold live (came_to ps reply.refused) rules.lasting.items reply.unmet reply.there) (sym told.pieces) (subst (λ (r : Option Refusal). IsTold live (came_to begun.pieces r) rules.lasting.items reply.unmet reply.there) (sym told.refused) told.unmet);

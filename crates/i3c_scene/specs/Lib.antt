@@ -7,4 +7,5 @@ pub mod Unmet
 pub mod Latest
 pub mod Near
 pub mod PlaceCodes
+pub mod Frames
 pub mod Replying

@@ -8,10 +8,12 @@
 //! * `machine` tries the lines, each in every way that can matter.
 //! * `scene_names` is what names stand for, `named` one of them, and `place_byte` what it stands for, in a byte.
 //! * `showing` prints a scene, and what is unmet there.
+//! * `frames` says which commands send frames.
 //! * `answering` answers a program's line (`program_line`) under its `rules`: `replying` makes the `reply`.
 #![tactic(auto)]
 
 mod answering;
+mod frames;
 mod line;
 mod machine;
 mod named;
@@ -28,6 +30,7 @@ mod scene_names;
 mod showing;
 mod ways;
 
+pub use frames::{sends_frame, sends_many};
 pub use line::{Expectation, Line};
 pub use named::{Named, place_in};
 pub use place_byte::PlaceByte;

@@ -31,14 +31,20 @@ impl Reply {
     ghost use Rattle.std.specs.Prelude.{◌≡◌, [], IsTrue, None};
     ghost use Rattle.i3c_scene.specs.Replying.{replied};
 
-    /// A reply to a line that came to these pieces, and was refused or not. What else it tells isn't known yet.
-    pub(crate) fn begun(alloc: Global, pieces: PieceList, refused: Option<Refusal>) -> Reply
-        ensures { result ≡ replied pieces refused 0 [] [] None [] }
+    /// A reply to a line that came to these pieces, and was refused or not, with so many records before it. What else it tells
+    /// isn't known yet.
+    pub(crate) fn begun(
+        alloc: Global,
+        pieces: PieceList,
+        refused: Option<Refusal>,
+        behind: usize,
+    ) -> Reply
+        ensures { result ≡ replied pieces refused behind [] [] None [] }
     {
         Reply {
             pieces,
             refused,
-            behind: 0,
+            behind,
             added: Vec::new(alloc),
             asking: Vec::new(alloc),
             unmet: None,
@@ -74,7 +80,7 @@ impl Reply {
         self.added.as_slice()
     }
 
-    /// The names of the devices that ask now, by slot.
+    /// The names of the devices whose request would win the next arbitrable header, by slot: one, or all that want to join.
     pub fn asking(&self) -> &[Name]
         ensures { result.now ≡ self.now.asking }
     {

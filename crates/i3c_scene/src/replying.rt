@@ -33,10 +33,11 @@ impl SceneBus {
         ensures { IfOk result (λ reply. IsReply rules.now self.old command.now ways reply self.new) }
     {
         let count = self.bus().records().len();
+        let behind = sum_of(self.forgotten(), count)?;
         let mut pieces = PieceList::new(alloc);
         let outcome = self.obey_in(command, &rules.risk, ways, &mut pieces);
         let refused = refusal_of(outcome)?;
-        let mut reply = Reply::begun(alloc, pieces, refused);
+        let mut reply = Reply::begun(alloc, pieces, refused, behind);
         self.tell(alloc, rules, count, &mut reply)?;
         Ok(reply)
     }
@@ -55,7 +56,6 @@ impl SceneBus {
     {
         let before = before_of(reply.pieces.as_slice(), reply.refused);
         reply.unmet = self.print_unmet(&before, rules.lasting.as_slice(), &mut reply.there)?;
-        reply.behind = sum_of(self.forgotten(), count)?;
         reply.added = records_behind(alloc, self.bus().records(), count)?;
         reply.asking = self.askers(alloc)?;
         Ok(())
@@ -65,7 +65,7 @@ impl SceneBus {
     pub(crate) fn sight(&self, alloc: Global) -> Result<Reply, AllocError>
         ensures { IfOk result (IsSight self.now) }
     {
-        let mut reply = Reply::begun(alloc, PieceList::new(alloc), None);
+        let mut reply = Reply::begun(alloc, PieceList::new(alloc), None, 0);
         reply.asking = self.askers(alloc)?;
         Ok(reply)
     }

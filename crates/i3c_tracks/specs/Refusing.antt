@@ -5,28 +5,11 @@ use Rattle.i3c_facts.specs.declared.fact.Fact.{Fact}
 use Rattle.i3c_facts.specs.declared.marks.Mark.{Mark}
 use Rattle.i3c_lines.specs.declared.command.Command.{Command}
 use Rattle.i3c_lines.specs.declared.names.Name.{Name}
-use Rattle.i3c_lines.specs.declared.sent.Sent.{Sent}
-use Rattle.i3c_lines.specs.Sending.{has_frame}
 use Rattle.i3c_scene.specs.declared.risk.Risk.{Risk}
+use Rattle.i3c_scene.specs.Frames.{sends_frame, sends_many}
 use Rattle.i3c_tracks.specs.declared.refusal.Reason.{Reason}
 use Rattle.i3c_tracks.specs.declared.refusal.Refusal.{Refusal}
 use Rattle.i3c_tracks.specs.declared.file_line.FileLine.{FileLine}
-
--- whether a command sends a frame, in which a device may lose power
-abbrev pub sends_frame : Command → Bool
-sends_frame (Command.Frame frame) = true
-sends_frame (Command.HandOver to) = true
-sends_frame Command.Open = true
-sends_frame Command.Round = true
-sends_frame Command.Daa = true
-sends_frame (Command.As name sent) = has_frame sent
-sends_frame _ = false
-
--- whether a command sends several frames, between which no line of another track runs
-abbrev pub sends_many : Command → Bool
-sends_many Command.Daa = true
-sends_many (Command.As name Sent.Daa) = true
-sends_many _ = false
 
 -- whether a command has its place outside of blocks alone
 abbrev pub is_outer : Command → Bool

@@ -1,12 +1,12 @@
 ghost use Rattle.std.specs.Prelude.{◌≡◌, ◌∷◌, [], OnOk};
-ghost use Rattle.i3c_tracks.specs.Refusing.{is_full, is_outer, is_risky, sends_frame, sends_many, with_more};
+ghost use Rattle.i3c_tracks.specs.Refusing.{is_full, is_outer, is_risky, with_more};
 ghost use Rattle.i3c_tracks.specs.Drafting.{awaited};
 ghost use Rattle.i3c_tracks.specs.Planning.{step_of};
 
 use crate::refusal::Reason;
 use i3c_facts::Mark;
-use i3c_lines::{Command, Name, Sent};
-use i3c_scene::{Expectation, Line, Risk, Rules};
+use i3c_lines::{Command, Name};
+use i3c_scene::{Expectation, Line, Risk, Rules, sends_frame, sends_many};
 use std::alloc::{AllocError, Global};
 use std::mem;
 
@@ -31,35 +31,6 @@ pub(crate) struct OpenBlock {
     tracks_left: usize,
     /// How many lines its tracks may still get.
     lines_left: usize,
-}
-
-/// Whether a command sends a frame, in which a device may lose power.
-fn sends_frame(command: &Command) -> bool
-    ensures { result ≡ sends_frame command.now }
-{
-    match command {
-        Command::Frame(_)
-        | Command::HandOver { .. }
-        | Command::Open
-        | Command::Round
-        | Command::Daa => true,
-        Command::As { sent, .. } => sent.has_frame(),
-        _ => false,
-    }
-}
-
-/// Whether a command sends several frames, between which no line of another track runs.
-fn sends_many(command: &Command) -> bool
-    ensures { result ≡ sends_many command.now }
-{
-    matches!(
-        command,
-        Command::Daa
-            | Command::As {
-                sent: Sent::Daa,
-                ..
-            }
-    )
 }
 
 /// Whether a device is at risk.

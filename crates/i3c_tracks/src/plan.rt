@@ -19,7 +19,7 @@ pub struct Plan {
     pub blocks: Vec<Vec<Vec<Line>>>,
     /// Which of the blocks were opened by a line.
     pub opened: Vec<bool>,
-    /// What holds of each line in these.
+    /// The rules of each block that a line opened, in their order.
     pub rules: Vec<Rules>,
     /// Whether a device may lose power in one of them.
     pub risky: bool,

@@ -36,7 +36,7 @@ fn lines_of(alloc: Global, file: &[&str]) -> Result<Vec<Vec<u8>>, AllocError> {
     Ok(lines)
 }
 
-/// The blocks of a file: those in front of the one that a line opened, that one, and those behind it, the last one first.
+/// The blocks of a file: those in front of the one that a line opened, that one, and those behind it.
 #[derive(Drop)]
 struct Parts {
     before: Vec<Vec<Vec<Line>>>,
@@ -68,6 +68,7 @@ fn parted(
             rest.push(last)?;
         }
     }
+    rest.reverse();
     match before.pop() {
         Some(block) => Ok(Some(Parts {
             before,
@@ -128,6 +129,10 @@ pub(crate) fn read_scenario(alloc: Global, file: &[&str]) -> Result<Option<Scena
         mut rules,
         ..
     } = plan;
+    // a file with two blocks isn't taken
+    if rules.len() != 1 {
+        return Ok(None);
+    }
     let (Some(at), Some(rules)) = (opened_at(&opened), rules.pop()) else {
         return Ok(None);
     };
@@ -152,13 +157,10 @@ pub(crate) fn read_scenario(alloc: Global, file: &[&str]) -> Result<Option<Scena
 }
 
 impl Scenario {
-    /// Sends a line before which the tracks' lines may run. Answers whether it was taken.
-    pub(crate) fn meets(&mut self, text: &str) -> Result<bool, AllocError> {
-        if text.len() > 256 {
-            return Ok(false);
-        }
+    /// Sends a line. Answers whether it was taken.
+    pub(crate) fn says(&mut self, text: &str) -> Result<bool, AllocError> {
         match ProgramLine::read(self.alloc, text.as_bytes())? {
-            Some(line) => Ok(self.send(Sent::Meets(line)).is_ok()),
+            Some(line) => Ok(self.send(line.sent()).is_ok()),
             None => Ok(false),
         }
     }
@@ -190,11 +192,12 @@ impl Scenario {
         self.orders.choices().len()
     }
 
-    /// Runs what is left in the scene. Answers whether all leads on.
-    pub(crate) fn closes(&self) -> bool {
-        match self.orders.newest() {
-            Some(step) => close(self.alloc, &self.tracks, &self.rest, &step.state).is_ok(),
-            None => false,
+    /// Runs what is left in the scene: how many lines of it lead to a broken expectation, or none if all leads on.
+    pub(crate) fn closes(&self) -> Option<usize> {
+        match close(self.alloc, &self.tracks, &self.rest, self.orders.state()) {
+            Ok(()) => None,
+            Err(Stop::Breaks(order)) => Some(order.len()),
+            Err(_) => Some(99),
         }
     }
 

@@ -46,16 +46,16 @@ fn a_frame_meets_a_raise_or_comes_before_it(rt: HostRuntime) -> Result<(), Fail>
     let Some(mut scene) = read_scenario(rt.alloc(), &RAISE)? else {
         panic!(rt; "the scene has no plan");
     };
-    assert!(rt; scene.meets("serve")?);
-    let first = told(&scene);
-    assert!(rt; scene.closes());
-    assert!(rt; scene.again());
-    assert!(rt; scene.meets("serve")?);
-    let second = told(&scene);
-    assert!(rt; scene.closes());
-    assert!(rt; !scene.again());
-    assert!(rt; (first.0 == 0 && second.0 == 1) || (first.0 == 1 && second.0 == 0));
-    assert!(rt; first.1 == 0 && second.1 == 0);
+    let mut recorded = 0usize;
+    for more in [true, false] {
+        assert!(rt; scene.says("serve")?);
+        let (added, asking) = told(&scene);
+        recorded = recorded.saturating_add(added);
+        assert!(rt; asking == 0);
+        assert!(rt; scene.closes().is_none());
+        assert!(rt; scene.again() == more);
+    }
+    assert!(rt; recorded == 1);
     Ok(())
 }
 
@@ -67,7 +67,7 @@ fn a_program_that_waits_has_one_run(rt: HostRuntime) -> Result<(), Fail> {
     };
     assert!(rt; scene.waits());
     assert!(rt; has_happened(&scene));
-    assert!(rt; scene.meets("serve")?);
+    assert!(rt; scene.says("serve")?);
     assert!(rt; told(&scene) == (1, 0));
     assert!(rt; scene.waits());
     assert!(rt; !is_left(&scene));
@@ -76,9 +76,40 @@ fn a_program_that_waits_has_one_run(rt: HostRuntime) -> Result<(), Fail> {
     Ok(())
 }
 
-// behind the block it is expected that nothing waits: so it is only where the frame met the raise
+// behind the block it is expected that nothing waits, and then that somebody asks. Where the frame met the raise, the first of
+// these places holds and the second doesn't: it is the second line of what is left. Where it came before, the raise is left: it
+// is the first line, and the first place is broken behind it
 #[test]
-fn what_is_left_may_break_an_expectation(rt: HostRuntime) -> Result<(), Fail> {
+fn what_is_left_breaks_an_expectation(rt: HostRuntime) -> Result<(), Fail> {
+    let file = [
+        RAISE[0],
+        RAISE[1],
+        RAISE[2],
+        RAISE[3],
+        RAISE[4],
+        RAISE[5],
+        RAISE[6],
+        "expect waiting 0",
+        "policy all",
+        "expect asking light",
+    ];
+    let Some(mut scene) = read_scenario(rt.alloc(), &file)? else {
+        panic!(rt; "the scene has no plan");
+    };
+    for more in [true, false] {
+        assert!(rt; scene.says("serve")?);
+        let (added, _) = told(&scene);
+        // one line that is left, or none, and then the place at which nothing may wait, or that and `policy`
+        assert!(rt; added <= 1);
+        assert!(rt; scene.closes() == Some(2));
+        assert!(rt; scene.again() == more);
+    }
+    Ok(())
+}
+
+// a run without a line: the raise is left, and waits behind the block
+#[test]
+fn a_run_without_lines_is_closed(rt: HostRuntime) -> Result<(), Fail> {
     let file = [
         RAISE[0],
         RAISE[1],
@@ -92,16 +123,12 @@ fn what_is_left_may_break_an_expectation(rt: HostRuntime) -> Result<(), Fail> {
     let Some(mut scene) = read_scenario(rt.alloc(), &file)? else {
         panic!(rt; "the scene has no plan");
     };
-    for _ in 0..2 {
-        assert!(rt; scene.meets("serve")?);
-        let (added, _) = told(&scene);
-        assert!(rt; scene.closes() == (added == 1));
-        scene.again();
-    }
+    assert!(rt; scene.closes() == Some(2));
+    assert!(rt; !scene.again());
     Ok(())
 }
 
-// an `always` of the block holds behind the program's lines too
+// an `always` of the block holds behind the program's lines too: it is broken where the frame records the interrupt
 #[test]
 fn a_line_of_the_program_may_break_what_always_holds(rt: HostRuntime) -> Result<(), Fail> {
     let file = [
@@ -117,25 +144,27 @@ fn a_line_of_the_program_may_break_what_always_holds(rt: HostRuntime) -> Result<
     let Some(mut scene) = read_scenario(rt.alloc(), &file)? else {
         panic!(rt; "the scene has no plan");
     };
-    for _ in 0..2 {
-        assert!(rt; scene.meets("serve")?);
-        let (added, _) = told(&scene);
-        match scene.reply() {
-            Some(reply) => {
-                assert!(rt; reply.unmet() == if added == 1 { Some(5) } else { None });
-                assert!(rt;
-                    reply.there()
-                        == if added == 1 {
-                            b"records 1".as_slice()
-                        } else {
-                            b"".as_slice()
-                        }
-                );
+    let mut broken = 0usize;
+    for more in [true, false] {
+        assert!(rt; scene.says("serve")?);
+        let Some(reply) = scene.reply() else {
+            panic!(rt; "the program wasn't answered");
+        };
+        match reply.unmet() {
+            Some(line) => {
+                assert!(rt; line == 5);
+                assert!(rt; reply.there() == b"records 1");
+                assert!(rt; reply.added().len() == 1);
+                broken = broken.saturating_add(1);
             }
-            None => panic!(rt; "the program wasn't answered"),
+            None => {
+                assert!(rt; reply.there().is_empty());
+                assert!(rt; reply.added().is_empty());
+            }
         }
-        scene.again();
+        assert!(rt; scene.again() == more);
     }
+    assert!(rt; broken == 1);
     Ok(())
 }
 
@@ -156,15 +185,32 @@ fn a_device_at_risk_is_there_or_gone(rt: HostRuntime) -> Result<(), Fail> {
     let Some(mut scene) = read_scenario(rt.alloc(), &file)? else {
         panic!(rt; "the scene has no plan");
     };
-    let mut runs = 1usize;
-    for _ in 0..9 {
-        assert!(rt; scene.meets("serve")?);
+    for more in [true, true, false] {
+        assert!(rt; scene.says("serve")?);
         assert!(rt; told(&scene) == (0, 0));
-        if !scene.again() {
-            break;
-        }
-        runs = runs.saturating_add(1);
+        assert!(rt; scene.again() == more);
     }
-    assert!(rt; runs == 3);
+    Ok(())
+}
+
+// a whole assignment sends several frames, and `symbols` asks for the past: no program sends them here
+#[test]
+fn lines_of_several_frames_and_of_the_past_are_not_taken(rt: HostRuntime) -> Result<(), Fail> {
+    let Some(mut scene) = read_scenario(rt.alloc(), &RAISE)? else {
+        panic!(rt; "the scene has no plan");
+    };
+    for line in [
+        "daa",
+        "as hub daa",
+        "symbols",
+        "frames 1",
+        "show all",
+        "",
+        "# no",
+    ] {
+        assert!(rt; !scene.says(line)?);
+    }
+    assert!(rt; scene.says("show")?);
+    assert!(rt; scene.sent() == 1);
     Ok(())
 }

@@ -1,11 +1,11 @@
-use Rattle.std.proofs.Common.{Some, ◌≡◌, ◌-◌, length, subst, sym}
+use Rattle.std.proofs.Common.{Some, ◌≡◌, ◌-◌, length, sym}
 use Rattle.std.specs.List.{slice_get}
 use Rattle.i3c_orders.proofs.Ending.{end_is}
 use Rattle.i3c_orders.proofs.orders.last_state.Goals as goal
 
 pub returns-in-Some : goal.returns-in-Some
 returns-in-Some g c =
-    let path = c.args.path.now.items in
+    let path = c.args.path.now in
     let choice = c.in-Some.choice.now in
-    let last : slice_get path (length path - 1) ≡ Some choice = subst (λ l. slice_get l (length l - 1) ≡ Some choice) c.deref.ensures.value (sym c.in-Some.ensures.value) in
+    let last : slice_get path (length path - 1) ≡ Some choice = sym c.in-Some.ensures.value in
     sym (end_is c.args.start.now path choice last)

@@ -11,5 +11,5 @@ returns-clause-last c way =
     let (tried, (le, leads)) = command_late c.args.self.now command rules.risk way in (
       tried,
       subst (λ (n : ℕ). tried ≤ n) (sym c.latest.ensures.way) le,
-      λ answer new replies. line_replies rules c.args.self.now c.args.line.now command tried way answer new c.command.ensures leads replies,
+      λ answer new replies. line_replies rules c.args.self.now c.args.line.now command tried way answer new c.command.ensures.0 leads replies,
     )
