@@ -153,7 +153,7 @@ fn a_line_of_the_program_may_break_what_always_holds(rt: HostRuntime) -> Result<
         match reply.unmet() {
             Some(line) => {
                 assert!(rt; line == 5);
-                assert!(rt; reply.there() == b"records 1");
+                assert!(rt; reply.there() == b"records 1".as_slice());
                 assert!(rt; reply.added().len() == 1);
                 broken = broken.saturating_add(1);
             }
