@@ -277,7 +277,7 @@ impl Driver {
 }
 
 /// Whether two lists have the same names in the same order.
-fn are_same(names: &[Name], others: &[Name]) -> bool
+pub fn are_same(names: &[Name], others: &[Name]) -> bool
     ensures { IsTrue result ↔ (names.now ≡ others.now) }
 {
     if names.len() != others.len() {
@@ -299,7 +299,7 @@ fn news(changed: bool, asking: &[Name]) -> Option<&[Name]>
 }
 
 /// Appends the line of the devices that ask, if they have changed.
-fn push_news(changed: bool, asking: &[Name], answer: &mut Text) -> Result<(), AllocError>
+pub fn push_news(changed: bool, asking: &[Name], answer: &mut Text) -> Result<(), AllocError>
     ensures { OnOk result (answer.new ≡ answer.old ++ news_text (news_of changed asking.now)) }
 {
     if !changed {
@@ -349,7 +349,7 @@ fn refusals(refused: &Option<Refusal>) -> u64
 }
 
 /// Appends the last line of an answer.
-fn push_last(number: u64, refused: &Option<Refusal>, answer: &mut Text) -> Result<(), AllocError>
+pub fn push_last(number: u64, refused: &Option<Refusal>, answer: &mut Text) -> Result<(), AllocError>
     ensures { OnOk result (answer.new ≡ answer.old ++ last_line number refused.now) }
 {
     match refused {

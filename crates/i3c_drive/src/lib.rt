@@ -9,6 +9,6 @@ mod input;
 mod interpreter;
 mod laws;
 
-pub use driver::run_driven;
+pub use driver::{are_same, push_last, push_news, run_driven};
 pub use i3c_streams::Form;
 pub use laws::answered_lines_lead;
