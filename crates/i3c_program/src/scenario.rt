@@ -83,11 +83,16 @@ fn scenario_of(
     let (Some(at), Some(rules)) = (only_opened(&opened), rules.pop()) else {
         return Err(NoScenario::NotOneBlock);
     };
-    let rest = blocks.split_off(at + 1)?;
+    let Ok(rest) = blocks.split_off(at + 1) else {
+        return Err(NoScenario::Memory);
+    };
     let Some(block) = blocks.pop() else {
         return Err(NoScenario::NotOneBlock);
     };
-    let scene = scene_behind(alloc, start, &blocks, limits)?;
+    let scene = match scene_behind(alloc, start, &blocks, limits) {
+        Ok(scene) => scene,
+        Err(why) => return Err(why),
+    };
     Ok(Scenario {
         lines,
         before,

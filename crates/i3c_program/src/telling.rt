@@ -1,6 +1,7 @@
 ghost use Rattle.std.specs.Prelude.{◌≡◌, ◌++◌, OnOk};
 ghost use Rattle.i3c_drive.specs.Steps.{news_of};
 ghost use Rattle.i3c_program.specs.Telling.{end_text, reply_in, told_text, unmet_text};
+ghost use Rattle.i3c_script.specs.Printed.{pieces_text};
 
 use crate::reason::Reason;
 use i3c_drive::{push_last, push_news};

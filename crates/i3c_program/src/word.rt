@@ -37,13 +37,13 @@ pub fn read_word(alloc: Global, line: &[u8]) -> Result<Word, AllocError>
         Ok(false) => {}
         Err(_) => return Ok(Word::Refused(Reason::BadLine)),
     }
-    if line == b"wait" {
+    if line == b"wait".as_slice() {
         return Ok(Word::Sends(Sent::Waits));
     }
-    if line == b"again" {
+    if line == b"again".as_slice() {
         return Ok(Word::Again);
     }
-    if line == b"script" {
+    if line == b"script".as_slice() {
         return Ok(Word::Script);
     }
     match Command::parse(line) {
