@@ -15,8 +15,8 @@ use Rattle.i3c_scene.specs.Scenes.{Seen, name_in}
 use Rattle.i3c_scene.specs.Trying.{DoesIn, ways_of}
 use Rattle.i3c_scene.specs.Unmet.{IsTold}
 
--- what a program is answered: what its line came to, and why it was refused, if it was; how many records there had been, and those
--- that it added; the names of the devices that ask now; and which expectation it breaks, if it breaks one, and what is there instead
+-- what a program is answered. First what its line came to, and why it was refused, if it was. Then how many records there had been,
+-- those that it added, and the names of the devices that ask now. Last, which expectation it breaks, if any, and what is there instead
 pub record Replied : Type 0 where
   pub pieces : List Piece
   pub refused : Option Refusal
