@@ -29,6 +29,9 @@ struct daskreyf {
     pid_t program;
     int to, from;
     bool gone;
+    bool every; /* every order of a scene */
+    bool over; /* no other order begins */
+    unsigned long order;
     uint64_t number; /* of the last line that was sent */
     char as[AS_ROOM]; /* what is put in front of the next line, or nothing */
     bool as_too_long;
@@ -71,6 +74,12 @@ static const char *const result_names[] = {
     [DASKREYF_TOO_LONG] = "TooLong",
     [DASKREYF_LIST_STALE] = "ListStale",
     [DASKREYF_NOT_ACTIVE] = "NotActive",
+    [DASKREYF_MANY_FRAMES] = "ManyFrames",
+    [DASKREYF_NO_PAST] = "NoPast",
+    [DASKREYF_UNMET] = "Unmet",
+    [DASKREYF_DIFFERS] = "Differs",
+    [DASKREYF_MOST] = "Most",
+    [DASKREYF_OVER] = "Over",
     [DASKREYF_REFUSED] = "Refused",
     [DASKREYF_BAD_ARGUMENT] = "BadArgument",
     [DASKREYF_GONE] = "Gone",
@@ -132,14 +141,17 @@ static bool open_pairs(int to[2], int from[2])
     return false;
 }
 
-static void become_program(const char *program, int input, int output)
+/* Runs the program with every order of a scene, or NULL. */
+static void become_program(const char *program, const char *scene, int input, int output)
 {
+    const char *every = scene ? "--every" : NULL;
+
     if (dup2(input, STDIN_FILENO) >= 0 && dup2(output, STDOUT_FILENO) >= 0)
-        execlp(program, program, "drive", (char *)NULL);
+        execlp(program, program, "drive", every, scene, (char *)NULL);
     _exit(NOT_RUN);
 }
 
-static bool start_program(struct daskreyf *bus, const char *program)
+static bool start_program(struct daskreyf *bus, const char *program, const char *scene)
 {
     int to[2], from[2];
 
@@ -147,7 +159,7 @@ static bool start_program(struct daskreyf *bus, const char *program)
         return false;
     bus->program = fork();
     if (bus->program == 0)
-        become_program(program, to[1], from[1]);
+        become_program(program, scene, to[1], from[1]);
     close(to[1]);
     close(from[1]);
     bus->to = to[0];
@@ -159,20 +171,31 @@ static bool start_program(struct daskreyf *bus, const char *program)
     return false;
 }
 
-struct daskreyf *daskreyf_start(const char *program)
+static struct daskreyf *start_bus(const char *program, const char *scene)
 {
     struct daskreyf *bus = calloc(1, sizeof *bus);
 
     if (!bus)
         return NULL;
+    bus->every = scene != NULL;
     bus->text = bus->why = "";
     bus->room = FIRST_ROOM;
     bus->answer = malloc(bus->room);
-    if (bus->answer && start_program(bus, program))
+    if (bus->answer && start_program(bus, program, scene))
         return bus;
     free(bus->answer);
     free(bus);
     return NULL;
+}
+
+struct daskreyf *daskreyf_start(const char *program)
+{
+    return start_bus(program, NULL);
+}
+
+struct daskreyf *daskreyf_every(const char *program, const char *scene)
+{
+    return start_bus(program, scene);
 }
 
 int daskreyf_close(struct daskreyf *bus)
@@ -374,20 +397,48 @@ static void take_served(struct daskreyf *bus, const char *sent)
         served->request = DASKREYF_WANTS_ROLE;
 }
 
-/* Takes the answer apart: its last line, who asks, the record, and what is left, which is what the line printed. */
+/* Who asks, the record, and what else the frame served. */
+static void take_frame(struct daskreyf *bus, const char *sent)
+{
+    take_asking(bus, sent);
+    take_served(bus, sent);
+}
+
+/* The same where an expectation doesn't hold. The line that says so is behind all that, and stays the text's last one. */
+static void take_unmet_frame(struct daskreyf *bus, const char *sent)
+{
+    char *unmet = bus->answer + (last_line(bus->text) - bus->answer);
+    char *end;
+
+    cut_line(bus, unmet);
+    take_frame(bus, sent);
+    if (!*bus->text) {
+        bus->text = unmet;
+        return;
+    }
+    end = bus->answer + (bus->text - bus->answer) + strlen(bus->text);
+    *end = '\n';
+    memmove(end + 1, unmet, strlen(unmet) + 1);
+}
+
+/* Takes the answer apart: its last line, what the frame did, and what is left, which is what the line printed. */
 static enum daskreyf_result take_answer(struct daskreyf *bus, const char *sent)
 {
+    enum daskreyf_result result = DASKREYF_OK;
     const char *last;
 
     bus->text = bus->answer;
     last = last_line(bus->text);
     cut_line(bus, last);
-    take_asking(bus, sent);
-    take_served(bus, sent);
-    if (begins(last, "ok "))
-        return DASKREYF_OK;
-    bus->why = strchr(strchr(last, ' ') + 1, ' ') + 1;
-    return refusal_named(bus->why);
+    if (!begins(last, "ok ")) {
+        bus->why = strchr(strchr(last, ' ') + 1, ' ') + 1;
+        result = refusal_named(bus->why);
+    }
+    if (result == DASKREYF_UNMET)
+        take_unmet_frame(bus, sent);
+    else
+        take_frame(bus, sent);
+    return result;
 }
 
 static enum daskreyf_result exchange(struct daskreyf *bus, const char *line)
@@ -814,12 +865,11 @@ static bool read_assigned(const char *line, struct daskreyf_assigned *assigned)
                &assigned->bcr, &assigned->dcr) == 4;
 }
 
-enum daskreyf_result daskreyf_daa(struct daskreyf *bus, struct daskreyf_assigned *assigned, size_t room, size_t *count)
+/* The devices that the last answer tells, behind the `count` that are there. */
+static void take_assigned(struct daskreyf *bus, struct daskreyf_assigned *assigned, size_t room, size_t *count)
 {
-    enum daskreyf_result result = daskreyf_line(bus, "daa");
     struct daskreyf_assigned one;
 
-    *count = 0;
     for (const char *line = bus->text; line; line = next_line(line)) {
         if (!read_assigned(line, &one))
             continue;
@@ -827,6 +877,63 @@ enum daskreyf_result daskreyf_daa(struct daskreyf *bus, struct daskreyf_assigned
             assigned[*count] = one;
         ++*count;
     }
+}
+
+/* Sends a line of an assignment as the controller that all of it is sent as, or as the active one. */
+static enum daskreyf_result line_as(struct daskreyf *bus, const char *as, const char *line)
+{
+    strcpy(bus->as, as);
+    return daskreyf_line(bus, line);
+}
+
+/* The rounds of an open assignment, until no device is left. */
+static enum daskreyf_result play_rounds(
+    struct daskreyf *bus, const char *as, struct daskreyf_assigned *assigned, size_t room, size_t *count)
+{
+    enum daskreyf_result result;
+
+    do {
+        result = line_as(bus, as, "round");
+        if (result == DASKREYF_OK)
+            take_assigned(bus, assigned, room, count);
+    } while (result == DASKREYF_OK && strcmp(last_line(bus->text), "done"));
+    return result;
+}
+
+/* A whole assignment frame by frame. What it has served is what its opening did. */
+static enum daskreyf_result play_assignment(
+    struct daskreyf *bus, struct daskreyf_assigned *assigned, size_t room, size_t *count)
+{
+    enum daskreyf_result result, ended;
+    struct daskreyf_served served;
+    char as[AS_ROOM];
+
+    strcpy(as, bus->as);
+    result = daskreyf_line(bus, "open");
+    if (result != DASKREYF_OK)
+        return result;
+    served = bus->served;
+    result = play_rounds(bus, as, assigned, room, count);
+    if (result != DASKREYF_OK && result != DASKREYF_NO_ADDRESS)
+        return result;
+    ended = line_as(bus, as, "end");
+    if (ended != DASKREYF_OK)
+        return ended;
+    bus->served = served;
+    if (result == DASKREYF_NO_ADDRESS)
+        bus->why = daskreyf_result_name(result);
+    return result;
+}
+
+enum daskreyf_result daskreyf_daa(struct daskreyf *bus, struct daskreyf_assigned *assigned, size_t room, size_t *count)
+{
+    enum daskreyf_result result;
+
+    *count = 0;
+    if (bus->every)
+        return play_assignment(bus, assigned, room, count);
+    result = daskreyf_line(bus, "daa");
+    take_assigned(bus, assigned, room, count);
     return result;
 }
 
@@ -938,4 +1045,47 @@ enum daskreyf_result daskreyf_symbols(struct daskreyf *bus)
 enum daskreyf_result daskreyf_frames(struct daskreyf *bus, uint16_t count)
 {
     return send_line(bus, "frames %u", (unsigned)count);
+}
+
+/* Every order */
+
+/* Ends the run before, and begins the next one, in whose beginning nobody is known to ask. */
+static bool begin_again(struct daskreyf *bus)
+{
+    if (daskreyf_line(bus, "again") != DASKREYF_OK)
+        return false;
+    bus->asking[0] = '\0';
+    if (sscanf(bus->text, "order %lu", &bus->order) == 1)
+        return true;
+    if (!begins(bus->text, "all "))
+        broken(bus);
+    return false;
+}
+
+bool daskreyf_next(struct daskreyf *bus)
+{
+    if (bus->over || !bus->every)
+        return false;
+    if (bus->order == 0)
+        bus->order = 1;
+    else
+        bus->over = !begin_again(bus);
+    return !bus->over;
+}
+
+unsigned long daskreyf_order(const struct daskreyf *bus)
+{
+    return bus->order;
+}
+
+int daskreyf_wait(struct daskreyf *bus)
+{
+    if (daskreyf_line(bus, "wait") != DASKREYF_OK)
+        return -1;
+    return !strcmp(bus->text, "happened");
+}
+
+const char *daskreyf_script(struct daskreyf *bus)
+{
+    return daskreyf_line(bus, "script") == DASKREYF_OK ? bus->text : NULL;
 }

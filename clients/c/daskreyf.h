@@ -63,6 +63,12 @@ enum daskreyf_result {
     DASKREYF_TOO_LONG,         /* a write has sixteen bytes at most, or the device's maximum length */
     DASKREYF_LIST_STALE,       /* addresses have changed since the last `list` [5.1.9.3.7] */
     DASKREYF_NOT_ACTIVE,       /* the controller that the line is of isn't the active one: daskreyf_as */
+    DASKREYF_MANY_FRAMES,      /* on a bus of daskreyf_every a line sends one frame at most; daskreyf_daa isn't refused */
+    DASKREYF_NO_PAST,          /* such a bus doesn't keep symbols, frames and earlier controllers */
+    DASKREYF_UNMET,            /* an expectation of the scene doesn't hold: daskreyf_script has the order */
+    DASKREYF_DIFFERS,          /* an earlier run that was told the same sent the line that daskreyf_text has behind `due` */
+    DASKREYF_MOST,             /* as many orders were tried as may be, and some are left; or too many states before a line */
+    DASKREYF_OVER,             /* all orders were tried, or none will begin behind an UNMET, DIFFERS or MOST */
     DASKREYF_REFUSED,          /* for a reason that isn't known here: daskreyf_why has it */
 
     /* nothing was sent: */
@@ -158,7 +164,7 @@ struct daskreyf *daskreyf_start(const char *program);
 
 /*
  * Ends the bus and its program. Gives the program's status: 0, or 1 if a line was refused, 2 after a fault that it told on
- * standard error; less a signal's number if it was killed.
+ * standard error; less a signal's number if it was killed. For a bus of daskreyf_every see there.
  */
 int daskreyf_close(struct daskreyf *bus);
 
@@ -285,7 +291,8 @@ enum daskreyf_result daskreyf_handover(struct daskreyf *bus, uint8_t address);
 
 /*
  * A whole assignment by ENTDAA: tells who got an address, of which the first `room` are stored, and how many they are. It
- * tells so too where it is DASKREYF_NO_ADDRESS. [5.1.4.2]
+ * tells so too where it is DASKREYF_NO_ADDRESS. On a bus of daskreyf_every its frames are sent one by one, so that devices
+ * come and go between its rounds; then daskreyf_text is that of the last line. [5.1.4.2]
  */
 enum daskreyf_result daskreyf_daa(struct daskreyf *bus, struct daskreyf_assigned *assigned, size_t room, size_t *count);
 
@@ -313,6 +320,51 @@ enum daskreyf_result daskreyf_forget(struct daskreyf *bus, uint64_t last);
 enum daskreyf_result daskreyf_show_all(struct daskreyf *bus);
 enum daskreyf_result daskreyf_symbols(struct daskreyf *bus);
 enum daskreyf_result daskreyf_frames(struct daskreyf *bus, uint16_t count);
+
+/*
+ * Every order: a program meets each order of what the devices of a scene do.
+ *
+ *     while (daskreyf_next(bus)) {
+ *         hub_start(&hub, bus);
+ *         while (daskreyf_wait(bus) == 1)
+ *             hub_handle(&hub);
+ *     }
+ *     if (*daskreyf_why(bus))
+ *         puts(daskreyf_script(bus));
+ *     status = daskreyf_close(bus);
+ *
+ * The loop's body is one run of the program, in another order each time. What it sends may depend on the answers of this run,
+ * and on nothing else: no clock, no random number, no run before. A loop of its own has to end where a call isn't
+ * DASKREYF_OK, as none is once an expectation doesn't hold.
+ */
+
+/*
+ * Starts the program with a scene, a file of `explore` with one block. NULL as for daskreyf_start. `main` is a line of the
+ * scene, and the bus is there when the first line comes. A scene that can't be met is DASKREYF_GONE at the first call.
+ *
+ * The status of daskreyf_close is 0 if all orders were tried and all holds, 3 if an expectation doesn't hold, and 2 after a
+ * fault, which is told on standard error. Otherwise it is 1: orders are left, or a line had no form or was one of
+ * DASKREYF_MANY_FRAMES to DASKREYF_OVER.
+ */
+struct daskreyf *daskreyf_every(const char *program, const char *scene);
+
+/*
+ * Begins the next order: the first call the first one, and a later call ends the run before it. False where no order begins:
+ * all were tried, daskreyf_why has a refusal, or the bus is gone. The status of daskreyf_close says which.
+ */
+bool daskreyf_next(struct daskreyf *bus);
+
+/* The number of the order, from 1; 0 before the first. */
+unsigned long daskreyf_order(const struct daskreyf *bus);
+
+/*
+ * The program has nothing to do until something happens. 1 if something did, 0 if nothing is left to happen, -1 where the
+ * line is refused or the bus is gone.
+ */
+int daskreyf_wait(struct daskreyf *bus);
+
+/* What ran in this order so far, as a script of `i3cbus run`, like daskreyf_text. NULL if there is none. */
+const char *daskreyf_script(struct daskreyf *bus);
 
 #ifdef __cplusplus
 }

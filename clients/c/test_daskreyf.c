@@ -1,12 +1,18 @@
 /*
- * Tests of the client itself: each call once, the results of refusals, and what is known when the bus is over.
+ * Tests of the client itself: each call once, the results of refusals, what is known when the bus is over, and every order of
+ * small scenes. It writes files with names in `test_` into its folder.
  *
  *     cc -std=c99 -o test_daskreyf test_daskreyf.c daskreyf.c && ./test_daskreyf PATH/i3cbus
  */
+#define _POSIX_C_SOURCE 200809L
+
 #include "daskreyf.h"
 
 #include <stdio.h>
+#include <stdlib.h>
 #include <string.h>
+#include <sys/stat.h>
+#include <sys/wait.h>
 
 #define CHECK(holds) check((holds), #holds, __LINE__)
 
@@ -359,6 +365,292 @@ static void test_the_end(const char *program)
     CHECK(bus && daskreyf_serve(bus) == DASKREYF_GONE && daskreyf_close(bus) == 127);
 }
 
+/* Every order. What is expected is written down by hand, from the scenes. */
+
+#define START "main hub 020400000001 46 C0\nattach light 020400000010 06 44\nattach heat 020400000020 06 45\n"
+#define ADDRESSED START "daa\n" /* light is at 09, and heat at 0A */
+
+enum { TEXT = 1024, ORDERS = 16 };
+
+static void write_file(const char *name, const char *text)
+{
+    FILE *file = fopen(name, "w");
+
+    CHECK(file && fputs(text, file) >= 0 && fclose(file) == 0);
+}
+
+/* Every order of a scene of these lines. */
+static struct daskreyf *every(const char *program, const char *lines)
+{
+    struct daskreyf *bus;
+
+    write_file("test_scene.i3c", lines);
+    bus = daskreyf_every(program, "test_scene.i3c");
+    CHECK(bus && daskreyf_order(bus) == 0);
+    return bus;
+}
+
+/* A program in the place of i3cbus: a shell's lines. */
+static struct daskreyf *every_of_shell(const char *lines)
+{
+    write_file("test_program", lines);
+    CHECK(chmod("test_program", 0700) == 0);
+    return daskreyf_every("./test_program", "test_scene.i3c");
+}
+
+/* The status of `i3cbus run` of a script. */
+static int status_of_run(const char *program, const char *script)
+{
+    char command[TEXT];
+    int status;
+
+    write_file("test_script", script);
+    snprintf(command, sizeof command, "'%s' run test_script > test_out", program);
+    status = system(command);
+    return WIFEXITED(status) ? WEXITSTATUS(status) : -1;
+}
+
+/* A run that serves, and serves again where something happened: what came of it. */
+static void serve_until_nothing_is_left(struct daskreyf *bus, char told[TEXT])
+{
+    const struct daskreyf_served *served = daskreyf_served(bus);
+    int waited;
+
+    told[0] = '\0';
+    do {
+        CHECK(daskreyf_serve(bus) == DASKREYF_OK);
+        strcat(told, served->request == DASKREYF_RECORDED ? "recorded" : "quiet");
+        waited = daskreyf_wait(bus);
+        strcat(told, waited == 1 ? " | " : "");
+        strcat(told, waited == 1 && !strcmp(daskreyf_asking(bus), "light") ? "light " : "");
+    } while (waited == 1);
+    CHECK(waited == 0);
+}
+
+static int compare_texts(const void *one, const void *other)
+{
+    return strcmp(one, other);
+}
+
+static void test_each_order_of_two_tracks(const char *program)
+{
+    /* sorted; | is a `wait` in which something happens, and light asks then where it is named */
+    static const char *const wanted[] = {
+        "quiet | light recorded", /* `serve`, light's line, heat's, `serve`; both of them in the `wait`, */
+        "quiet | light recorded", /* or heat's behind it; */
+        "quiet | light recorded", /* or heat's before the first `serve` */
+        "quiet | light recorded | quiet", /* `serve`, light's, `serve`, heat's */
+        "quiet | quiet | light recorded", /* `serve`, heat's, `serve`, light's */
+        "quiet | recorded", /* `serve`, heat's in the `wait`, and light's behind it */
+        "recorded", /* both, `serve` */
+        "recorded | quiet", /* light's, `serve`, heat's */
+    };
+    enum { WANTED = sizeof wanted / sizeof wanted[0] };
+    struct daskreyf *bus = every(program, ADDRESSED "any\ntrack\nraise light 2A\ntrack\ndrop heat\nclose\n");
+    static char met[ORDERS][TEXT];
+    size_t count = 0;
+    const char *script;
+
+    while (daskreyf_next(bus) && count < ORDERS) {
+        CHECK(daskreyf_order(bus) == count + 1 && !*daskreyf_asking(bus));
+        serve_until_nothing_is_left(bus, met[count++]);
+        script = daskreyf_script(bus);
+        CHECK(script && !strncmp(script, ADDRESSED, strlen(ADDRESSED)));
+        CHECK(script && strstr(script, "\nraise light 2A\n") && strstr(script, "\ndrop heat\n"));
+        CHECK(script && status_of_run(program, script) == 0);
+    }
+    CHECK(!strcmp(daskreyf_text(bus), "all 8 orders") && !*daskreyf_why(bus) && daskreyf_order(bus) == 8);
+    CHECK(!daskreyf_next(bus));
+    CHECK(count == WANTED);
+    qsort(met, count, sizeof met[0], compare_texts);
+    for (size_t i = 0; i < WANTED; i++)
+        CHECK(!strcmp(met[i], wanted[i]));
+    CHECK(daskreyf_close(bus) == 0);
+}
+
+static void test_who_asks_at_the_beginning(const char *program)
+{
+    struct daskreyf *bus = every(program, ADDRESSED "any\ntrack\nraise light 2A\nclose\n");
+    unsigned asked = 0, orders = 0;
+
+    while (daskreyf_next(bus)) {
+        CHECK(!*daskreyf_asking(bus));
+        CHECK(daskreyf_list(bus) == DASKREYF_OK);
+        CHECK(daskreyf_wait(bus) >= 0);
+        asked += !strcmp(daskreyf_asking(bus), "light");
+        orders++;
+    }
+    /* `list` has served light, or light asks after it */
+    CHECK(orders == 2 && asked == 1 && daskreyf_close(bus) == 0);
+}
+
+static void test_a_scene_without_tracks(const char *program)
+{
+    struct daskreyf *bus = every(program, ADDRESSED "any\nclose\n");
+
+    CHECK(daskreyf_next(bus) && daskreyf_wait(bus) == 0 && daskreyf_serve(bus) == DASKREYF_OK);
+    CHECK(!daskreyf_next(bus) && !strcmp(daskreyf_text(bus), "all 1 orders"));
+    CHECK(daskreyf_serve(bus) == DASKREYF_OVER && daskreyf_wait(bus) == -1 && !strcmp(daskreyf_why(bus), "Over"));
+    CHECK(!daskreyf_next(bus));
+    CHECK(daskreyf_close(bus) == 1);
+}
+
+static void test_assignments_frame_by_frame(const char *program)
+{
+    struct daskreyf *bus = every(program, START "any\ntrack\ndrop heat\nclose\n");
+    struct daskreyf_assigned assigned[2];
+    unsigned of_one = 0, of_two = 0;
+    size_t count;
+
+    while (daskreyf_next(bus)) {
+        CHECK(daskreyf_daa(daskreyf_as(bus, "hub"), assigned, 2, &count) == DASKREYF_OK);
+        CHECK(count > 0 && assigned[0].address == 0x09 && assigned[0].pid == target.pid);
+        CHECK(count < 2 || (assigned[1].address == 0x0A && assigned[1].pid == 0x020400000020));
+        CHECK(strstr(daskreyf_script(bus), "\nas hub open\n") && strstr(daskreyf_text(bus), "\nas hub end"));
+        of_one += count == 1;
+        of_two += count == 2;
+    }
+    /* heat leaves before `open`, or before a round: light's, its own, or the one that nobody takes; or behind them */
+    CHECK(of_one == 3 && of_two == 2 && daskreyf_close(bus) == 0);
+}
+
+static void test_what_an_assignment_serves(const char *program)
+{
+    struct daskreyf *bus = every(program, ADDRESSED "raise light 2A\nany\nclose\n");
+    struct daskreyf_assigned assigned[1];
+    size_t count = 1;
+
+    CHECK(daskreyf_next(bus) && daskreyf_daa(bus, assigned, 1, &count) == DASKREYF_OK && count == 0);
+    CHECK(daskreyf_served(bus)->request == DASKREYF_TURNED_DOWN && !strcmp(daskreyf_asking(bus), "light"));
+    CHECK(daskreyf_open(bus) == DASKREYF_OK);
+    CHECK(daskreyf_daa(bus, assigned, 1, &count) == DASKREYF_SESSION_OPEN && count == 0);
+    CHECK(daskreyf_end(bus) == DASKREYF_OK && !daskreyf_next(bus) && daskreyf_close(bus) == 0);
+
+    bus = every_of_shell("#!/bin/sh\n"
+        "read line; echo open; echo ok 1\n"
+        "read line; echo assigned 09 020400000010 06 44; echo ok 2\n"
+        "read line; echo refused 3 NoAddress\n"
+        "read line; echo ended; echo ok 4\n");
+    CHECK(daskreyf_next(bus) && daskreyf_daa(bus, assigned, 1, &count) == DASKREYF_NO_ADDRESS);
+    CHECK(count == 1 && assigned[0].address == 0x09 && !strcmp(daskreyf_why(bus), "NoAddress"));
+    CHECK(!daskreyf_next(bus) && daskreyf_close(bus) == 0);
+}
+
+static void test_an_unmet_expectation(const char *program)
+{
+    /* the one order in which a single `serve` leaves something waiting */
+    static const char broken[] =
+        "# line 9 breaks: expect waiting 0\n# waiting 1\n# run this script to see it\n"
+        ADDRESSED "serve\nraise light 2A\nexpect waiting 0";
+    struct daskreyf *bus = every(program, ADDRESSED "any\ntrack\nraise light 2A\nclose\nexpect waiting 0\n");
+    const char *script;
+
+    while (daskreyf_next(bus))
+        CHECK(daskreyf_serve(bus) == DASKREYF_OK);
+    CHECK(!strcmp(daskreyf_why(bus), "Unmet") && !strcmp(daskreyf_text(bus), "unmet 9 waiting 1"));
+    script = daskreyf_script(bus);
+    CHECK(script && !strcmp(script, broken));
+    CHECK(script && status_of_run(program, script) == 3);
+    CHECK(daskreyf_serve(bus) == DASKREYF_OVER && !daskreyf_next(bus));
+    CHECK(daskreyf_close(bus) == 3);
+}
+
+static void test_an_unmet_expectation_behind_a_frame(const char *program)
+{
+    struct daskreyf *bus =
+        every(program, ADDRESSED "raise light 2A\nraise heat 2B\nany\nalways waiting 2\ntrack\nclose\n");
+    const struct daskreyf_served *served = daskreyf_served(bus);
+
+    CHECK(daskreyf_next(bus) && daskreyf_serve(bus) == DASKREYF_UNMET);
+    CHECK(!strcmp(daskreyf_text(bus), "recorded 1\nunmet 8 waiting 1") && !strcmp(daskreyf_asking(bus), "heat"));
+    CHECK(served->request == DASKREYF_RECORDED && served->record.address == 0x09 && served->record.byte == 0x2A);
+    CHECK(daskreyf_wait(bus) == -1 && !daskreyf_next(bus) && daskreyf_close(bus) == 3);
+
+    bus = every(program, ADDRESSED "any\ntrack\nraise light 2A\nexpect waiting 0\nclose\n");
+    CHECK(daskreyf_next(bus) && daskreyf_wait(bus) == -1);
+    CHECK(!strcmp(daskreyf_why(bus), "Unmet") && !strcmp(daskreyf_text(bus), "unmet 8 waiting 1"));
+    CHECK(daskreyf_close(bus) == 3);
+}
+
+static void test_a_program_that_differs(const char *program)
+{
+    struct daskreyf *bus = every(program, ADDRESSED "any\ntrack\nraise light 2A\nclose\n");
+
+    CHECK(daskreyf_next(bus) && daskreyf_serve(bus) == DASKREYF_OK);
+    CHECK(daskreyf_next(bus) && daskreyf_reset(bus) == DASKREYF_DIFFERS && !strcmp(daskreyf_text(bus), "due serve"));
+    CHECK(!strcmp(daskreyf_result_name(DASKREYF_DIFFERS), "Differs"));
+    CHECK(!daskreyf_next(bus) && daskreyf_close(bus) == 1);
+
+    /* a run that ends where an earlier one went on */
+    bus = every(program, ADDRESSED "any\ntrack\nraise light 2A\nclose\n");
+    CHECK(daskreyf_next(bus) && daskreyf_serve(bus) == DASKREYF_OK && daskreyf_next(bus) && !daskreyf_next(bus));
+    CHECK(!strcmp(daskreyf_why(bus), "Differs") && !strcmp(daskreyf_text(bus), "due serve"));
+    CHECK(daskreyf_close(bus) == 1);
+}
+
+static void test_lines_that_every_order_has_not(const char *program)
+{
+    struct daskreyf *bus = every(program, ADDRESSED "any\nclose\n");
+    struct daskreyf_state state;
+
+    CHECK(daskreyf_next(bus) && daskreyf_line(bus, "daa") == DASKREYF_MANY_FRAMES);
+    CHECK(daskreyf_line(daskreyf_as(bus, "hub"), "daa") == DASKREYF_MANY_FRAMES);
+    CHECK(daskreyf_symbols(bus) == DASKREYF_NO_PAST && daskreyf_frames(bus, 1) == DASKREYF_NO_PAST);
+    CHECK(daskreyf_show_all(bus) == DASKREYF_NO_PAST && daskreyf_line(bus, "expect waiting 0") == DASKREYF_BAD_LINE);
+    CHECK(daskreyf_show(bus, &state) == DASKREYF_OK && state.device_count == 3);
+    CHECK(!daskreyf_next(bus) && !*daskreyf_why(bus) && daskreyf_close(bus) == 1);
+
+    /* and lines that a bus of one order has not */
+    bus = daskreyf_start(program);
+    CHECK(bus && !daskreyf_next(bus) && daskreyf_wait(bus) == -1 && !daskreyf_script(bus));
+    CHECK(daskreyf_close(bus) == 1);
+}
+
+static void test_as_many_orders_as_may_be(const char *program)
+{
+    char lines[TEXT];
+    struct daskreyf *bus;
+
+    write_file("test_scene.i3c", ADDRESSED "any\ntrack\nraise light 2A\nclose\n");
+    snprintf(lines, sizeof lines, "#!/bin/sh\nexec '%s' \"$@\" --most 1\n", program);
+    bus = every_of_shell(lines);
+    CHECK(daskreyf_next(bus) && daskreyf_serve(bus) == DASKREYF_OK);
+    CHECK(!daskreyf_next(bus) && !strcmp(daskreyf_why(bus), "Most") && daskreyf_order(bus) == 1);
+    CHECK(daskreyf_close(bus) == 1);
+}
+
+static void test_the_end_of_every_order(const char *program)
+{
+    struct daskreyf *bus = every(program, ADDRESSED "any\ntrack\nraise light 2A\nclose\n");
+
+    /* a client that closes in the midst */
+    CHECK(daskreyf_next(bus) && daskreyf_serve(bus) == DASKREYF_OK && daskreyf_close(bus) == 1);
+    /* a scene that can't be met: standard error says why */
+    bus = every(program, ADDRESSED "any\ntrack\n");
+    CHECK(daskreyf_next(bus) && daskreyf_serve(bus) == DASKREYF_GONE && daskreyf_wait(bus) == -1);
+    CHECK(!daskreyf_script(bus) && !daskreyf_next(bus) && daskreyf_close(bus) == 2);
+    bus = daskreyf_every("./no-such-program", "test_scene.i3c");
+    CHECK(bus && daskreyf_next(bus) && daskreyf_serve(bus) == DASKREYF_GONE && daskreyf_close(bus) == 127);
+    /* a program that answers `again` by something else */
+    bus = every_of_shell("#!/bin/sh\nread line; echo quiet; echo ok 1\n");
+    CHECK(daskreyf_next(bus) && !daskreyf_next(bus) && daskreyf_serve(bus) == DASKREYF_GONE && daskreyf_close(bus) == 0);
+}
+
+static void test_every_order(const char *program)
+{
+    test_each_order_of_two_tracks(program);
+    test_who_asks_at_the_beginning(program);
+    test_a_scene_without_tracks(program);
+    test_assignments_frame_by_frame(program);
+    test_what_an_assignment_serves(program);
+    test_an_unmet_expectation(program);
+    test_an_unmet_expectation_behind_a_frame(program);
+    test_a_program_that_differs(program);
+    test_lines_that_every_order_has_not(program);
+    test_as_many_orders_as_may_be(program);
+    test_the_end_of_every_order(program);
+}
+
 int main(int count, char **words)
 {
     const char *program = count > 1 ? words[1] : "i3cbus";
@@ -382,6 +674,7 @@ int main(int count, char **words)
     test_all_slots(program);
     test_two_controllers(program);
     test_the_end(program);
+    test_every_order(program);
     puts(failures ? "test_daskreyf: FAILED" : "test_daskreyf: ok");
     return failures > 0;
 }

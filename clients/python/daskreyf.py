@@ -10,22 +10,26 @@
 Each method sends one line and waits for its answer. A line that the engine refuses raises the exception of that name, and
 has changed nothing but for the cuts that a frame takes. Numbers in brackets are sections of MIPI I3C Basic v1.1.1.
 
+By `every` a program meets every order of what the devices do: see there.
+
 docs/DRIVING.md has the protocol, and docs/FORMATS.md each line with its refusals. A `Bus` is for one thread.
 """
 
 from __future__ import annotations
 
 import abc
+import contextlib
 import enum
 import functools
 import operator
 import os
 import re
 import subprocess
-from collections.abc import Sequence
+import sys
+from collections.abc import Generator, Sequence
 from dataclasses import dataclass, field
 from types import TracebackType
-from typing import NoReturn
+from typing import NoReturn, Self
 
 REGISTERS = 16
 """The registers of a device or a legacy target, and the most bytes of one transfer."""
@@ -344,6 +348,44 @@ class NotActive(Refused):
     """The controller that the line is of isn't the active one. Nothing was sent."""
 
 
+class ManyFrames(Refused):
+    """On an `EveryBus` a line sends one frame at most. Its `daa` sends one after the other, and isn't refused."""
+
+
+class NoPast(Refused):
+    """An `EveryBus` doesn't keep symbols, frames and earlier controllers."""
+
+
+class Unmet(Refused):
+    """An expectation of the scene doesn't hold. The last line of `answer` has its number, and what is there instead."""
+
+    script = ""
+    """The order in which it doesn't hold: a script of `i3cbus run`, whose last line is this expectation."""
+
+    def __str__(self) -> str:
+        return f"{super().__str__()}: {self.answer.lines[-1]}"
+
+
+class Differs(Refused):
+    """The program isn't determined by what it is told: an earlier run was told the same, and sent another line here."""
+
+    @property
+    def due(self) -> str:
+        """The line that the earlier run sent."""
+        return self.answer.lines[-1].removeprefix("due ")
+
+    def __str__(self) -> str:
+        return f"{super().__str__()}: {self.due!r} was due"
+
+
+class Most(Refused):
+    """As many orders were tried as may be, and some are left; or there are too many states before one line."""
+
+
+class Over(Refused):
+    """No order is left, or none will begin any more: all were tried, or an earlier line was `Unmet`, `Differs` or `Most`."""
+
+
 _REFUSALS = {refusal.__name__: refusal for refusal in Refused.__subclasses__()}
 
 
@@ -411,6 +453,10 @@ class Sender(abc.ABC):
     @abc.abstractmethod
     def _own(self, answer: Answer) -> str:
         """The line of the frame itself, which comes behind what it served."""
+
+    @abc.abstractmethod
+    def _assign(self, sender: Sender) -> Answer:
+        """Plays a whole assignment, whose lines are the sender's, and gives the answer of a `daa`."""
 
     def serve(self) -> Served | None:
         """`serve`: a frame that serves the first request. None if nobody asks."""
@@ -507,7 +553,7 @@ class Sender(abc.ABC):
 
     def daa(self) -> tuple[Assigned, ...]:
         """`daa`: a whole assignment by ENTDAA. Gives who got an address; `NoAddress` has that in `answer`. [5.1.4.2]"""
-        return self._sent("daa").assigned
+        return self._assign(self).assigned
 
     def open_daa(self) -> Served | None:
         """`open`: opens an assignment, whose rounds are sent one by one."""
@@ -538,15 +584,22 @@ class Controller(Sender):
     def _own(self, answer: Answer) -> str:
         return self.bus._own(answer)
 
+    def _assign(self, sender: Sender) -> Answer:
+        return self.bus._assign(sender)
+
 
 class Bus(Sender):
     """A bus of its own, in a program of its own, which lives until `close`."""
 
     def __init__(self, program: str | Sequence[str] = "i3cbus") -> None:
         """Starts the program, which is named by its path or by words that `drive` is put behind."""
+        self._start(program)
+
+    def _start(self, program: str | Sequence[str], *options: str) -> None:
+        """Starts the program with `drive` and these options."""
         words = [program] if isinstance(program, str) else list(program)
         self._process = subprocess.Popen(
-            [*words, "drive"],
+            [*words, "drive", *options],
             stdin=subprocess.PIPE,
             stdout=subprocess.PIPE,
             stderr=subprocess.PIPE,
@@ -563,7 +616,7 @@ class Bus(Sender):
         self.records: list[Record] = []
         """The interrupts that were recorded, in their order. Whoever has handled them may clear it."""
 
-    def __enter__(self) -> Bus:
+    def __enter__(self) -> Self:
         return self
 
     def __exit__(
@@ -655,23 +708,28 @@ class Bus(Sender):
     def _sent(self, text: str) -> Answer:
         return self.line(text)
 
+    def _assign(self, sender: Sender) -> Answer:
+        return sender._sent("daa")
+
     def line(self, text: str) -> Answer:
         """Sends a line, without its line feed, and gives its answer. Raises the `Refused` of the reason if it is refused."""
         if "\n" in text:
             raise ValueError("a line has no line feed")
-        lines = self._exchange(text)
-        self.answer = self._parse(text, lines[:-1])
+        *lines, last = self._exchange(text)
+        # an expectation that doesn't hold is told behind all else
+        unmet: list[str] = [lines.pop()] if last == f"refused {self._number} Unmet" and lines else []
+        self.answer = self._parse(text, lines, unmet)
         if self.answer.record is not None:
             self.records.append(self.answer.record)
         if self.answer.asking is not None:
             self.asking = self.answer.asking
-        if lines[-1].startswith("refused "):
-            _, _, why, *about = lines[-1].split(" ")
+        if last.startswith("refused "):
+            _, _, why, *about = last.split(" ")
             raise _REFUSALS.get(why, Refused)(why, " ".join(about) or None, self.answer)
         return self.answer
 
-    def _parse(self, text: str, lines: list[str]) -> Answer:
-        """The answer whose lines these are, without the last one."""
+    def _parse(self, text: str, lines: list[str], unmet: list[str]) -> Answer:
+        """The answer whose lines these are, without the last one, and with the line of what is unmet."""
         word = text.partition(" ")[0]
         asking: tuple[str, ...] | None = None
         record: Record | None = None
@@ -679,7 +737,7 @@ class Bus(Sender):
             asking = tuple(lines.pop().split()[1:])
         if lines and word != "show":
             record = _record(lines[-1])
-        return Answer(self._number, tuple(lines[:-1] if record else lines), record, asking)
+        return Answer(self._number, (*(lines[:-1] if record else lines), *unmet), record, asking)
 
     def _own(self, answer: Answer) -> str:
         if not answer.lines:
@@ -741,6 +799,138 @@ class Bus(Sender):
         process.stderr.close()
         process.stdout.close()
         return told
+
+
+class EveryBus(Bus):
+    """
+    A bus on which a scene's events happen, in another order in each run of the program. `every` yields it, run by run.
+
+    The bus is there when the first line comes: `main` is a line of the scene. `records` and `asking` are those of this run.
+    `close` gives 0 if all orders were tried and all holds, 3 if an expectation doesn't hold, 2 after a fault, otherwise 1.
+    """
+
+    def __init__(self, program: str | Sequence[str], scene: str | os.PathLike[str], most: int | None = None) -> None:
+        """Starts the program with a scene, a file of `explore` with one block. It tries `most` orders at most, or all."""
+        if most is not None and most < 1:
+            raise ValueError(f"one order is tried at least, and not {most}")
+        bound: list[str] = [] if most is None else ["--most", str(most)]
+        self._start(program, "--every", os.fspath(scene), *bound)
+        self.order = 1
+        """The number of the order, from 1."""
+        self._is_noted = False
+
+    def __exit__(
+        self,
+        kind: type[BaseException] | None,
+        error: BaseException | None,
+        trace: TracebackType | None,
+    ) -> None:
+        """Ends one run of the program, and not the bus. What goes wrong in it gets the order as a note."""
+        if error is not None and not isinstance(error, (KeyboardInterrupt, SystemExit, GeneratorExit)):
+            self._note(error)
+
+    def wait(self) -> bool:
+        """`wait`: the program has nothing to do until something happens. False where nothing is left to, whoever asks."""
+        return self.line("wait").lines[0] == "happened"
+
+    def script(self) -> str:
+        """`script`: what ran in this order so far, as a script of `i3cbus run`."""
+        return "".join(f"{line}\n" for line in self._exchange("script")[:-1])
+
+    def again(self) -> bool:
+        """`again`: this run of the program is over, and the next order begins. False where all were tried."""
+        answer = self.line("again")
+        word, number, *_ = answer.lines[0].split()
+        self.asking = answer.asking or ()
+        self.records = []
+        if word == "all":
+            return False
+        self.order = int(number)
+        return True
+
+    def line(self, text: str) -> Answer:
+        """Sends a line, as every `Bus` does. `Unmet` and `Differs` get the order as a note."""
+        self._is_noted = False
+        try:
+            return super().line(text)
+        except (Unmet, Differs) as error:
+            if isinstance(error, Unmet):
+                error.script = self.script()
+            self._note(error)
+            raise
+
+    def _assign(self, sender: Sender) -> Answer:
+        """Sends the assignment frame by frame, so that devices come and go between its rounds."""
+        asked = self.asking
+        lines = list(sender._sent("open").lines[:-1])
+        try:
+            while lines[-1:] != ["done"]:
+                lines += sender._sent("round").lines
+        except NoAddress as error:
+            error.answer = self._whole(lines, asked)
+            sender._sent("end")
+            self.answer = error.answer
+            raise
+        sender._sent("end")
+        self.answer = self._whole(lines, asked)
+        return self.answer
+
+    def _whole(self, lines: list[str], asked: tuple[str, ...]) -> Answer:
+        """The answer to an assignment of several lines, before which these devices asked."""
+        return Answer(self._number, tuple(lines), None, None if self.asking == asked else self.asking)
+
+    def _note(self, error: BaseException) -> None:
+        """Gives the exception the order as a note, unless it has that."""
+        order = self._told_order()
+        if order and order not in getattr(error, "__notes__", ()):
+            error.add_note(order)
+        self._is_noted = True
+
+    def _tell_left(self) -> None:
+        """Tells standard error the order in which the loop was left, unless an exception has it as a note."""
+        if not self._is_noted and (order := self._told_order()):
+            print(order, file=sys.stderr)
+
+    def _told_order(self) -> str:
+        """What is told of the order; nothing where the program is gone."""
+        with contextlib.suppress(BusGone):
+            return f"In order {self.order}, which `i3cbus run` replays:\n{self.script().rstrip()}"
+        return ""
+
+
+def every(
+    program: str | Sequence[str], scene: str | os.PathLike[str], most: int | None = None
+) -> Generator[EveryBus, None, None]:
+    """
+    Lets a program meet every order of a scene's events. The loop's body is one run of the program. What it sends may depend
+    on the answers of this run, and on nothing else: no clock, no random number, no run before.
+
+        for bus in every("i3cbus", "scene.i3c"):
+            with bus:
+                hub = SensorHub(bus)
+                hub.assign()
+                hub.handle()
+                while bus.wait():  # something happened; False: nothing is left to happen
+                    hub.handle()
+                assert hub.seen == [0x2A]
+
+    An order in which an expectation of the scene doesn't hold raises `Unmet`, also where the loop goes on. A program that
+    isn't determined raises `Differs`. With `most`, `Most` is raised where orders are left: all were tried only if the loop
+    ends by itself.
+
+    What is raised in `with bus` gets the order as a note, which a traceback shows. If the loop is left without that, the
+    order is told on standard error.
+    """
+    bus = EveryBus(program, scene, most)
+    try:
+        yield bus
+        while bus.again():
+            yield bus
+    except GeneratorExit:
+        bus._tell_left()
+        raise
+    finally:
+        bus.close()
 
 
 def _hex(value: int, digits: int) -> str:

@@ -5,13 +5,20 @@ I3CBUS=PATH python3 -m unittest test_daskreyf
 
 from __future__ import annotations
 
+import contextlib
+import io
 import os
 import signal
+import subprocess
+import tempfile
+import traceback
 import unittest
+from collections.abc import Generator
+from pathlib import Path
 
 import daskreyf
-from daskreyf import Answer, Assigned, Bus, BusDetails, BusGone, BusState, Device, DeviceDetails, DeviceState, Kinds
-from daskreyf import LegacyTarget, Nobody, Policy, ReadLength, Record, Refused, Term, Torn, TurnedDown
+from daskreyf import Answer, Assigned, Bus, BusDetails, BusGone, BusState, Device, DeviceDetails, DeviceState, EveryBus, Kinds
+from daskreyf import LegacyTarget, Nobody, Policy, ReadLength, Record, Refused, Term, Torn, TurnedDown, every
 
 PROGRAM = os.environ.get("I3CBUS", "i3cbus")
 
@@ -433,6 +440,311 @@ class FaultsTest(unittest.TestCase):
             bus.line("of a later engine")
         self.assertEqual((type(refused.exception), refused.exception.why), (Refused, "OfLater"))
         bus.close()
+
+
+class EveryTest(unittest.TestCase):
+    """Programs that meet every order. What is expected is written down by hand, from the scenes."""
+
+    START = "main hub 020400000001 46 C0\nattach light 020400000010 06 44\nattach heat 020400000020 06 45\n"
+    ADDRESSED = START + "daa\n"
+    """The first four lines of scenes: light is at 09, and heat at 0A."""
+
+    def setUp(self) -> None:
+        self.folder = Path(self.enterContext(tempfile.TemporaryDirectory()))
+
+    def scene(self, lines: str, start: str = ADDRESSED) -> Path:
+        scene = self.folder / "scene.i3c"
+        scene.write_text(start + lines)
+        return scene
+
+    def every(self, lines: str, start: str = ADDRESSED, most: int | None = None) -> Generator[EveryBus, None, None]:
+        """Every order of a scene of these lines."""
+        return every(PROGRAM, self.scene(lines, start), most)
+
+    def run_script(self, script: str) -> subprocess.CompletedProcess[str]:
+        return subprocess.run([PROGRAM, "run", "-"], input=script, stdout=subprocess.PIPE, text=True)
+
+    def test_each_order_of_two_tracks(self) -> None:
+        # served: what each `serve` comes to; | is a `wait` in which something happens; light: it asks, as is told then
+        wanted = [
+            # before the first `serve`: both lines, of which either may be first; light's; heat's
+            ("recorded", "raise drop serve"),
+            ("recorded | quiet", "raise serve drop serve"),
+            ("quiet | light recorded", "drop serve raise serve"),
+            # both lines come later, in the first `wait`; light's comes there, and heat's before or behind the next `serve`;
+            # heat's comes there, and light's before or behind the next `serve`
+            ("quiet | light recorded", "serve raise drop serve"),
+            ("quiet | light recorded", "serve raise drop serve"),
+            ("quiet | light recorded | quiet", "serve raise serve drop serve"),
+            ("quiet | recorded", "serve drop raise serve"),
+            ("quiet | quiet | light recorded", "serve drop serve raise serve"),
+        ]
+        met = []
+        for bus in self.every("any\ntrack\nraise light 2A\ntrack\ndrop heat\nclose\n"):
+            with bus:
+                self.assertEqual(bus.order, len(met) + 1)
+                told = [self.served(bus)]
+                while bus.wait():
+                    told += ["|", *bus.asking, self.served(bus)]
+                script = bus.script()
+                self.assertTrue(script.startswith(self.ADDRESSED))
+                words = " ".join(line.split()[0] for line in script.removeprefix(self.ADDRESSED).splitlines())
+                met.append((" ".join(told), words.replace("drop raise", "raise drop")))
+                self.assertEqual(bus.records, [Record(1, 1, 1, 0x09, 0x2A)])
+                replayed = self.run_script(script)
+                self.assertEqual(replayed.returncode, 0)
+                self.assertEqual(replayed.stdout.count("recorded 1\n"), 1)
+        # which of two lines that change different devices comes first makes no difference, and one way is enough
+        wanted = [(told, words.replace("drop raise", "raise drop")) for told, words in wanted]
+        self.assertEqual(sorted(met), sorted(wanted))
+
+    def served(self, bus: EveryBus) -> str:
+        """What a `serve` comes to, where light's one interrupt is all that there is."""
+        served = bus.serve()
+        self.assertIn(served, (None, Record(1, 1, 1, 0x09, 0x2A)))
+        return "recorded" if served else "quiet"
+
+    def test_nothing_is_left_to_wait_for(self) -> None:
+        waits = []
+        for bus in self.every("any\ntrack\nask-join heat\nraise light 2A\nclose\n"):
+            waits.append((bus.wait(), bus.asking, bus.wait(), bus.asking, bus.wait(), bus.asking))
+        asked = ("light",)
+        # heat has an address, so its line is refused; the first `wait` runs one line, or both
+        self.assertCountEqual(waits, [(True, (), True, asked, False, asked), (True, asked, False, asked, False, asked)])
+
+    def test_nobody_is_known_to_ask_when_an_order_begins(self) -> None:
+        asking = []
+        for bus in self.every("any\ntrack\nraise light 2A\nclose\n"):
+            asking.append(bus.asking)
+            bus.send_list()
+            bus.wait()
+            asking.append(bus.asking)
+        # `list` has served light, or light asks after it
+        self.assertCountEqual(asking, [(), (), (), ("light",)])
+
+    def test_a_scene_without_tracks_has_one_order(self) -> None:
+        orders = [(bus.order, bus.wait(), bus.serve()) for bus in self.every("any\nclose\n")]
+        self.assertEqual(orders, [(1, False, None)])
+
+    def test_an_assignment_frame_by_frame(self) -> None:
+        light = Assigned(0x09, 0x020400000010, 0x06, 0x44)
+        heat = Assigned(0x0A, 0x020400000020, 0x06, 0x45)
+        for name in (None, "hub"):
+            found = []
+            for bus in self.every("any\ntrack\ndrop heat\nclose\n", start=self.START):
+                found.append(bus.daa() if name is None else bus.of(name).daa())
+                lines = ("assigned 09 020400000010 06 44", "assigned 0A 020400000020 06 45")[: len(found[-1])]
+                self.assertEqual((bus.answer.lines, bus.answer.assigned), ((*lines, "done"), found[-1]))
+                self.assertIsNone(bus.answer.served)
+            # heat leaves before `open`, or before a round: light's, its own, or the one that nobody takes; or behind them
+            self.assertCountEqual(found, [(light,)] * 3 + [(light, heat)] * 2)
+
+    def test_an_assignment_that_turns_a_request_down(self) -> None:
+        scene = "raise light 2A\nany\ntrack\nclose\n"
+        # heat comes back without an address, so that the assignment has a round for it
+        for bus in self.every("drop heat\nattach heat 020400000020 06 45\n" + scene):
+            bus.daa()
+            self.assertEqual(bus.answer.lines, ("turned down", "assigned 0A 020400000020 06 45", "done"))
+            self.assertEqual((bus.answer.served, bus.answer.asking, bus.asking), (TurnedDown(), ("light",), ("light",)))
+            bus.daa()
+            self.assertEqual((bus.answer.lines, bus.answer.asking), (("turned down", "done"), None))
+
+    def test_an_assignment_without_an_address_left(self) -> None:
+        answers = ("open; echo ok 1", "assigned 09 020400000010 06 44; echo ok 2", "refused 3 NoAddress", "ended; echo ok 4")
+        play = "".join(f"read line; echo {answer}; " for answer in answers)
+        with EveryBus(["sh", "-c", play], "scene.i3c") as bus:
+            with self.assertRaises(daskreyf.NoAddress) as refused:
+                bus.daa()
+            self.assertEqual(refused.exception.answer.assigned, (Assigned(0x09, 0x020400000010, 0x06, 0x44),))
+            self.assertIs(bus.answer, refused.exception.answer)
+        self.assertEqual(bus.close(), 0)
+
+    # What doesn't hold
+
+    STRANDED = "any\ntrack\nraise light 2A\nclose\nexpect waiting 0\n"
+    BROKEN = (
+        "# line 9 breaks: expect waiting 0\n# waiting 1\n# run this script to see it\n"
+        + ADDRESSED
+        + "serve\nraise light 2A\nexpect waiting 0\n"
+    )
+    """The one order of `STRANDED` in which a single `serve` leaves something waiting."""
+
+    def test_an_expectation_behind_the_tracks(self) -> None:
+        with self.assertRaises(daskreyf.Unmet) as unmet:
+            for bus in self.every(self.STRANDED):
+                with bus:
+                    bus.serve()
+        self.assertEqual(unmet.exception.answer.lines, ("unmet 9 waiting 1",))
+        self.assertEqual(unmet.exception.script, self.BROKEN)
+        self.assertRegex(str(unmet.exception), r"^line \d+: Unmet: unmet 9 waiting 1$")
+        self.assertEqual(len(unmet.exception.__notes__), 1)
+        self.assertIn(", which `i3cbus run` replays:\n" + self.BROKEN.rstrip(), unmet.exception.__notes__[0])
+        # the notes are part of what unittest and pytest print
+        self.assertIn(self.BROKEN, "".join(traceback.format_exception(unmet.exception)))
+        replayed = self.run_script(self.BROKEN)
+        self.assertEqual((replayed.returncode, replayed.stdout.splitlines()[-1]), (3, "unmet 10 waiting 1"))
+
+    def test_an_expectation_behind_a_frame(self) -> None:
+        scene = "raise light 2A\nraise heat 2B\nany\nalways waiting 2\ntrack\nclose\n"
+        with contextlib.redirect_stderr(io.StringIO()) as told:
+            with self.assertRaises(daskreyf.Unmet) as unmet:
+                for bus in self.every(scene):
+                    with bus:
+                        bus.serve()
+        answer = unmet.exception.answer
+        self.assertEqual(answer.lines, ("recorded 1", "unmet 8 waiting 1"))
+        self.assertEqual((answer.record, answer.served), (Record(1, 1, 1, 0x09, 0x2A), Record(1, 1, 1, 0x09, 0x2A)))
+        self.assertEqual(answer.asking, ("heat",))
+        self.assertEqual((bus.records, bus.asking), ([Record(1, 1, 1, 0x09, 0x2A)], ("heat",)))
+        self.assertEqual(len(unmet.exception.__notes__), 1)
+        self.assertTrue(unmet.exception.script.endswith("raise light 2A\nraise heat 2B\nserve\nexpect waiting 2\n"))
+        self.assertEqual((told.getvalue(), bus.close()), ("", 3))
+
+    def test_an_expectation_that_the_program_passes_over(self) -> None:
+        with self.assertRaises(daskreyf.Over), contextlib.redirect_stderr(io.StringIO()) as told:
+            for bus in self.every("any\ntrack\nraise light 2A\nexpect light waiting 0\nclose\n"):
+                with self.assertRaises(daskreyf.Unmet):
+                    bus.wait()
+        self.assertEqual((told.getvalue(), bus.close()), ("", 3))
+
+    def test_a_failure_has_its_order_as_a_note(self) -> None:
+        failures: list[BaseException] = []
+        with contextlib.redirect_stderr(io.StringIO()) as told:
+            for bus in self.every("any\ntrack\nraise light 2A\nclose\n"):
+                # as a subtest does, in which the loop goes on; pytest's failures are no `Exception`
+                try:
+                    with bus:
+                        bus.serve()
+                        raise BaseException("no luck") if bus.records else AssertionError("no luck")
+                except BaseException as error:
+                    failures.append(error)
+        notes = [error.__notes__ for error in failures]
+        self.assertCountEqual(
+            [note.partition("\n")[2] for (note,) in notes],
+            [self.ADDRESSED + "serve", self.ADDRESSED + "raise light 2A\nserve"],
+        )
+        self.assertEqual([note.partition(",")[0] for (note,) in notes], ["In order 1", "In order 2"])
+        self.assertEqual((told.getvalue(), bus.close()), ("", 0))
+
+    def test_an_interruption_has_no_note(self) -> None:
+        with contextlib.redirect_stderr(io.StringIO()), self.assertRaises(KeyboardInterrupt) as interrupted:
+            for bus in self.every("any\nclose\n"):
+                with bus:
+                    raise KeyboardInterrupt
+        self.assertFalse(hasattr(interrupted.exception, "__notes__"))
+
+    def test_a_failure_outside_of_with_is_told_on_standard_error(self) -> None:
+        def fails(catches: bool) -> None:
+            for bus in self.every("any\nclose\n"):
+                bus.serve()
+                if catches:
+                    with contextlib.suppress(daskreyf.BadLine):
+                        bus.line("no line")
+                raise AssertionError("no luck")
+
+        for catches in (False, True):
+            with contextlib.redirect_stderr(io.StringIO()) as told, self.assertRaises(AssertionError) as failed:
+                fails(catches)
+            self.assertEqual(told.getvalue(), f"In order 1, which `i3cbus run` replays:\n{self.ADDRESSED}serve\n")
+            self.assertFalse(hasattr(failed.exception, "__notes__"))
+
+    # What is refused
+
+    def test_a_program_that_differs(self) -> None:
+        runs = 0
+        with self.assertRaises(daskreyf.Differs) as differs:
+            for bus in self.every("any\ntrack\nraise light 2A\nclose\n"):
+                with bus:
+                    runs += 1
+                    bus.serve() if runs == 1 else bus.reset()
+        self.assertEqual((differs.exception.due, differs.exception.answer.lines), ("serve", ("due serve",)))
+        self.assertRegex(str(differs.exception), r"^line 3: Differs: 'serve' was due$")
+        self.assertEqual(differs.exception.__notes__, [f"In order 2, which `i3cbus run` replays:\n{self.ADDRESSED}".rstrip()])
+        self.assertEqual(bus.close(), 1)
+
+    def test_a_run_that_ends_where_an_earlier_one_went_on(self) -> None:
+        with self.assertRaises(daskreyf.Differs) as differs:
+            for bus in self.every("any\ntrack\nraise light 2A\nclose\n"):
+                with bus:
+                    if bus.order == 1:
+                        bus.serve()
+        self.assertEqual(differs.exception.due, "serve")
+        self.assertEqual(len(differs.exception.__notes__), 1)
+        self.assertEqual(bus.close(), 1)
+
+    def test_as_many_orders_as_may_be(self) -> None:
+        scene = "any\ntrack\nraise light 2A\nclose\n"
+        orders = []
+        with self.assertRaises(daskreyf.Most):
+            for bus in self.every(scene, most=1):
+                orders.append((bus.order, bus.serve()))
+        self.assertEqual((len(orders), bus.close()), (1, 1))
+        # there are two: light interrupts before `serve`, or behind it
+        for bus in self.every(scene, most=2):
+            orders.append((bus.order, bus.serve()))
+        self.assertEqual([order for order, _ in orders], [1, 1, 2])
+        self.assertCountEqual([served for _, served in orders[1:]], [None, Record(1, 1, 1, 0x09, 0x2A)])
+        self.assertEqual(bus.close(), 0)
+        self.assertRaises(ValueError, next, self.every(scene, most=0))
+
+    def test_no_line_behind_the_last_order(self) -> None:
+        with EveryBus(PROGRAM, self.scene("any\nclose\n")) as bus:
+            self.assertIsNone(bus.serve())
+            self.assertFalse(bus.again())
+            for line in (bus.serve, bus.again, bus.wait, bus.show):
+                self.assertRaises(daskreyf.Over, line)
+        self.assertEqual(bus.close(), 1)
+
+    def test_lines_that_every_order_has_not(self) -> None:
+        for bus in self.every("any\nclose\n"):
+            with self.assertRaises(daskreyf.ManyFrames):
+                bus.line("daa")
+            with self.assertRaises(daskreyf.ManyFrames):
+                bus.line("as hub daa")
+            self.assertRaises(daskreyf.NoPast, bus.symbols)
+            self.assertRaises(daskreyf.NoPast, bus.frames, 1)
+            self.assertRaises(daskreyf.NoPast, bus.show_all)
+            self.assertRaises(daskreyf.BadLine, bus.line, "expect waiting 0")
+            self.assertEqual([device.name for device in bus.show().devices], ["hub", "light", "heat"])
+        self.assertEqual(bus.close(), 1)
+
+    def test_a_bus_that_meets_one_order(self) -> None:
+        with Bus(PROGRAM) as bus:
+            for word in ("wait", "again", "script"):
+                self.assertRaises(daskreyf.BadLine, bus.line, word)
+
+    # The end
+
+    def test_a_scene_that_cannot_be_met(self) -> None:
+        for lines, why in (
+            ("any\ntrack\n", "scene: refused NoClose"),
+            ("any\ntrack\nrise light 2A\nclose\n", "scene: refused BadLine 7"),
+            ("", "scene: it has no block, or several"),
+        ):
+            with contextlib.redirect_stderr(io.StringIO()) as told:
+                with self.assertRaisesRegex(BusGone, f"status 2: i3cbus: {why}") as gone:
+                    for bus in self.every(lines):
+                        with bus:
+                            bus.serve()
+            self.assertEqual((gone.exception.status, told.getvalue()), (2, ""))
+            self.assertFalse(hasattr(gone.exception, "__notes__"))
+
+    def test_a_scene_that_is_missing(self) -> None:
+        with self.assertRaisesRegex(BusGone, "status 2"):
+            for bus in every(PROGRAM, self.folder / "no-such-scene.i3c"):
+                bus.serve()
+
+    def test_a_client_that_closes_in_the_midst(self) -> None:
+        bus = EveryBus(PROGRAM, self.scene("any\ntrack\nraise light 2A\nclose\n"))
+        bus.serve()
+        self.assertEqual(bus.close(), 1)
+        self.assertRaisesRegex(BusGone, "closed", bus.wait)
+        with contextlib.redirect_stderr(io.StringIO()) as told:
+            for bus in self.every("any\nclose\n"):
+                bus.serve()
+                break
+        self.assertEqual(bus.close(), 1)
+        self.assertTrue(told.getvalue().startswith("In order 1, "))
 
 
 if __name__ == "__main__":

@@ -29,6 +29,9 @@ pub enum Fault {
     /// A fact behind `--by` has a name that the file doesn't give.
     #[error("i3cbus: --by '{0}': no line of the file gives this name\n")]
     NoName(String),
+    /// A scene can't be met by a program, and why.
+    #[error("i3cbus: scene: {0}\n")]
+    Scene(String),
     /// A line has no form: its number, and why.
     #[error("i3cbus: line {0}\n")]
     NoForm(String),

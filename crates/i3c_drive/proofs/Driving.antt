@@ -62,14 +62,14 @@ module _ {L : Type 0} (heard : L → Piece → L) where
   kept_by Keeps old line before after (Err LineError.Memory) new keeps h = h
 
 -- what a text heard is printed
-pub lines_obeyed : (old : ScriptState) (line before : List ℕ) (result : Result (Unit {0}) (LineError Refusal)) (driver : Driver) → before ≡ [] → Reads with_piece old line before driver.answer result (state driver) → Obeyed Form.Lines old line driver result
-lines_obeyed old line before result driver none reads =
-    kept_by with_piece (λ pieces. driver.answer ≡ pieces_text pieces) old line before driver.answer result (state driver) (λ pieces told. told ∙ text_heard before pieces ∙ ap (λ t. t ++ pieces_text pieces) none) reads
+pub lines_obeyed : (old : ScriptState) (line before text : List ℕ) (result : Result (Unit {0}) (LineError Refusal)) (driver : Driver) → before ≡ [] → Reads with_piece old line before text result (state driver) → Obeyed Form.Lines old line driver text result
+lines_obeyed old line before text result driver none reads =
+    kept_by with_piece (λ pieces. text ≡ pieces_text pieces) old line before text result (state driver) (λ pieces told. told ∙ text_heard before pieces ∙ ap (λ t. t ++ pieces_text pieces) none) reads
 
 -- what a list heard is kept
-pub pieces_obeyed : (old : ScriptState) (line : List ℕ) (before : List Piece) (result : Result (Unit {0}) (LineError Refusal)) (driver : Driver) → before ≡ [] → Reads with_next old line before driver.pieces result (state driver) → Obeyed Form.Json old line driver result
-pieces_obeyed old line before result driver none reads =
-    kept_by with_next (λ pieces. driver.pieces ≡ pieces) old line before driver.pieces result (state driver) (λ pieces told. told ∙ list_heard before pieces ∙ ap (λ l. l ++ pieces) none) reads
+pub pieces_obeyed : (old : ScriptState) (line text : List ℕ) (before : List Piece) (result : Result (Unit {0}) (LineError Refusal)) (driver : Driver) → text ≡ [] → before ≡ [] → Reads with_next old line before driver.pieces result (state driver) → Obeyed Form.Json old line driver text result
+pieces_obeyed old line text before result driver empty none reads =
+    kept_by with_next (λ pieces. (text ≡ []) × (driver.pieces ≡ pieces)) old line before driver.pieces result (state driver) (λ pieces told. (empty, told ∙ list_heard before pieces ∙ ap (λ l. l ++ pieces) none)) reads
 
 -- an object of these parts is the answer
 pub object_written : (number : ℕ) (refused : Option Refusal) (kept pieces : List Piece) (added first : Option (ℕ × Record)) (asking news : Option (List Name)) (before answer : List ℕ) → kept ≡ pieces → added ≡ first → asking ≡ news → before ≡ []

@@ -1,4 +1,5 @@
 pub mod Inputs
+pub mod Served
 pub mod Runs
 pub mod Driving
 pub mod Names

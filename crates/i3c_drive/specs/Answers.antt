@@ -4,6 +4,7 @@ use Rattle.std.specs.Fmt.{decimal}
 use Rattle.std.specs.List.{flat_map}
 use Rattle.std.specs.Io.KnownBytes.{Appends}
 use Rattle.i3c_base.specs.declared.requests.Record.{Record}
+use Rattle.i3c_drive.specs.Serving.{AreLinesOf, WentBefore, bytes_of_lines}
 use Rattle.i3c_streams.specs.declared.form.Form.{Form}
 use Rattle.i3c_json.specs.Objects.{IsLineOf, answer_data}
 use Rattle.i3c_lines.specs.declared.command.Command.{Command}
@@ -17,8 +18,8 @@ use Rattle.i3c_lines.specs.Naming.{letters}
 use Rattle.i3c_lines.specs.Refusing.{refusal_text}
 use Rattle.i3c_streams.specs.declared.faults.ScriptFault.{ScriptFault}
 use Rattle.i3c_streams.specs.declared.tally.Tally.{Tally}
-use Rattle.i3c_streams.specs.Outcomes.{AppendsSome, HasNoFeed}
-use Rattle.i3c_runner.specs.Scripts.{Lead, LineRun, lines_bytes, lines_refused}
+use Rattle.i3c_streams.specs.Outcomes.{HasNoFeed}
+use Rattle.i3c_runner.specs.Scripts.{Lead, LineRun, lines_refused}
 use Rattle.i3c_script.specs.declared.piece.Piece.{Piece}
 use Rattle.i3c_script.specs.declared.stage.Stage.{Stage}
 use Rattle.i3c_script.specs.Obeying.{ComesTo, IsBegun, ScriptState}
@@ -129,21 +130,13 @@ AreAnswered form number old (run ∷ rest) new answers = (mid : ScriptState) × 
 abbrev pub as_printed : DrivenRun → LineRun
 as_printed run = record { line = run.line; said = pieces_text run.pieces; refused = run.refused }
 
--- the bytes of driven lines, each with its line feed
-abbrev pub driven_bytes : List DrivenRun → List ℕ
-driven_bytes lines = lines_bytes (map as_printed lines)
+-- the lines of driven runs
+abbrev pub lines_of : List DrivenRun → List (List ℕ)
+lines_of runs = map (λ run. run.line) runs
 
 -- how many driven lines were refused
 abbrev pub driven_refused : List DrivenRun → ℕ
 driven_refused lines = lines_refused (map as_printed lines)
-
--- an input whose last line lacks its line feed
-abbrev pub LacksFeed : List ℕ → Type 0
-LacksFeed input = (front : List ℕ) × (last : ℕ) × (input ≡ front ++ last ∷ []) × (last ≢ 10)
-
--- these are the lines of an input: each ends in a line feed, except the last one, which may lack it
-abbrev pub AreLinesOf : List ℕ → List DrivenRun → Type 0
-AreLinesOf input lines = (driven_bytes lines ≡ input) ⊎ (LacksFeed input × (driven_bytes lines ≡ input ++ 10 ∷ []))
 
 -- each line of the input was run from a script's start, and all answers went out
 pub record IsDriven (form : Form) (known old new : Option (List ℕ)) (tally : Tally) : Type 0 where
@@ -153,16 +146,9 @@ pub record IsDriven (form : Form) (known old new : Option (List ℕ)) (tally : T
   pub answers : List ℕ
   pub begun : IsBegun start
   pub answered : AreAnswered form 1 start lines end answers
-  pub all : IfSome known (λ input. AreLinesOf input lines)
+  pub all : IfSome known (λ input. AreLinesOf input (lines_of lines))
   pub out : Appends old new answers
   pub counted : tally.refused ≡ min (driven_refused lines) 18446744073709551615
-
--- what went out of answers before a fault: of a writer that fails they may be cut, for any other fault they are whole
-abbrev pub WentBefore : ScriptFault → Option (List ℕ) → Option (List ℕ) → List ℕ → Type 0
-WentBefore ScriptFault.Write old new answers = AppendsSome old new answers
-WentBefore ScriptFault.Memory old new answers = Appends old new answers
-WentBefore ScriptFault.Read old new answers = Appends old new answers
-WentBefore ScriptFault.TooLarge old new answers = Appends old new answers
 
 -- the first lines of the input were run and answered, and then a fault ended the run
 pub record IsDrivenPart (form : Form) (known old new : Option (List ℕ)) (fault : ScriptFault) : Type 0 where
@@ -173,7 +159,7 @@ pub record IsDrivenPart (form : Form) (known old new : Option (List ℕ)) (fault
   pub rest : List ℕ
   pub begun : IsBegun start
   pub answered : AreAnswered form 1 start lines end answers
-  pub first : IfSome known (λ input. driven_bytes lines ++ rest ≡ input ++ 10 ∷ [])
+  pub first : IfSome known (λ input. bytes_of_lines (lines_of lines) ++ rest ≡ input ++ 10 ∷ [])
   pub out : WentBefore fault old new answers
 
 -- what goes out to another program that sends these lines

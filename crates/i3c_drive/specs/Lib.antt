@@ -1,3 +1,4 @@
 pub mod Inputs
+pub mod Serving
 pub mod Answers
 pub mod Steps

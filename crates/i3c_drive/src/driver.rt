@@ -1,19 +1,19 @@
 ghost use Rattle.std.specs.Prelude.{◌≡◌, ◌+◌, ◌↔◌, List, [], ◌++◌, drop, length, min, option_map, IsTrue, IfOk, OnOk};
 ghost use Rattle.std.specs.Io.KnownBytes.{IsAtEnd};
 ghost use Rattle.i3c_drive.specs.Answers.{AnswersGoOut, IsWritten, first_added, forgotten_of, last_line, log_of, names_text, news_text};
-ghost use Rattle.i3c_drive.specs.Inputs.{pending};
-ghost use Rattle.i3c_drive.specs.Steps.{AnswersLine, Asked, Closes, HasHeard, IsAnswer, Knows, Obeyed, RunsAll, news_of, state};
+ghost use Rattle.i3c_drive.specs.Steps.{Asked, Closes, HasHeard, Knows, Obeyed, news_of, state};
 ghost use Rattle.i3c_script.specs.declared.piece.Piece.{Piece as PieceValue};
 ghost use Rattle.i3c_script.specs.Obeying.{IsBegun};
 ghost use Rattle.i3c_runner.specs.Scripts.{refusals_of};
 
-use crate::input::{Input, Next};
+use crate::answerer::Answerer;
 use crate::interpreter::Interpreter;
+use crate::serving::answer_lines;
 use i3c_base::Record;
 use i3c_json::{Answer, push_object};
 use i3c_lines::{Name, Refusal};
 use i3c_script::{PieceList, sum_of};
-use i3c_streams::{Form, ScriptFault, Tally, write_out};
+use i3c_streams::{Form, ScriptFault, Tally};
 use i3c_text::{LineError, Text};
 use std::alloc::{AllocError, Global};
 use std::io::{Read, Write};
@@ -45,12 +45,8 @@ pub fn run_driven<R: Read, W: Write>(
     ensures answers { AnswersGoOut form (R.remaining reader.old) (W.contents writer.old) (W.contents writer.new) result }
     ensures unmet { IfOk result (λ tally. tally.unmet ≡ 0) }
 {
-    let mut driver = Driver::new(alloc);
-    let Ok(mut input) = Input::new(alloc) else {
-        let _none = driver.retire();
-        return Err(ScriptFault::Memory);
-    };
-    let outcome = driver.run_all(form, &mut input, reader, writer);
+    let mut driver = Driver::new(alloc, form);
+    let outcome = answer_lines(alloc, &mut driver, reader, writer);
     let refused = driver.retire();
     match outcome {
         Ok(()) => Ok(Tally { refused, unmet: 0 }),
@@ -58,11 +54,11 @@ pub fn run_driven<R: Read, W: Write>(
     }
 }
 
-/// The state of a driven bus: who obeys its lines, the current answer, and how many lines were refused.
+/// The state of a driven bus: the form of its answers, who obeys its lines, and how many lines were refused.
 pub(crate) struct Driver {
     alloc: Global,
+    form: Form,
     interpreter: Interpreter,
-    answer: Text,
     // what the current line came to, where its answer is an object
     pieces: PieceList,
     // the names of the devices that ask, and room for those that ask next
@@ -73,15 +69,16 @@ pub(crate) struct Driver {
 
 impl Driver {
     /// A driver before its first line.
-    fn new(alloc: Global) -> Driver
+    fn new(alloc: Global, form: Form) -> Driver
+        ensures form { result.form ≡ form }
         ensures begun { IsBegun (state result) }
         ensures refused { result.refused ≡ 0 }
         ensures knows { Knows result }
     {
         Driver {
             alloc,
+            form,
             interpreter: Interpreter::new(alloc),
-            answer: Text::new(alloc),
             pieces: PieceList::new(alloc),
             asked: Vec::new(alloc),
             asks: Vec::new(alloc),
@@ -89,86 +86,16 @@ impl Driver {
         }
     }
 
-    /// Answers each line of an input.
-    fn run_all<R: Read, W: Write>(
-        &mut self,
-        form: Form,
-        input: &mut Input,
-        reader: &mut R,
-        out: &mut W,
-    ) -> Result<(), ScriptFault>
-        requires unread { pending input.old ≡ [] }
-        requires knows { Knows self.old }
-        ensures whole { OnOk result (IsAtEnd (R.remaining reader.new)) }
-        ensures runs { RunsAll form (R.remaining reader.old) (W.contents out.old) (W.contents out.new) self.old self.new result }
-    {
-        for number in 1..u64::MAX {
-            let next = match input.advance(reader) {
-                Ok(next) => next,
-                Err(fault) => return Err(fault),
-            };
-            match next {
-                Next::End => return Ok(()),
-                Next::Last => return self.run_and_write(form, number, input.line(), out),
-                Next::Line => match self.run_and_write(form, number, input.line(), out) {
-                    Ok(()) => {}
-                    Err(fault) => return Err(fault),
-                },
-            }
-        }
-        // no input has that many lines
-        Err(ScriptFault::TooLarge)
-    }
-
-    /// Runs a line, and writes its answer out.
-    fn run_and_write<W: Write>(
-        &mut self,
-        form: Form,
-        number: u64,
-        line: &[u8],
-        out: &mut W,
-    ) -> Result<(), ScriptFault>
-        requires { Knows self.old }
-        ensures { AnswersLine form number line.now (W.contents out.old) (W.contents out.new) self.old self.new result }
-    {
-        match self.run(form, number, line) {
-            Ok(()) => {}
-            Err(_) => return Err(ScriptFault::Memory),
-        }
-        match write_out(self.answer.as_bytes(), out) {
-            Ok(()) => {}
-            Err(fault) => return Err(fault),
-        }
-        match out.flush() {
-            Ok(()) => Ok(()),
-            Err(_) => Err(ScriptFault::Write),
-        }
-    }
-
-    /// Runs a line. Its answer waits.
-    fn run(&mut self, form: Form, number: u64, line: &[u8]) -> Result<(), AllocError>
-        requires { Knows self.old }
-        ensures { OnOk result (IsAnswer form number line.now self.old self.new self.new.answer) }
-    {
-        let count = self.interpreter.log().len();
-        match self.obey(form, line) {
-            Ok(()) => return self.close(form, number, count, None),
-            Err(LineError::Refused(why)) => return self.close(form, number, count, Some(why)),
-            Err(LineError::Memory) => return Err(AllocError),
-        }
-    }
-
     /// Obeys a line, and keeps what it comes to: in the form of lines its text, in that of an object its pieces.
-    fn obey(&mut self, form: Form, line: &[u8]) -> Result<(), LineError<Refusal>>
+    fn obey(&mut self, line: &[u8], text: &mut Text) -> Result<(), LineError<Refusal>>
+        requires empty { text.old ≡ [] }
+        ensures form { self.new.form ≡ self.old.form }
         ensures refused { self.new.refused ≡ self.old.refused }
         ensures asked { self.new.asked ≡ self.old.asked }
-        ensures heard { Obeyed form (state self.old) line.now self.new result }
+        ensures heard { Obeyed self.old.form (state self.old) line.now self.new text.new result }
     {
-        match form {
-            Form::Lines => {
-                self.answer.clear();
-                self.interpreter.obey(line, &mut self.answer)
-            }
+        match self.form {
+            Form::Lines => self.interpreter.obey(line, text),
             Form::Json => {
                 self.pieces.clear();
                 self.interpreter.obey(line, &mut self.pieces)
@@ -179,55 +106,52 @@ impl Driver {
     /// Makes the answer to a line of what it came to, and counts its refusal.
     fn close(
         &mut self,
-        form: Form,
         number: u64,
         count: usize,
         refused: Option<Refusal>,
+        text: &mut Text,
     ) -> Result<(), AllocError>
-        ensures told { (pieces : List PieceValue) → HasHeard form pieces self.old → OnOk result (Closes form number count pieces refused self.old self.new) }
+        ensures told { (pieces : List PieceValue) → HasHeard self.old.form pieces self.old text.old → OnOk result (Closes number count pieces refused self.old self.new text.new) }
+        ensures form { self.new.form ≡ self.old.form }
         ensures state { state self.new ≡ state self.old }
         ensures counted { self.new.refused ≡ min (self.old.refused + refusals_of refused) u64.MAX }
     {
         self.refused = self.refused.saturating_add(refusals(&refused));
         let changed = self.ask()?;
-        match form {
-            Form::Lines => self.push_lines(number, count, changed, &refused),
-            Form::Json => self.make_object(number, count, changed, refused),
+        match self.form {
+            Form::Lines => self.push_lines(number, count, changed, &refused, text),
+            Form::Json => self.make_object(number, count, changed, refused, text),
         }
     }
 
     /// Appends to what a line prints: the records behind the first `count`, the devices that ask, if that has changed, and the
     /// last line.
     fn push_lines(
-        &mut self,
+        &self,
         number: u64,
         count: usize,
         changed: bool,
         refused: &Option<Refusal>,
+        text: &mut Text,
     ) -> Result<(), AllocError>
-        ensures told { (pieces : List PieceValue) → HasHeard Form.Lines pieces self.old → OnOk result (IsWritten Form.Lines number pieces (forgotten_of (state self.old) + count) (drop count (log_of (state self.old))) (news_of changed self.old.asked.items) refused.now self.new.answer) }
-        ensures state { state self.new ≡ state self.old }
-        ensures refused { self.new.refused ≡ self.old.refused }
-        ensures asked { self.new.asked ≡ self.old.asked }
+        ensures { (pieces : List PieceValue) → HasHeard Form.Lines pieces self.now text.old → OnOk result (IsWritten Form.Lines number pieces (forgotten_of (state self.now) + count) (drop count (log_of (state self.now))) (news_of changed self.now.asked.items) refused.now text.new) }
     {
-        self.interpreter.push_added(count, &mut self.answer)?;
-        push_news(changed, &self.asked, &mut self.answer)?;
-        push_last(number, refused, &mut self.answer)
+        self.interpreter.push_added(count, text)?;
+        push_news(changed, &self.asked, text)?;
+        push_last(number, refused, text)
     }
 
     /// Makes an object of the pieces of a line, the first record behind the first `count`, the devices that ask, if that has
     /// changed, and the line's result.
     fn make_object(
-        &mut self,
+        &self,
         number: u64,
         count: usize,
         changed: bool,
         refused: Option<Refusal>,
+        text: &mut Text,
     ) -> Result<(), AllocError>
-        ensures told { (pieces : List PieceValue) → HasHeard Form.Json pieces self.old → OnOk result (IsWritten Form.Json number pieces (forgotten_of (state self.old) + count) (drop count (log_of (state self.old))) (news_of changed self.old.asked.items) refused self.new.answer) }
-        ensures state { state self.new ≡ state self.old }
-        ensures refused { self.new.refused ≡ self.old.refused }
-        ensures asked { self.new.asked ≡ self.old.asked }
+        ensures { (pieces : List PieceValue) → HasHeard Form.Json pieces self.now text.old → OnOk result (IsWritten Form.Json number pieces (forgotten_of (state self.now) + count) (drop count (log_of (state self.now))) (news_of changed self.now.asked.items) refused text.new) }
     {
         let log = self.interpreter.log();
         let answer = Answer {
@@ -237,15 +161,14 @@ impl Driver {
             added: first_added(log, count, self.interpreter.forgotten())?,
             asking: news(changed, &self.asked),
         };
-        self.answer.clear();
-        push_object(self.alloc, &answer, &mut self.answer)
+        push_object(self.alloc, &answer, text)
     }
 
     /// Looks which devices ask now, and tells whether they have changed.
     fn ask(&mut self) -> Result<bool, AllocError>
         ensures asked { IfOk result (Asked self.old self.new) }
+        ensures form { self.new.form ≡ self.old.form }
         ensures state { state self.new ≡ state self.old }
-        ensures answer { self.new.answer ≡ self.old.answer }
         ensures pieces { self.new.pieces ≡ self.old.pieces }
         ensures refused { self.new.refused ≡ self.old.refused }
     {
@@ -264,8 +187,8 @@ impl Driver {
     {
         let Driver {
             alloc: _,
+            form: _,
             interpreter,
-            answer: _,
             pieces: _,
             asked: _,
             asks: _,
@@ -276,8 +199,23 @@ impl Driver {
     }
 }
 
+impl Answerer for Driver {
+    ghost use Rattle.i3c_drive.specs.Steps.{AnswersSo};
+
+    ghost answers = { AnswersSo };
+
+    fn answer(&mut self, number: u64, line: &[u8], text: &mut Text) -> Result<(), AllocError> {
+        let count = self.interpreter.log().len();
+        match self.obey(line, text) {
+            Ok(()) => return self.close(number, count, None, text),
+            Err(LineError::Refused(why)) => return self.close(number, count, Some(why), text),
+            Err(LineError::Memory) => return Err(AllocError),
+        }
+    }
+}
+
 /// Whether two lists have the same names in the same order.
-fn are_same(names: &[Name], others: &[Name]) -> bool
+pub fn are_same(names: &[Name], others: &[Name]) -> bool
     ensures { IsTrue result ↔ (names.now ≡ others.now) }
 {
     if names.len() != others.len() {
@@ -292,14 +230,14 @@ fn are_same(names: &[Name], others: &[Name]) -> bool
 }
 
 /// The names of the devices that ask, if they have changed.
-fn news(changed: bool, asking: &[Name]) -> Option<&[Name]>
+pub fn news(changed: bool, asking: &[Name]) -> Option<&[Name]>
     ensures { option_map (λ names. names.now) result ≡ news_of changed asking.now }
 {
     if changed { Some(asking) } else { None }
 }
 
 /// Appends the line of the devices that ask, if they have changed.
-fn push_news(changed: bool, asking: &[Name], answer: &mut Text) -> Result<(), AllocError>
+pub fn push_news(changed: bool, asking: &[Name], answer: &mut Text) -> Result<(), AllocError>
     ensures { OnOk result (answer.new ≡ answer.old ++ news_text (news_of changed asking.now)) }
 {
     if !changed {
@@ -324,7 +262,7 @@ fn push_names(names: &[Name], answer: &mut Text) -> Result<(), AllocError>
 }
 
 /// The first record behind the first `count` of a log, with its number, where `forgotten` have left the log.
-fn first_added(
+pub fn first_added(
     log: &[Record],
     count: usize,
     forgotten: usize,
@@ -349,7 +287,11 @@ fn refusals(refused: &Option<Refusal>) -> u64
 }
 
 /// Appends the last line of an answer.
-fn push_last(number: u64, refused: &Option<Refusal>, answer: &mut Text) -> Result<(), AllocError>
+pub fn push_last(
+    number: u64,
+    refused: &Option<Refusal>,
+    answer: &mut Text,
+) -> Result<(), AllocError>
     ensures { OnOk result (answer.new ≡ answer.old ++ last_line number refused.now) }
 {
     match refused {

@@ -1,11 +1,11 @@
 -- Answers are added, one after another.
-use Rattle.std.proofs.Common.{◌≡◌, ◌⊎◌, ◌∙◌, ◌<◌, ◌≤◌, ◌+◌, ℕ, zero, suc, List, [], ◌∷◌, Contains, arith, get_or, inl, inr, length, OnOk, Result, Ok, Err, refl, subst, sym}
+use Rattle.std.proofs.Common.{◌≡◌, ◌⊎◌, ◌∙◌, ◌<◌, ◌≤◌, ◌+◌, ℕ, zero, suc, List, [], ◌∷◌, ◌++◌, Contains, arith, get_or, inl, inr, length, OnOk, Result, Ok, Err, refl, subst, sym}
 use Rattle.std.proofs.lemmas.Bool.Decides.{eqb_tells}
 use Rattle.std.proofs.lemmas.List.{get_or_read_under}
 use Rattle.std.proofs.lemmas.List.Elements.{Contains-append_cases, Contains-append_left, Contains-append_right}
 use Rattle.i3c_explore.specs.declared.node.Node.{Node}
 use Rattle.i3c_orders.specs.declared.choice.Step.{Step}
-use Rattle.i3c_every.specs.Answered.{Adds, AreAdded, AreAnswered, IsAlike, IsAnsweredAt, IsKeptAt}
+use Rattle.i3c_every.specs.Answered.{Adds, AreAdded, AreAnswered, IsAlike, IsAnsweredAt, IsKeptAt, Tells}
 use Rattle.i3c_every.specs.declared.met.Met.{Met}
 use Rattle.i3c_every.specs.declared.told.Told.{Told}
 
@@ -49,6 +49,29 @@ module _ {S P A : Type 0} (answers : S → P → ℕ → A → S → Type 0) (li
     led = subst (λ (s : S). answers node.state line way at.answer s) (sym state) at.led;
     places = places ∙ at.places;
   }
+
+  -- what a line is answered is added: a step of it
+  abbrev pub IsAdded : Node S → ℕ → List (Step (Met S) (Told A)) → List (Step (Met S) (Told A)) → Type 0
+  IsAdded node way old new = (step : Step (Met S) (Told A)) × IsAnsweredAt answers node line way step × IsKeptAt node way step × Adds step old new
+
+  -- a step that tells it is there
+  pub is_there : (node : Node S) (way : ℕ) (answer : A) (state : S) (old : List (Step (Met S) (Told A))) → answers node.state line way answer state → ((step : Step (Met S) (Told A)) × Contains old step × Tells answer node.places.items state step) → IsAdded node way old old
+  is_there node way answer state old led (step, at, (told, places, leads)) = (
+    record { answer = Told.Answered answer; state = record { state = state; places = node.places; turns = node.order; way = way } },
+    record { answer = answer; told = refl; led = led; places = refl },
+    (refl, refl),
+    inr (refl, (step, at, (told, leads, places))),
+  )
+
+  -- a step of it is new
+  pub is_new : (node : Node S) (way : ℕ) (answer : A) (state : S) (met : Met S) (old new : List (Step (Met S) (Told A))) → answers node.state line way answer state
+      → met.state ≡ state → met.places.items ≡ node.places.items → met.turns.items ≡ node.order.items → met.way ≡ way → new ≡ old ++ record { answer = Told.Answered answer; state = met } ∷ [] → IsAdded node way old new
+  is_new node way answer state met old new led own places turns went more = (
+    record { answer = Told.Answered answer; state = met },
+    record { answer = answer; told = refl; led = subst (λ (s : S). answers node.state line way answer s) (sym own) led; places = places },
+    (turns, went),
+    inl more,
+  )
 
   -- the answers in the first ways were added
   pub record IsWayUp (node : Node S) (count : ℕ) (old new : List (Step (Met S) (Told A))) : Type 0 where

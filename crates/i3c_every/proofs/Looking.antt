@@ -1,27 +1,24 @@
 -- What a program that waited sees, one node after another.
-use Rattle.std.proofs.Common.{◌≡◌, ◌≢◌, ◌⊎◌, ◌∙◌, ◌<◌, ◌≤◌, ◌+◌, ℕ, List, [], Contains, arith, get_or, inl, inr, length, refl, subst, sym}
+use Rattle.std.proofs.Common.{◌≡◌, ◌≢◌, ◌⊎◌, ◌∙◌, ◌<◌, ◌≤◌, ◌+◌, ℕ, List, [], ◌∷◌, ◌++◌, Contains, arith, get_or, inl, inr, length, refl, subst, sym}
 use Rattle.std.proofs.lemmas.Bool.Decides.{eqb_tells}
 use Rattle.std.proofs.lemmas.List.{get_or_read_under}
+use Rattle.std.proofs.lemmas.List.Elements.{Contains-push}
 use Rattle.i3c_explore.specs.declared.node.Node.{Node}
 use Rattle.i3c_orders.specs.declared.choice.Step.{Step}
-use Rattle.i3c_every.specs.Answered.{Adds, IsAlike}
 use Rattle.i3c_every.specs.Seen.{AreSeen, HasTurnsOf, IsSeenAdded, IsSeenAt}
 use Rattle.i3c_every.specs.declared.met.Met.{Met}
 use Rattle.i3c_every.specs.declared.told.Told.{Told}
-use Rattle.i3c_every.proofs.Adding.{adds_from, adds_has, adds_kept, none_in}
+use Rattle.i3c_every.proofs.Adding.{adds_from, adds_kept, none_in}
 
 module _ {S A : Type 0} (sees : S → A → Type 0) where
-  alike_seen : (node : Node S) (one other : Step (Met S) (Told A)) → IsAlike one other → IsSeenAt sees node other → IsSeenAt sees node one
-  alike_seen node one other (told, state, places) at = record { answer = at.answer; told = told ∙ at.told; seen = at.seen; state = state ∙ at.state; places = places ∙ at.places; ran = at.ran }
-
   pub not_added : (node : Node S) (old : List (Step (Met S) (Told A))) → node.order.items ≡ [] → IsSeenAdded sees node old old
   not_added node old none = record { from = λ step at. inl at; kept = λ step at. at; all = λ ran. absurd (ran none) }
 
-  pub added : (node : Node S) (one : Step (Met S) (Told A)) (old new : List (Step (Met S) (Told A))) → IsSeenAt sees node one → HasTurnsOf node one → Adds one old new → IsSeenAdded sees node old new
-  added node one old new own turns adds = record {
-    from = λ step at. go step (adds_from one step old new adds at);
-    kept = λ step at. adds_kept one step old new adds at;
-    all = λ ran. let (step, at, alike) = adds_has one old new adds in (step, at, alike_seen node step one alike own);
+  pub added : (node : Node S) (one : Step (Met S) (Told A)) (old new : List (Step (Met S) (Told A))) → IsSeenAt sees node one → HasTurnsOf node one → new ≡ old ++ one ∷ [] → IsSeenAdded sees node old new
+  added node one old new own turns more = record {
+    from = λ step at. go step (adds_from one step old new (inl more) at);
+    kept = λ step at. adds_kept one step old new (inl more) at;
+    all = λ ran. (one, subst (λ (l : List (Step (Met S) (Told A))). Contains l one) (sym more) (Contains-push old one), own);
   }
     where
       go : (step : Step (Met S) (Told A)) → Contains old step ⊎ (step ≡ one) → Contains old step ⊎ (IsSeenAt sees node step × HasTurnsOf node step)

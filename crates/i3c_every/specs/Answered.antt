@@ -9,6 +9,10 @@ use Rattle.i3c_every.specs.declared.told.Told.{Told}
 abbrev pub IsAlike : {S A : Type 0} → Step (Met S) (Told A) → Step (Met S) (Told A) → Type 0
 IsAlike one other = (one.answer ≡ other.answer) × (one.state.state ≡ other.state.state) × (one.state.places.items ≡ other.state.places.items)
 
+-- a step tells this answer of a line, and leads to this state at these places
+abbrev pub Tells : {S A : Type 0} → A → List ℕ → S → Step (Met S) (Told A) → Type 0
+Tells answer places state step = (step.answer ≡ Told.Answered answer) × (step.state.places.items ≡ places) × (step.state.state ≡ state)
+
 -- a step is added, unless one that is alike is there
 abbrev pub Adds : {S A : Type 0} → Step (Met S) (Told A) → List (Step (Met S) (Told A)) → List (Step (Met S) (Told A)) → Type 0
 Adds {S} {A} one old new = (new ≡ old ++ one ∷ []) ⊎ ((new ≡ old) × ((step : Step (Met S) (Told A)) × Contains old step × IsAlike step one))

@@ -1,67 +1,82 @@
 ghost use Rattle.std.specs.Prelude.{◌≡◌, Contains, IfOk, IsTrue, OnOk};
 ghost use Rattle.i3c_orders.specs.declared.choice.Step.{Step as StepValue};
-ghost use Rattle.i3c_every.specs.Answered.{Adds, AreAdded, AreAnswered, IsAlike, IsAnsweredAt, IsKeptAt};
+ghost use Rattle.i3c_every.specs.Answered.{Adds, AreAdded, AreAnswered, IsAnsweredAt, IsKeptAt, Tells};
 ghost use Rattle.i3c_every.specs.declared.met.Met.{Met as MetValue};
 ghost use Rattle.i3c_every.specs.declared.told.Told.{Told as ToldValue};
 
 use crate::answering::Answering;
+use crate::hashed::Hashed;
 use crate::met::Met;
 use crate::told::Told;
 use i3c_explore::Node;
 use i3c_orders::Step;
 use std::alloc::{AllocError, Global};
+use std::hash::{FoldHasher, Hash, Hasher};
 
-/// Whether a program is told the same.
-pub(crate) fn is_same_told<M: Answering>(one: &Told<M::Answer>, other: &Told<M::Answer>) -> bool
-    ensures { IsTrue result → one.now ≡ other.now }
+/// The hash of places and of the state that a runner is in.
+fn hash_of<M: Answering>(places: &[usize], runner: &M::Runner) -> u64 {
+    let mut hasher = FoldHasher::default();
+    places.hash(&mut hasher);
+    hasher.write_u64(M::hash(runner));
+    hasher.finish()
+}
+
+/// Whether a program is told this answer.
+fn is_told<M: Answering>(told: &Told<M::Answer>, answer: &M::Answer) -> bool
+    ensures { IsTrue result → told.now ≡ ToldValue.Answered answer.now }
 {
-    match (one, other) {
-        (Told::Answered(one), Told::Answered(other)) => M::is_same_answer(one, other),
-        (Told::Happened(one), Told::Happened(other)) => M::is_same_answer(one, other),
-        (Told::NothingLeft(one), Told::NothingLeft(other)) => M::is_same_answer(one, other),
+    match told {
+        Told::Answered(held) => M::is_same_answer(held, answer),
         _ => false,
     }
 }
 
-/// Whether two steps tell the same, and lead to the same state at the same places.
+/// Whether a step tells this answer, and leads to these places and to the state that a runner is in.
 fn is_alike<M: Answering>(
-    one: &Step<Met<M>, Told<M::Answer>>,
-    other: &Step<Met<M>, Told<M::Answer>>,
+    step: &Step<Met<M>, Told<M::Answer>>,
+    answer: &M::Answer,
+    places: &[usize],
+    runner: &M::Runner,
 ) -> bool
-    ensures { IsTrue result → IsAlike one.now other.now }
+    ensures { IsTrue result → Tells answer.now places.now (M.shown runner.now) step.now }
 {
-    one.state.places.as_slice() == other.state.places.as_slice()
-        && one.state.state.is_same(&other.state.state)
-        && is_same_told::<M>(&one.answer, &other.answer)
+    step.state.places.as_slice() == places
+        && step.state.state.is_of(runner)
+        && is_told::<M>(&step.answer, answer)
 }
 
-/// Whether one of some steps is alike.
-fn has_alike<M: Answering>(
+/// Whether the step at an index is alike.
+fn is_alike_at<M: Answering>(
     steps: &[Step<Met<M>, Told<M::Answer>>],
-    one: &Step<Met<M>, Told<M::Answer>>,
+    index: usize,
+    answer: &M::Answer,
+    places: &[usize],
+    runner: &M::Runner,
 ) -> bool
-    ensures { IsTrue result → (step : StepValue (MetValue M) (ToldValue M.Answer)) × Contains steps.now step × IsAlike step one.now }
+    ensures { IsTrue result → (step : StepValue (MetValue M) (ToldValue M.Answer)) × Contains steps.now step × Tells answer.now places.now (M.shown runner.now) step }
 {
-    for index in 0..steps.len() {
-        if is_alike(&steps[index], one) {
+    match steps.get(index) {
+        Some(step) => is_alike::<M>(step, answer, places, runner),
+        None => false,
+    }
+}
+
+/// Whether one of the steps that have a hash is alike.
+fn has_alike<M: Answering>(
+    steps: &Hashed<Step<Met<M>, Told<M::Answer>>>,
+    hash: u64,
+    answer: &M::Answer,
+    places: &[usize],
+    runner: &M::Runner,
+) -> bool
+    ensures { IsTrue result → (step : StepValue (MetValue M) (ToldValue M.Answer)) × Contains steps.now.values.items step × Tells answer.now places.now (M.shown runner.now) step }
+{
+    for index in steps.indices(hash) {
+        if is_alike_at::<M>(&steps.values, *index, answer, places, runner) {
             return true;
         }
     }
     false
-}
-
-/// Adds a step, unless one is alike.
-pub(crate) fn add<M: Answering>(
-    steps: &mut Vec<Step<Met<M>, Told<M::Answer>>>,
-    one: Step<Met<M>, Told<M::Answer>>,
-) -> Result<(), AllocError>
-    ensures { OnOk result (Adds one steps.old.items steps.new.items) }
-{
-    if has_alike(steps, &one) {
-        return Ok(());
-    }
-    steps.push(one)?;
-    Ok(())
 }
 
 /// A run that came to a node's places, with its turns, and is in this state now.
@@ -86,21 +101,28 @@ pub(crate) fn met_at<M: Drop>(
     })
 }
 
-/// Adds what a line is answered at a node in a way.
+/// Adds what a line is answered at a node in a way, on a runner: a step, unless one is alike.
 fn add_answer<M: Answering>(
     alloc: Global,
     node: &Node<M>,
     rules: &M::Rules,
     line: &M::ProgramLine,
     way: usize,
-    steps: &mut Vec<Step<Met<M>, Told<M::Answer>>>,
+    runner: &mut M::Runner,
+    steps: &mut Hashed<Step<Met<M>, Told<M::Answer>>>,
 ) -> Result<(), AllocError>
-    ensures { OnOk result ((step : StepValue (MetValue M) (ToldValue M.Answer)) × IsAnsweredAt (M.answers rules.now) node.now line.now way step × IsKeptAt node.now way step × Adds step steps.old.items steps.new.items) }
+    ensures { OnOk result ((step : StepValue (MetValue M) (ToldValue M.Answer)) × IsAnsweredAt (M.answers rules.now) node.now line.now way step × IsKeptAt node.now way step × Adds step steps.old.values.items steps.new.values.items) }
 {
-    let Step { answer, state } = node.state.answer(alloc, rules, line, way)?;
+    let answer = node.state.answer(alloc, rules, line, way, runner)?;
+    let hash = hash_of::<M>(&node.places, runner);
+    if has_alike::<M>(steps, hash, &answer, &node.places, runner) {
+        return Ok(());
+    }
+    let state = M::kept(alloc, runner, None)?;
     let met = met_at(alloc, node, state, way)?;
-    add::<M>(
-        steps,
+    steps.push(
+        alloc,
+        hash,
         Step {
             answer: Told::Answered(answer),
             state: met,
@@ -108,19 +130,20 @@ fn add_answer<M: Answering>(
     )
 }
 
-/// Adds what a line is answered at a node.
+/// Adds what a line is answered at a node, on a runner.
 fn add_answers<M: Answering>(
     alloc: Global,
     node: &Node<M>,
     rules: &M::Rules,
     line: &M::ProgramLine,
-    steps: &mut Vec<Step<Met<M>, Told<M::Answer>>>,
+    runner: &mut M::Runner,
+    steps: &mut Hashed<Step<Met<M>, Told<M::Answer>>>,
 ) -> Result<(), AllocError>
-    ensures { OnOk result (AreAdded (M.answers rules.now) node.now line.now steps.old.items steps.new.items) }
+    ensures { OnOk result (AreAdded (M.answers rules.now) node.now line.now steps.old.values.items steps.new.values.items) }
 {
     let last = node.state.last_answer(rules, line);
     for way in 0..last + 1 {
-        add_answer(alloc, node, rules, line, way, steps)?;
+        add_answer(alloc, node, rules, line, way, runner, steps)?;
     }
     Ok(())
 }
@@ -134,9 +157,14 @@ pub(crate) fn answers_at<M: Answering>(
 ) -> Result<Vec<Step<Met<M>, Told<M::Answer>>>, AllocError>
     ensures { IfOk result (λ steps. AreAnswered (M.answers rules.now) nodes.now line.now steps.items) }
 {
-    let mut steps = Vec::new(alloc);
+    let Some(first) = nodes.first() else {
+        return Ok(Vec::new(alloc));
+    };
+    let mut runner = first.state.runner(alloc)?;
+    let mut steps = Hashed::new(alloc);
     for index in 0..nodes.len() {
-        add_answers(alloc, &nodes[index], rules, line, &mut steps)?;
+        add_answers(alloc, &nodes[index], rules, line, &mut runner, &mut steps)?;
     }
-    Ok(steps)
+    let Hashed { values, .. } = steps;
+    Ok(values)
 }

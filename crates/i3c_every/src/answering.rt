@@ -1,10 +1,12 @@
 ghost use Rattle.std.specs.Prelude.{◌≡◌, ◌<◌, ◌≤◌, ◌^◌, ◌↔◌, ℕ, IfOk, IsTrue};
 
 use i3c_explore::Machine;
-use i3c_orders::Step;
 use std::alloc::{AllocError, Global};
 
 /// A machine that answers a program while lines of tracks run on it.
+///
+/// Answers that are the same, with equal states at the same places, are told as one step if these states have the same
+/// [`hash`](Machine::hash).
 pub trait Answering: Machine {
     /// What holds of each line that a program sends: what it may meet, and what is expected behind it.
     type Rules: Drop;
@@ -26,15 +28,17 @@ pub trait Answering: Machine {
         ensures small { result < 2 ^ 32 }
         ensures last { (way : ℕ) → (tried : ℕ) × (tried ≤ result) × ((answer : Self.Answer) (new : Self) → answers rules.now self.now line.now tried answer new → answers rules.now self.now line.now way answer new) };
 
-    /// What a line that goes a way is answered, with the state that it leads to.
+    /// Answers a line that goes a way from this state, on a runner, whatever state that is in. The runner comes to the state
+    /// that the line leads to.
     fn answer(
         &self,
         alloc: Global,
         rules: &Self::Rules,
         line: &Self::ProgramLine,
         way: usize,
-    ) -> Result<Step<Self, Self::Answer>, AllocError>
-        ensures { IfOk result (λ step. answers rules.now self.now line.now way step.answer step.state) };
+        runner: &mut Self::Runner,
+    ) -> Result<Self::Answer, AllocError>
+        ensures { IfOk result (λ answer. answers rules.now self.now line.now way answer (Self.shown runner.new)) };
 
     /// What a program that waits is told in this state.
     fn look(&self, alloc: Global) -> Result<Self::Answer, AllocError>

@@ -10,6 +10,7 @@
 //!   it waits until something happens. `told` is what it is told.
 //! * `met` is where a run is: a state, and the places in the tracks.
 //! * `answered` has the answers that a line is given in some states, and `seen` what a program that waited sees there.
+//!   `hashed` finds an answer that was given before.
 //! * `tracks` answers what a program sends.
 //! * `closing` runs what is left where a program's run is over: the lines that are left in the tracks, and blocks behind them.
 //! * `laws` says what was tried where no run is left.
@@ -33,6 +34,7 @@
 mod answered;
 mod answering;
 mod closing;
+mod hashed;
 mod laws;
 mod met;
 mod seen;

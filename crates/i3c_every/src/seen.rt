@@ -1,7 +1,7 @@
 ghost use Rattle.std.specs.Prelude.{◌≡◌, [], IfOk, OnOk, false, true};
 ghost use Rattle.i3c_every.specs.Seen.{AreSeen, IsSeenAdded};
 
-use crate::answered::{add, met_at};
+use crate::answered::met_at;
 use crate::answering::Answering;
 use crate::met::Met;
 use crate::told::Told;
@@ -19,6 +19,8 @@ fn has_turns<M>(node: &Node<M>) -> bool
 }
 
 /// Adds what a program that waited sees at a node, if lines of the tracks ran before it.
+///
+/// Two nodes differ in their places or their states, so no steps are compared.
 fn add_seen<M: Answering>(
     alloc: Global,
     node: &Node<M>,
@@ -32,13 +34,11 @@ fn add_seen<M: Answering>(
     let answer = node.state.look(alloc)?;
     let state = copied(alloc, &node.state)?;
     let met = met_at(alloc, node, state, 0)?;
-    add::<M>(
-        steps,
-        Step {
-            answer: Told::Happened(answer),
-            state: met,
-        },
-    )
+    steps.push(Step {
+        answer: Told::Happened(answer),
+        state: met,
+    })?;
+    Ok(())
 }
 
 /// What a program that waited sees at the nodes before which lines of the tracks ran.

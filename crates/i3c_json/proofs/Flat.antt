@@ -1,5 +1,5 @@
 -- An answer's object has no float, and nests little.
-use Rattle.std.proofs.Common.{◌≡◌, ◌≤◌, ℕ, Bool, true, false, ◌||◌, cond, List, [], ◌∷◌, map, Option, Some, None, Ordering, Less, Equal, Greater, arith, refl}
+use Rattle.std.proofs.Common.{◌≡◌, ◌≤◌, ℕ, Bool, true, false, ◌||◌, cond, List, [], ◌∷◌, map, option_map, Option, Some, None, Ordering, Less, Equal, Greater, arith, refl}
 use Rattle.std.proofs.lemmas.Bool.{or_parts}
 use Rattle.std.specs.Prelude.{codes, ⊤}
 use Rattle.std.specs.Ordering.{match_ordering}
@@ -14,10 +14,13 @@ use Rattle.i3c_lines.specs.declared.refusals.Refusal.{Refusal}
 use Rattle.i3c_lines.specs.Refusing.{refusal_token}
 use Rattle.i3c_script.specs.declared.piece.Piece.{Piece}
 use Rattle.i3c_text.specs.Hex.{byte_text}
+use Rattle.i3c_json.specs.declared.aside.Aside.{Aside}
 use Rattle.i3c_json.specs.declared.fields.Array.{Array}
+use Rattle.i3c_json.specs.declared.told.Told.{Told}
+use Rattle.i3c_json.specs.declared.verdict.Verdict.{Verdict}
 use Rattle.i3c_json.specs.Fields.{field_of, is_item, item_data, put_arrays, put_field, put_fields, put_items, put_pieces, symbol_lines, values_of}
-use Rattle.i3c_json.specs.Values.{byte_data, name_data, record_data, text_data, wish_data}
-use Rattle.i3c_json.specs.Objects.{answer_data, put_address, put_asking, put_outcome, put_record, refusal_address}
+use Rattle.i3c_json.specs.Values.{byte_data, name_data, record_data, text_data, unmet_data, wish_data}
+use Rattle.i3c_json.specs.Objects.{aside_field, put_address, put_asking, put_outcome, put_record, put_verdict, refusal_address, told_data}
 
 -- no float, and at most two levels
 abbrev IsFlat : Data → Type 0
@@ -177,6 +180,21 @@ outcome_put None members flat = put_flat (codes "ok") (boolean true) members (re
 outcome_put (Some why) members flat =
     address_put (refusal_address why) (put (codes "refused") (text_data (refusal_token why)) members) (put_flat (codes "refused") (text_data (refusal_token why)) members (text_flat (refusal_token why)) flat)
 
+verdict_put : (verdict : Verdict) (members : Members) → AreFlat members → AreFlat (put_verdict verdict members)
+verdict_put Verdict.Done members flat = outcome_put None members flat
+verdict_put (Verdict.Refused why) members flat = outcome_put (Some why) members flat
+verdict_put (Verdict.Named name) members flat = put_flat (codes "refused") (text_data name.now) members (text_flat name.now) flat
+verdict_put (Verdict.Unmet line there) members flat =
+    put_flat (codes "unmet") (unmet_data line there.now) (put (codes "refused") (text_data (codes "Unmet")) members) (refl, omega arith) (put_flat (codes "refused") (text_data (codes "Unmet")) members (text_flat (codes "Unmet")) flat)
+
+aside_flat : (aside : Aside) → FieldFlat (aside_field aside)
+aside_flat Aside.Nothing = tt
+aside_flat (Aside.Happened is_so) = (refl, omega arith)
+aside_flat (Aside.Due line) = (refl, omega arith)
+aside_flat (Aside.Order count) = (refl, omega arith)
+aside_flat (Aside.All count) = (refl, omega arith)
+aside_flat (Aside.Script lines) = (refl, omega arith)
+
 record_put : (added : Option (ℕ × Record)) (members : Members) → AreFlat members → AreFlat (put_record added members)
 record_put None members flat = flat
 record_put (Some numbered) members flat =
@@ -188,9 +206,9 @@ asking_put None members flat = flat
 asking_put (Some names) members flat = put_flat (codes "asking") _ members (array_flat _ (names_flat names)) flat
 
 -- an answer's object
-pub answer_flat : (count : ℕ) (refused : Option Refusal) (pieces : List Piece) (added : Option (ℕ × Record)) (asking : Option (List Name))
-    → (has_float (answer_data count refused pieces added asking) ≡ false) × (depth (answer_data count refused pieces added asking) ≤ 127)
-answer_flat count refused pieces added asking =
-    let line : AreFlat (put (codes "line") (number (unsigned count)) no_members) = (refl, omega arith) in
-    let all = asking_put asking _ (record_put added _ (pieces_put pieces _ (outcome_put refused _ line))) in
+pub told_flat : (told : Told) → (has_float (told_data told) ≡ false) × (depth (told_data told) ≤ 127)
+told_flat told =
+    let line : AreFlat (put (codes "line") (number (unsigned told.number)) no_members) = (refl, omega arith) in
+    let inner = asking_put (option_map (λ names. names.now) told.asking) _ (record_put told.added _ (pieces_put told.pieces.now _ (verdict_put told.verdict _ line))) in
+    let all = field_put (aside_field told.aside) _ (aside_flat told.aside) inner in
     (all.0, omega (arith, all.1))

@@ -12,8 +12,11 @@ use Rattle.i3c_lines.specs.Refusing.{refusal_token}
 use Rattle.i3c_script.specs.declared.piece.Piece.{Piece}
 use Rattle.i3c_text.specs.Hex.{byte_text}
 use Rattle.i3c_json.specs.declared.answer.Answer.{Answer}
-use Rattle.i3c_json.specs.Fields.{put_pieces}
-use Rattle.i3c_json.specs.Values.{name_data, record_data, text_data}
+use Rattle.i3c_json.specs.declared.aside.Aside.{Aside}
+use Rattle.i3c_json.specs.declared.told.Told.{Told}
+use Rattle.i3c_json.specs.declared.verdict.Verdict.{Verdict}
+use Rattle.i3c_json.specs.Fields.{put_field, put_pieces}
+use Rattle.i3c_json.specs.Values.{name_data, record_data, text_data, unmet_data}
 
 -- the address that a refusal of the bus is about
 abbrev pub bus_address : BusRefusal → Option ℕ
@@ -85,3 +88,37 @@ pub record IsLineOf (value : Data) (line : List ℕ) : Type 0 where
 -- the object of an answer in parts
 abbrev pub data_of : Answer → Data
 data_of answer = answer_data answer.number answer.refused answer.pieces.now answer.added (option_map (λ names. names.now) answer.asking)
+
+-- the verdict on a line that was done, or refused for this reason
+abbrev pub verdict_of : Option Refusal → Verdict
+verdict_of None = Verdict.Done
+verdict_of (Some why) = Verdict.Refused why
+
+-- the expectation of a line doesn't hold, and this is there instead
+abbrev pub put_unmet : ℕ → List ℕ → Members → Members
+put_unmet line there members = put (codes "unmet") (unmet_data line there) (put (codes "refused") (text_data (codes "Unmet")) members)
+
+-- how the line ended
+abbrev pub put_verdict : Verdict → Members → Members
+put_verdict Verdict.Done members = put_outcome None members
+put_verdict (Verdict.Refused why) members = put_outcome (Some why) members
+put_verdict (Verdict.Named name) members = put (codes "refused") (text_data name.now) members
+put_verdict (Verdict.Unmet line there) members = put_unmet line there.now members
+
+-- the field of what an answer says besides, and its value
+abbrev pub aside_field : Aside → Option (List ℕ × Data)
+aside_field Aside.Nothing = None
+aside_field (Aside.Happened is_so) = Some (codes "happened", boolean is_so)
+aside_field (Aside.Due line) = Some (codes "due", text_data line.now)
+aside_field (Aside.Order count) = Some (codes "order", number (unsigned count))
+aside_field (Aside.All count) = Some (codes "all", number (unsigned count))
+aside_field (Aside.Script lines) = Some (codes "script", text_data lines.now)
+
+-- what an answer says besides
+abbrev pub put_aside : Aside → Members → Members
+put_aside aside members = put_field (aside_field aside) members
+
+-- the object of an answer to a program that meets every order: that of any answer, with what it says besides
+abbrev pub told_data : Told → Data
+told_data told =
+    object (put_aside told.aside (put_asking (option_map (λ names. names.now) told.asking) (put_record told.added (put_pieces told.pieces.now (put_verdict told.verdict (put (codes "line") (number (unsigned told.number)) no_members))))))

@@ -1,5 +1,5 @@
 -- The values of fields, as JSON data.
-use Rattle.std.specs.Prelude.{ℕ, nat_lt, List, [], ◌∷◌, ◌++◌, codes, map, Option, Some, None, if◌then◌else◌}
+use Rattle.std.specs.Prelude.{ℕ, nat_lt, List, ◌++◌, codes, map, Option, Some, None, if◌then◌else◌}
 use Rattle.std.specs.Fmt.{decimal}
 use Rattle.serde_json.specs.Data.{Data, Members, boolean, null, number, object, string, unsigned, no_members, put}
 use Rattle.i3c_base.specs.declared.identity.Identity.{Identity}
@@ -80,3 +80,7 @@ description_data device = object (put_identity device.identity (put (codes "inte
 -- the slot that was active while the records with these numbers were made
 abbrev pub tenure_data : ℕ → ℕ → ℕ → Data
 tenure_data slot from to = object (put (codes "from") (number (unsigned from)) (put (codes "slot") (number (unsigned slot)) (put (codes "to") (number (unsigned to)) no_members)))
+
+-- the line whose expectation doesn't hold, and what is there instead
+abbrev pub unmet_data : ℕ → List ℕ → Data
+unmet_data line there = object (put (codes "line") (number (unsigned line)) (put (codes "there") (text_data there) no_members))

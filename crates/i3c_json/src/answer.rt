@@ -1,18 +1,13 @@
-ghost use Rattle.std.specs.Prelude.{◌≡◌, ℕ, ◌++◌, List, map, option_map, OnOk, IfOk};
-ghost use Rattle.serde_json.specs.Data.{array};
-ghost use Rattle.serde_json.specs.View.{items_of, members_view, view};
-ghost use Rattle.i3c_json.specs.Values.{name_data};
-ghost use Rattle.i3c_json.specs.Objects.{IsLineOf, data_of, put_address, put_asking, put_outcome, put_record, refusal_address};
+ghost use Rattle.std.specs.Prelude.{◌≡◌, ℕ, ◌++◌, List, OnOk};
+ghost use Rattle.i3c_json.specs.Objects.{IsLineOf, data_of, verdict_of};
 
-use crate::fields::put_pieces;
-use crate::objects::record_value;
-use crate::values::{Fields, put_flag, put_hex, put_number, put_text, text_value};
-use i3c_base::{Addr7, Record};
+use crate::aside::Aside;
+use crate::told::{Told, push_told};
+use crate::verdict::Verdict;
+use i3c_base::Record;
 use i3c_lines::{Name, Refusal};
 use i3c_script::Piece;
-use i3c_step::Refusal as BusRefusal;
 use i3c_text::Text;
-use serde_json::{Map, Value, push, put};
 use std::alloc::{AllocError, Global};
 
 /// The answer to a line, in its parts.
@@ -34,106 +29,23 @@ pub struct Answer<'a> {
 pub fn push_object(alloc: Global, answer: &Answer<'_>, text: &mut Text) -> Result<(), AllocError>
     ensures { OnOk result ((line : List ℕ) × (text.new ≡ text.old ++ line) × IsLineOf (data_of answer.now) line) }
 {
-    let object = answer_value(alloc, answer)?.to_string(alloc)?;
-    text.push(object.as_bytes())?;
-    text.end()
+    let told = Told {
+        number: answer.number,
+        verdict: verdict_of(&answer.refused),
+        pieces: answer.pieces,
+        added: answer.added,
+        asking: answer.asking,
+        aside: Aside::Nothing,
+    };
+    push_told(alloc, &told, text)
 }
 
-/// The object of an answer.
-fn answer_value(alloc: Global, answer: &Answer<'_>) -> Result<Value, AllocError>
-    ensures { IfOk result (λ value. view value ≡ data_of answer.now) }
-{
-    let mut fields = Map::new(alloc);
-    put_number(alloc, "line", answer.number, &mut fields)?;
-    put_outcome(alloc, &answer.refused, &mut fields)?;
-    put_pieces(alloc, answer.pieces, &mut fields)?;
-    put_record(alloc, &answer.added, &mut fields)?;
-    put_asking(alloc, answer.asking, &mut fields)?;
-    Ok(Value::Object(fields))
-}
-
-/// Puts the result of the line.
-fn put_outcome(
-    alloc: Global,
-    refused: &Option<Refusal>,
-    fields: &mut Fields,
-) -> Result<(), AllocError>
-    ensures { OnOk result (members_view fields.new.entries ≡ put_outcome refused.now (members_view fields.old.entries)) }
+/// The verdict on a line that was done, or refused for this reason.
+fn verdict_of(refused: &Option<Refusal>) -> Verdict<'_>
+    ensures { result ≡ verdict_of refused.now }
 {
     match refused {
-        None => put_flag(alloc, "ok", true, fields),
-        Some(why) => {
-            put_text(alloc, "refused", why.token().as_bytes(), fields)?;
-            put_address(alloc, refusal_address(why), fields)
-        }
+        None => Verdict::Done,
+        Some(why) => Verdict::Refused(*why),
     }
-}
-
-/// The address that a refusal is about, if it is about one.
-fn refusal_address(why: &Refusal) -> Option<Addr7>
-    ensures { result ≡ refusal_address why.now }
-{
-    match why {
-        Refusal::Bus(BusRefusal::NoAnswer(address) | BusRefusal::BadAddress(address)) => {
-            Some(*address)
-        }
-        _ => None,
-    }
-}
-
-/// Puts the address that a refusal is about.
-fn put_address(alloc: Global, address: Option<Addr7>, fields: &mut Fields) -> Result<(), AllocError>
-    ensures { OnOk result (members_view fields.new.entries ≡ put_address address (members_view fields.old.entries)) }
-{
-    match address {
-        None => Ok(()),
-        Some(address) => put_hex(alloc, "about", address.get(), fields),
-    }
-}
-
-/// Puts the record that the line added.
-fn put_record(
-    alloc: Global,
-    added: &Option<(u64, Record)>,
-    fields: &mut Fields,
-) -> Result<(), AllocError>
-    ensures { OnOk result (members_view fields.new.entries ≡ put_record added.now (members_view fields.old.entries)) }
-{
-    match added {
-        None => Ok(()),
-        Some((number, record)) => {
-            put(
-                fields,
-                alloc,
-                "record",
-                record_value(alloc, *number, record)?,
-            )
-        }
-    }
-}
-
-/// Puts the names of the devices that ask, if they have changed.
-fn put_asking(alloc: Global, asking: Option<&[Name]>, fields: &mut Fields) -> Result<(), AllocError>
-    ensures { OnOk result (members_view fields.new.entries ≡ put_asking (option_map (λ names. names.now) asking.entry) (members_view fields.old.entries)) }
-{
-    match asking {
-        None => Ok(()),
-        Some(names) => {
-            let names = names_value(alloc, names)?;
-            put(fields, alloc, "asking", names)
-        }
-    }
-}
-
-/// An array of names.
-fn names_value(alloc: Global, names: &[Name]) -> Result<Value, AllocError>
-    ensures { IfOk result (λ value. view value ≡ array (items_of (map name_data names.now))) }
-{
-    let mut values = Vec::new(alloc);
-    let mut rest = names;
-    while let [name, more @ ..] = rest {
-        push(&mut values, text_value(alloc, name.as_bytes())?)?;
-        rest = more;
-    }
-    Ok(Value::Array(values))
 }

@@ -1,6 +1,6 @@
 ghost use Rattle.std.specs.Prelude.{◌≡◌, IfOk, OnOk};
 ghost use Rattle.serde_json.specs.View.{members_view, view};
-ghost use Rattle.i3c_json.specs.Values.{assigned_data, description_data, device_data, entered_data, put_identity, record_data, target_data, tenure_data};
+ghost use Rattle.i3c_json.specs.Values.{assigned_data, description_data, device_data, entered_data, put_identity, record_data, target_data, tenure_data, unmet_data};
 
 use crate::values::{
     Fields, put_byte, put_flag, put_hex, put_name, put_number, put_place, put_text, put_wish,
@@ -123,5 +123,15 @@ pub(crate) fn tenure_value(
     put_number(alloc, "to", to as u64, &mut fields)?;
     put_number(alloc, "slot", slot.index() as u64, &mut fields)?;
     put_number(alloc, "from", from as u64, &mut fields)?;
+    Ok(Value::Object(fields))
+}
+
+/// The line whose expectation doesn't hold, and what is there instead.
+pub(crate) fn unmet_value(alloc: Global, line: u64, there: &[u8]) -> Result<Value, AllocError>
+    ensures { IfOk result (λ value. view value ≡ unmet_data line there.now) }
+{
+    let mut fields = Map::new(alloc);
+    put_text(alloc, "there", there, &mut fields)?;
+    put_number(alloc, "line", line, &mut fields)?;
     Ok(Value::Object(fields))
 }

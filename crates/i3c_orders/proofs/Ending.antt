@@ -1,5 +1,5 @@
 -- The end of a path.
-use Rattle.std.proofs.Common.{◌≡◌, ◌∷◌, ◌-◌, ◌+◌, ◌≤◌, [], ℕ, zero, suc, List, MatchOption, OnErr, Result, Ok, Err, Some, None, length, take, sym, ap, arith, subst}
+use Rattle.std.proofs.Common.{◌≡◌, ◌∷◌, ◌-◌, ◌+◌, ◌≤◌, [], ℕ, zero, suc, List, MatchOption, Err, Some, None, length, take, sym, ap, arith, subst}
 use Rattle.std.proofs.lemmas.Option.{same_Some, slice_get_past}
 use Rattle.std.specs.List.{slice_get}
 use Rattle.i3c_orders.specs.declared.choice.Choice.{Choice}

@@ -28,6 +28,11 @@ last_step [] = None
 last_step (choice ∷ []) = Some choice.taken
 last_step (choice ∷ next ∷ path) = last_step (next ∷ path)
 
+-- the line of a choice, if there is one
+abbrev pub due_of : {L S A : Type 0} → Option (Choice L S A) → Option L
+due_of None = None
+due_of (Some choice) = Some choice.line
+
 -- the state behind a path
 abbrev pub state_behind : {L S A : Type 0} → S → List (Choice L S A) → S
 state_behind start [] = start

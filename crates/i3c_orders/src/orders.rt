@@ -43,8 +43,8 @@ impl<L, S, A> Model for Orders<L, S, A> {
 }
 
 impl<L: Drop, S: Drop, A: Drop> Orders<L, S, A> {
-    ghost use Rattle.std.specs.Prelude.{◌≡◌, [], take, option_copied};
-    ghost use Rattle.i3c_orders.specs.Paths.{Ends, last_step, state_behind, tree};
+    ghost use Rattle.std.specs.Prelude.{◌≡◌, [], take, option_copied, slice_get};
+    ghost use Rattle.i3c_orders.specs.Paths.{Ends, due_of, last_step, state_behind, tree};
 
     /// Before the first run: each begins in this state.
     pub fn new(alloc: Global, start: S) -> Orders<L, S, A>
@@ -78,6 +78,16 @@ impl<L: Drop, S: Drop, A: Drop> Orders<L, S, A> {
         let last = self.at.checked_sub(1)?;
         match self.path.get(last) {
             Some(choice) => Some(&choice.taken),
+            None => None,
+        }
+    }
+
+    /// The line that the run before sent here, where this run began as that one did: none where this run is ahead.
+    pub fn due(&self) -> Option<&L>
+        ensures { option_copied result ≡ due_of (slice_get self.now.path self.now.at) }
+    {
+        match self.path.get(self.at) {
+            Some(choice) => Some(&choice.line),
             None => None,
         }
     }

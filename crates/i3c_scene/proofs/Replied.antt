@@ -75,10 +75,8 @@ reply_told rules old command ways count behind live pieces refused begun reply c
     }
 
 -- a line that was answered in the ways that are tried is answered so in its way
-pub line_answered : (rules : Rules) (old live new state : Seen) (line : List ℕ) (command : Command) (tried : Ways) (way : ℕ) (reply : Replied) → IsCommand line command → live ≡ old → tried ≡ tried_as old.state rules.risk (Some command) way → state ≡ new
-    → IsReply rules live command tried reply new → LineReplies rules old line way reply state
-line_answered rules old live new state line command tried way reply is same tried_is kept replied =
+pub line_answered : (rules : Rules) (old live new : Seen) (line : List ℕ) (command : Command) (tried : Ways) (way : ℕ) (reply : Replied) → IsCommand line command → live ≡ old → tried ≡ tried_as old.state rules.risk (Some command) way → IsReply rules live command tried reply new → LineReplies rules old line way reply new
+line_answered rules old live new line command tried way reply is same tried_is replied =
     let from = subst (λ (s : Seen). IsReply rules s command tried reply new) same replied in
     let in_ways = subst (λ (w : Ways). IsReply rules old command w reply new) tried_is from in
-    let whole = replies_as rules old command (tried_as old.state rules.risk (Some command) way) (ways_of rules.risk way) reply new (does_tried old command rules.risk way) in_ways in
-    (command, is, subst (λ (s : Seen). IsReply rules old command (ways_of rules.risk way) reply s) (sym kept) whole)
+    (command, is, replies_as rules old command (tried_as old.state rules.risk (Some command) way) (ways_of rules.risk way) reply new (does_tried old command rules.risk way) in_ways)

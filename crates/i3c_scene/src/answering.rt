@@ -1,9 +1,9 @@
 use crate::program_line::ProgramLine;
 use crate::reply::Reply;
 use crate::rules::Rules;
+use crate::runner::Runner;
 use crate::scene::Scene;
 use i3c_every::Answering;
-use i3c_orders::Step;
 use std::alloc::{AllocError, Global};
 
 impl Answering for Scene {
@@ -30,13 +30,12 @@ impl Answering for Scene {
         rules: &Rules,
         line: &ProgramLine,
         way: usize,
-    ) -> Result<Step<Scene, Reply>, AllocError> {
+        runner: &mut Runner,
+    ) -> Result<Reply, AllocError> {
         let command = line.command();
         let tried = self.ways_tried(&rules.risk, command, way);
-        let mut live = self.wake(alloc)?;
-        let answer = live.reply(alloc, rules, command, tried)?;
-        let state = live.kept(alloc)?;
-        Ok(Step { answer, state })
+        runner.wake_to(alloc, self, false)?;
+        runner.live.reply(alloc, rules, command, tried)
     }
 
     fn look(&self, alloc: Global) -> Result<Reply, AllocError> {

@@ -31,7 +31,6 @@ impl ProgramLine {
     ghost use Rattle.std.specs.Prelude.{◌≡◌, IfOk, MatchOption, if◌then◌else◌};
     ghost use Rattle.i3c_every.specs.declared.sent.Sent.{Sent as SentValue};
     ghost use Rattle.i3c_lines.specs.declared.command.Command.{Command as CommandValue};
-    ghost use Rattle.i3c_lines.specs.Forms.{IsCommand};
     ghost use Rattle.i3c_scene.specs.Frames.{sends_frame};
     ghost use Rattle.i3c_scene.specs.Replying.{MaySend};
 
@@ -80,7 +79,7 @@ impl ProgramLine {
 
     /// The line as a program sends it: lines of the tracks may run before it where it sends a frame.
     pub fn sent(self) -> Sent<ProgramLine>
-        ensures { (command : CommandValue) × IsCommand self command × (result ≡ (if sends_frame command then SentValue.Meets self else SentValue.Alone self)) }
+        ensures { (command : CommandValue) × MaySend self command × (result ≡ (if sends_frame command then SentValue.Meets self else SentValue.Alone self)) }
     {
         let meets = sends_frame(self.command());
         if meets {

@@ -27,6 +27,9 @@ pub record NumberOption : Type 0 where
 abbrev pub most_lines : NumberOption
 most_lines = record { name = codes "most"; least = 0; most = 18446744073709551615; without = 10000000 }
 
+abbrev pub most_orders : NumberOption
+most_orders = record { name = codes "most"; least = 1; most = 18446744073709551615; without = 18446744073709551615 }
+
 abbrev pub jobs : NumberOption
 jobs = record { name = codes "jobs"; least = 1; most = 4294967295; without = 1 }
 

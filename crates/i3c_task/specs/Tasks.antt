@@ -4,6 +4,7 @@ use Rattle.clap.specs.Words.{Text, fault_of, first_value, found_of, rows_of, sub
 use Rattle.clap.specs.declared.parser.matches.ArgMatches.{ArgMatches}
 use Rattle.clap.specs.declared.parser.matches.Found.{Found}
 use Rattle.i3c_ccc.specs.declared.codes.CodeSet.{CodeSet}
+use Rattle.i3c_explore.specs.declared.limits.Limits.{Limits}
 use Rattle.i3c_streams.specs.declared.form.Form.{Form}
 use Rattle.i3c_streams.specs.declared.watching.Watching.{Watching}
 use Rattle.i3c_streams.specs.Watching.{is_plain}
@@ -15,7 +16,7 @@ use Rattle.i3c_task.specs.declared.task.Waveform.{Waveform}
 use Rattle.i3c_task.specs.declared.task.Work.{Work}
 use Rattle.i3c_task.specs.declared.verb.Verb.{Verb}
 use Rattle.i3c_task.specs.Commands.{name_of, program}
-use Rattle.i3c_task.specs.Options.{AreLegacies, IsFlag, IsNumberOf, IsPartOf, devices, jobs, legacy_texts, most_lines, posts, text_or, texts_of}
+use Rattle.i3c_task.specs.Options.{AreLegacies, IsFlag, IsNumberOf, IsPartOf, devices, jobs, legacy_texts, most_lines, most_orders, posts, text_or, texts_of}
 use Rattle.i3c_task.specs.Words.{RunsInput}
 
 -- the file of a command: standard input without one
@@ -34,11 +35,21 @@ IsRun found Work.Run = IsWatching found (record { numbers = false; echo = false;
 IsRun found (Work.Watch watching) = IsWatching found watching × (is_plain watching ≡ false)
 IsRun found work = ⊥
 
--- how lines are answered
-abbrev pub IsDrive : Found → Work → Type 0
-IsDrive found (Work.Drive Form.Json) = IsFlag found (codes "json") true
-IsDrive found (Work.Drive Form.Lines) = IsFlag found (codes "json") false
-IsDrive found work = ⊥
+-- the form in which lines are answered
+abbrev pub IsForm : Found → Form → Type 0
+IsForm found Form.Json = IsFlag found (codes "json") true
+IsForm found Form.Lines = IsFlag found (codes "json") false
+
+-- what is run, and kept, before each line of a program that meets every order
+abbrev pub limits_between : Limits
+limits_between = record { steps = 10000000; states = 16384 }
+
+-- the task of `drive`: with `--every` its text is the scene's file
+abbrev pub IsDrive : Found → Task → Type 0
+IsDrive found (Task.File (Work.Drive form) file) = IsForm found form × (file.now ≡ codes "-") × (first_value found (codes "every") ≡ None)
+IsDrive found (Task.Meet meeting scene) =
+    IsForm found meeting.form × (meeting.limits ≡ limits_between) × IsNumberOf most_orders found meeting.most × (first_value found (codes "every") ≡ Some scene.now)
+IsDrive found task = ⊥
 
 -- the codes that a trace knows by name
 abbrev pub HasCodes : Found → CodeSet → Type 0
@@ -95,7 +106,7 @@ IsStress found asked = IsNumberOf devices found asked.devices × IsNumberOf post
 -- the task of a command with these options
 abbrev pub IsTaskOf : Verb → Found → Task → Type 0
 IsTaskOf Verb.Run found (Task.File work file) = IsRun found work × (file.now ≡ file_of found)
-IsTaskOf Verb.Drive found (Task.File work file) = IsDrive found work × (file.now ≡ codes "-")
+IsTaskOf Verb.Drive found task = IsDrive found task
 IsTaskOf Verb.Check found (Task.File work file) = (work ≡ Work.Check) × (file.now ≡ file_of found)
 IsTaskOf Verb.Draw found (Task.File work file) = (work ≡ Work.Draw) × (file.now ≡ file_of found)
 IsTaskOf Verb.Explore found task = IsExplore found task

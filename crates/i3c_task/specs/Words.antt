@@ -9,6 +9,7 @@ abbrev pub RunsInput : Task → Type 0
 RunsInput (Task.File work file) = (work ≡ Work.Run) × (file.now ≡ codes "-")
 RunsInput (Task.Capture capturing work file) = ⊥
 RunsInput (Task.Explore exploring file) = ⊥
+RunsInput (Task.Meet meeting scene) = ⊥
 RunsInput (Task.Stress stress) = ⊥
 RunsInput Task.Version = ⊥
 

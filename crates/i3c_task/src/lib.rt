@@ -12,7 +12,8 @@ mod verb;
 mod words_fault;
 
 pub use task::{
-    Capturing, Exploring, STANDARD_INPUT, Stress, Task, Telling, Waveform, Work, task_named,
+    Capturing, Exploring, Meeting, STANDARD_INPUT, Stress, Task, Telling, Waveform, Work,
+    task_named,
 };
 pub use verb::{MOST_DEVICES, MOST_POSTS};
 pub use words_fault::WordsFault;

@@ -1,7 +1,8 @@
 ghost use Rattle.std.specs.Prelude.{◌≡◌, ◌∷◌, ◌↔◌, [], IfOk, IsOkAnd, IsTrue, MatchOption, codes, length, map};
 ghost use Rattle.std.specs.String.{string_bytes};
 ghost use Rattle.clap.specs.Words.{found_of};
-ghost use Rattle.i3c_task.specs.Tasks.{HasCodes, IsAskedFor, IsCapturing, IsDrive, IsExplore, IsNamed, IsRun, IsStress, IsTaskOf, IsTelling, IsTrace, IsWave, IsWaveform, file_of};
+ghost use Rattle.i3c_task.specs.Options.{IsNumberOf, most_orders};
+ghost use Rattle.i3c_task.specs.Tasks.{HasCodes, IsAskedFor, IsCapturing, IsDrive, IsExplore, IsForm, IsNamed, IsRun, IsStress, IsTaskOf, IsTelling, IsTrace, IsWave, IsWaveform, file_of, limits_between};
 ghost use Rattle.i3c_task.specs.Parsed.{IsGiven, IsReadFrom, NamesNone};
 ghost use Rattle.i3c_task.specs.Words.{RunsInput};
 
@@ -10,7 +11,7 @@ use crate::options::{
     flag_given, legacies_given, number_given, part_given, text_given, texts_given,
 };
 use crate::verb::{
-    ALL, BY, DEVICES, ECHO, EXPLAIN, FILE, FROM_TRACE, JOBS, JSON, LEGACY, LINT, MOST,
+    ALL, BY, DEVICES, ECHO, EVERY, EXPLAIN, FILE, FROM_TRACE, JOBS, JSON, LEGACY, LINT, MOST,
     MOST_DEVICES, MOST_JOBS, MOST_POSTS, NUMBERS, PART, PLAIN, POSTS, QUIET, SCL, SDA, STRICT,
     TEST, TOTALS, VCD, Verb, parser, usages,
 };
@@ -43,6 +44,8 @@ pub enum Task<'a> {
     Capture(Capturing<'a>, Telling, &'a str),
     /// Tries every order of this file's tracks so.
     Explore(Exploring<'a>, &'a str),
+    /// Lets another program meet every order of this file's tracks so.
+    Meet(Meeting, &'a str),
     /// Lets devices post from threads of their own.
     Stress(Stress),
     /// Prints which program this is.
@@ -115,6 +118,17 @@ pub struct Exploring<'a> {
     pub quiet: bool,
     /// The texts of the facts by which ends are grouped.
     pub by: Vec<&'a str>,
+}
+
+/// How another program meets the orders of a file's tracks.
+#[derive(Clone, Copy)]
+pub struct Meeting {
+    /// The form in which its lines are answered.
+    pub form: Form,
+    /// What is run, and kept, before each of its lines.
+    pub limits: Limits,
+    /// The most orders that are tried.
+    pub most: u64,
 }
 
 /// How many devices post, and how often each tries to.
@@ -206,7 +220,7 @@ fn task_of<'a>(alloc: Global, verb: Verb, given: &ArgMatches<'a>) -> Result<Task
 {
     match verb {
         Verb::Run => Ok(Task::File(run_given(given), file_given(given))),
-        Verb::Drive => Ok(Task::File(drive_given(given), STANDARD_INPUT)),
+        Verb::Drive => drive_given(given),
         Verb::Check => Ok(Task::File(Work::Check, file_given(given))),
         Verb::Draw => Ok(Task::File(Work::Draw, file_given(given))),
         Verb::Explore => explore_given(alloc, given),
@@ -241,15 +255,42 @@ fn run_given(given: &ArgMatches<'_>) -> Work
     }
 }
 
+/// How the lines of another program are to be answered: as those of a driven bus, or while it meets every order of a scene.
+fn drive_given<'a>(given: &ArgMatches<'a>) -> Result<Task<'a>, WordsFault>
+    ensures { IfOk result (IsDrive (found_of given.now)) }
+{
+    let form = form_given(given);
+    match given.get_str(EVERY) {
+        None => Ok(Task::File(Work::Drive(form), STANDARD_INPUT)),
+        Some(scene) => Ok(Task::Meet(meeting_given(given, form)?, scene)),
+    }
+}
+
 /// The form in which lines are to be answered.
-fn drive_given(given: &ArgMatches<'_>) -> Work
-    ensures { IsDrive (found_of given.now) result }
+fn form_given(given: &ArgMatches<'_>) -> Form
+    ensures { IsForm (found_of given.now) result }
 {
     if flag_given(given, JSON) {
-        Work::Drive(Form::Json)
+        Form::Json
     } else {
-        Work::Drive(Form::Lines)
+        Form::Lines
     }
+}
+
+/// How a program is to meet every order, with answers of this form.
+fn meeting_given(given: &ArgMatches<'_>, form: Form) -> Result<Meeting, WordsFault>
+    ensures form { IfOk result (λ meeting. meeting.form ≡ form) }
+    ensures limits { IfOk result (λ meeting. meeting.limits ≡ limits_between) }
+    ensures most { IfOk result (λ meeting. IsNumberOf most_orders (found_of given.now) meeting.most) }
+{
+    Ok(Meeting {
+        form,
+        limits: Limits {
+            steps: MOST_STEPS,
+            states: MOST_STATES,
+        },
+        most: number_given(given, MOST, 1, u64::MAX, u64::MAX)?,
+    })
 }
 
 /// The trace or the capture that was given, and whether its faults are asked for.

@@ -29,13 +29,16 @@ pub(crate) const ECHO: &str = "echo";
 
 pub(crate) const EXPLAIN: &str = "explain";
 
-/// The flag of `drive` for answers as JSON objects.
+/// The flag of `drive` for answers as JSON objects, and its option for a scene, every order of which the other program meets.
 pub(crate) const JSON: &str = "json";
 
-/// The options of `explore`: how many lines may be run, which part of all orders is tried, how many threads run lines, and
-/// the facts by which ends are grouped. Its flag leaves out the ends.
+pub(crate) const EVERY: &str = "every";
+
+/// The option for how many orders `drive` tries, and for how many lines `explore` runs.
 pub(crate) const MOST: &str = "most";
 
+/// The other options of `explore`: which part of all orders is tried, how many threads run lines, and the facts by which ends
+/// are grouped. Its flag leaves out the ends.
 pub(crate) const PART: &str = "part";
 
 pub(crate) const JOBS: &str = "jobs";
@@ -168,13 +171,27 @@ const OF_RUN: &[Argument] = &[
     },
 ];
 
-/// The argument of `drive`.
-const OF_DRIVE: &[Argument] = &[Argument {
-    name: JSON,
-    takes: Takes::Nothing,
-    bond: Bond::Free,
-    help: "Answers each line with one JSON object on one line",
-}];
+/// The arguments of `drive`.
+const OF_DRIVE: &[Argument] = &[
+    Argument {
+        name: JSON,
+        takes: Takes::Nothing,
+        bond: Bond::Free,
+        help: "Answers each line with one JSON object on one line",
+    },
+    Argument {
+        name: EVERY,
+        takes: Takes::Text("SCENE"),
+        bond: Bond::Free,
+        help: "The other program meets every order of this file's tracks, one run after another",
+    },
+    Argument {
+        name: MOST,
+        takes: Takes::Number("N", ValueParser::Unsigned(1, u64::MAX)),
+        bond: Bond::Needs(EVERY),
+        help: "Gives up after N orders; without this it tries all",
+    },
+];
 
 /// The argument of `check` and `draw`.
 const OF_SCRIPTS: &[Argument] = &[SCRIPT];

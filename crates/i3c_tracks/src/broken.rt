@@ -29,9 +29,9 @@ pub(crate) fn push_broken(
     ensures { OnOk result ((runs : List RunValue) × (number : ℕ) × (there : List ℕ) × AreRunsOf plan.now.blocks.items plan.now.opened.items order.now runs
         × LastBreaks plan.now.start runs number there × (text.new ≡ text.old ++ script_text lines.now plan.now.before.items runs number there)) }
 {
-    let runs = runs_of(alloc, plan, order)?;
+    let runs = runs_of(alloc, &plan.blocks, &plan.opened, order)?;
     let mut found = Text::new(alloc);
-    let number = unmet_number(alloc, plan, &runs, &mut found)?;
+    let number = unmet_number(alloc, &plan.start, &runs, &mut found)?;
     push_script(
         alloc,
         lines,
@@ -56,26 +56,30 @@ fn push_script(
 ) -> Result<(), AllocError>
     ensures { OnOk result (text.new ≡ text.old ++ script_text lines.now before.now runs.now number found.now) }
 {
-    let broken = line_at(lines, number);
-    push_heading(alloc, number, broken, found, text)?;
+    push_heading(alloc, lines, number, found, text)?;
     push_lines(lines, before, text)?;
     push_runs(lines, runs, text)?;
-    push_expectation(broken, text)
+    push_expectation(lines, number, text)
 }
 
-/// The number of the first expectation that the last of these lines breaks. What is there is appended to the text.
-fn unmet_number(
+/// The number of the first expectation that the last of these lines breaks, which run from this scene on. What is there is
+/// appended to the text.
+///
+/// # Errors
+///
+/// There is no memory for it; or the lines don't lead to an expectation that breaks.
+pub fn unmet_number(
     alloc: Global,
-    plan: &Plan,
+    start: &Scene,
     runs: &[Run<'_>],
     found: &mut Text,
 ) -> Result<u64, AllocError>
-    ensures { IfOk result (λ number. (there : List ℕ) × LastBreaks plan.now.start runs.now number there × (found.new ≡ found.old ++ there)) }
+    ensures { IfOk result (λ number. (there : List ℕ) × LastBreaks start.now runs.now number there × (found.new ≡ found.old ++ there)) }
 {
     let Some((last, earlier)) = runs.split_last() else {
         return Err(AllocError);
     };
-    let scene = scene_after(alloc, plan, earlier)?;
+    let scene = scene_after(alloc, start, earlier)?;
     match scene.unmet(alloc, last.line, last.way, found)? {
         Some(number) => Ok(number),
         None => Err(AllocError),
@@ -83,10 +87,10 @@ fn unmet_number(
 }
 
 /// The scene after these lines.
-fn scene_after(alloc: Global, plan: &Plan, earlier: &[Run<'_>]) -> Result<Scene, AllocError>
-    ensures { IfOk result (RunsLead plan.now.start earlier.now) }
+fn scene_after(alloc: Global, start: &Scene, earlier: &[Run<'_>]) -> Result<Scene, AllocError>
+    ensures { IfOk result (RunsLead start.now earlier.now) }
 {
-    let mut scene = plan.start.copied(alloc)?;
+    let mut scene = start.copied(alloc)?;
     for index in 0..earlier.len() {
         scene = next_scene(alloc, &scene, &earlier[index])?;
     }
@@ -103,18 +107,18 @@ fn next_scene(alloc: Global, scene: &Scene, run: &Run<'_>) -> Result<Scene, Allo
     }
 }
 
-/// Appends the comments before the script.
-fn push_heading(
+/// Appends the comments before a script that breaks the expectation of the line with this number, and finds this instead.
+pub fn push_heading(
     alloc: Global,
+    lines: &[Vec<u8>],
     number: u64,
-    broken: &[u8],
     found: &[u8],
     text: &mut Text,
 ) -> Result<(), AllocError>
-    ensures { OnOk result (text.new ≡ text.old ++ heading_text number broken.now found.now) }
+    ensures { OnOk result (text.new ≡ text.old ++ heading_text number (line_at lines.now number) found.now) }
 {
     let mut comment = Text::new(alloc);
-    push_breaks(number, broken, &mut comment)?;
+    push_breaks(number, line_at(lines, number), &mut comment)?;
     push_short(comment.as_bytes(), text)?;
     push_found(found, text)
 }
@@ -163,7 +167,7 @@ fn push_line(lines: &[Vec<u8>], number: u64, text: &mut Text) -> Result<(), Allo
 }
 
 /// Appends the lines of these numbers, as the file has them.
-fn push_lines(lines: &[Vec<u8>], numbers: &[u64], text: &mut Text) -> Result<(), AllocError>
+pub fn push_lines(lines: &[Vec<u8>], numbers: &[u64], text: &mut Text) -> Result<(), AllocError>
     ensures { OnOk result (text.new ≡ text.old ++ lines_text lines.now numbers.now) }
 {
     for index in 0..numbers.len() {
@@ -173,7 +177,7 @@ fn push_lines(lines: &[Vec<u8>], numbers: &[u64], text: &mut Text) -> Result<(),
 }
 
 /// Appends lines that run, each behind its cuts.
-fn push_runs(lines: &[Vec<u8>], runs: &[Run<'_>], text: &mut Text) -> Result<(), AllocError>
+pub fn push_runs(lines: &[Vec<u8>], runs: &[Run<'_>], text: &mut Text) -> Result<(), AllocError>
     ensures { OnOk result (text.new ≡ text.old ++ runs_text lines.now runs.now) }
 {
     for index in 0..runs.len() {
@@ -196,15 +200,16 @@ fn push_run_of(lines: &[Vec<u8>], run: &Run<'_>, text: &mut Text) -> Result<(), 
 fn push_run(lines: &[Vec<u8>], run: &Run<'_>, text: &mut Text) -> Result<(), AllocError>
     ensures { OnOk result (text.new ≡ text.old ++ run_text lines.now run.now) }
 {
-    push_cuts(run, b"\n", text)?;
+    push_cuts(&run.line.risk, run.way, b"\n", text)?;
     text.push(line_at(lines, run.line.number))?;
     text.end()
 }
 
-/// Appends the line of an expectation as an `expect`.
-fn push_expectation(broken: &[u8], text: &mut Text) -> Result<(), AllocError>
-    ensures { OnOk result (text.new ≡ text.old ++ expectation_text broken.now) }
+/// Appends the expectation of the line with this number as an `expect`.
+pub fn push_expectation(lines: &[Vec<u8>], number: u64, text: &mut Text) -> Result<(), AllocError>
+    ensures { OnOk result (text.new ≡ text.old ++ expectation_text (line_at lines.now number)) }
 {
+    let broken = line_at(lines, number);
     text.push(b"expect")?;
     text.push(&broken[TOKEN_LENGTH.min(broken.len())..])?;
     text.end()

@@ -4,14 +4,13 @@ ghost use Rattle.i3c_explore.specs.Orders.{track, turns_of};
 ghost use Rattle.i3c_tracks.specs.declared.course.Run.{Run as RunValue};
 ghost use Rattle.i3c_tracks.specs.Courses.{ArePlaces, AreRuns, AreRunsOf, RunsOne, count_lines};
 
-use crate::plan::Plan;
 use i3c_explore::Turn;
 use i3c_scene::Line;
 use std::alloc::{AllocError, Global};
 
 /// A line that runs in an order.
 #[derive(Clone, Copy)]
-pub(crate) struct Run<'a> {
+pub struct Run<'a> {
     /// The line.
     pub line: &'a Line,
     /// The way that it goes.
@@ -20,20 +19,21 @@ pub(crate) struct Run<'a> {
     pub opened: bool,
 }
 
-/// The lines of an order of a plan, one after another, the oldest turn first.
-pub(crate) fn runs_of<'a>(
+/// The lines of an order of blocks, one after another, the oldest turn first. `opened` says which blocks a line opened.
+pub fn runs_of<'a>(
     alloc: Global,
-    plan: &'a Plan,
+    blocks: &'a [Vec<Vec<Line>>],
+    opened: &[bool],
     order: &[Turn],
 ) -> Result<Vec<Run<'a>>, AllocError>
-    ensures { IfOk result (λ runs. AreRunsOf plan.now.blocks.items plan.now.opened.items order.now runs.items) }
+    ensures { IfOk result (λ runs. AreRunsOf blocks.now opened.now order.now runs.items) }
 {
     let mut runs = Vec::new(alloc);
     let mut rest = order;
-    for index in 0..plan.blocks.len() {
-        let block = plan.blocks[index].as_slice();
+    for index in 0..blocks.len() {
+        let block = blocks[index].as_slice();
         let (turns, later) = turns_of(block, rest);
-        let opened = is_opened(&plan.opened, index);
+        let opened = is_opened(opened, index);
         add_block(alloc, block, opened, turns, &mut runs)?;
         rest = later;
     }
@@ -41,7 +41,7 @@ pub(crate) fn runs_of<'a>(
 }
 
 /// The turns of an order that a block takes, one for each of its lines, and those that it leaves.
-fn turns_of<'a>(block: &[Vec<Line>], order: &'a [Turn]) -> (&'a [Turn], &'a [Turn])
+pub fn turns_of<'a>(block: &[Vec<Line>], order: &'a [Turn]) -> (&'a [Turn], &'a [Turn])
     ensures taken { result.0.now ≡ take (count_lines block.now) order.now }
     ensures left { result.1.now ≡ drop (count_lines block.now) order.now }
 {
@@ -69,8 +69,8 @@ fn length_of(block: &[Vec<Line>]) -> usize
     length
 }
 
-/// Appends the lines of a block that some turns run.
-fn add_block<'a>(
+/// Appends the lines of a block that some turns run, the oldest first.
+pub fn add_block<'a>(
     alloc: Global,
     block: &'a [Vec<Line>],
     opened: bool,

@@ -74,8 +74,12 @@ pub fn run_explore<T: Threads + Sync, R: Read, W: Write, V: Watch>(
     }
 }
 
-/// The lines of a file, without their line feeds.
-fn read_lines<R: Read>(alloc: Global, reader: &mut R) -> Result<Vec<Vec<u8>>, ScriptFault>
+/// The lines of a file, without their line feeds. A file has 1,048,576 bytes at most.
+///
+/// # Errors
+///
+/// There is no memory for it, the reader fails, or the file is too large.
+pub fn read_lines<R: Read>(alloc: Global, reader: &mut R) -> Result<Vec<Vec<u8>>, ScriptFault>
     ensures lines { IfOk result (λ lines. AreLines (R.remaining reader.old) lines.items) }
     ensures whole { OnOk result (IsAtEnd (R.remaining reader.new)) }
     ensures fits { OnOk result (IfSome (R.remaining reader.old) (λ bytes. length bytes ≤ 1048576)) }

@@ -27,10 +27,13 @@ mod showing;
 mod unexpected;
 
 pub use answer::Answer;
+pub use broken::{push_expectation, push_heading, push_lines, push_runs, unmet_number};
+pub use course::{Run, add_block, runs_of, turns_of};
 pub use explore_fault::ExploreFault;
-pub use exploring::run_explore;
+pub use exploring::{read_lines, run_explore};
 pub use laws::files_have_one_plan;
 pub use plan::{Plan, PlanFault, read_plan};
 pub use question::Question;
 pub use refusal::{Reason, Refusal};
+pub use report::push_cuts;
 pub use showing::Showing;

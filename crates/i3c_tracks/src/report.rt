@@ -1,7 +1,8 @@
 ghost use Rattle.std.specs.Prelude.{◌≡◌, ◌<◌, ◌+◌, ◌^◌, ◌++◌, [], ℕ, List, IfOk, OnOk, false, length, not, true, if◌then◌else◌};
 ghost use Rattle.i3c_tracks.specs.Ends.{AreEndTexts, IsEndText, numbers_text};
 ghost use Rattle.i3c_tracks.specs.Reports.{AreShown, IsReport};
-ghost use Rattle.i3c_tracks.specs.Telling.{cut_before, head_text, like_text, line_at, orders_text, parted_text, parting, run_cuts, short_run_text};
+ghost use Rattle.i3c_scene.specs.Trying.{ways_of};
+ghost use Rattle.i3c_tracks.specs.Telling.{cut_before, cuts_before, head_text, like_text, line_at, orders_text, parted_text, parting, short_run_text};
 
 use crate::course::{Run, runs_of};
 use crate::groups::push_groups;
@@ -139,7 +140,7 @@ pub(crate) fn push_end(
 {
     push_head(number, end.orders, !plan.risky, text)?;
     end.state.show(alloc, runner, text)?;
-    let runs = runs_of(alloc, plan, &end.order)?;
+    let runs = runs_of(alloc, &plan.blocks, &plan.opened, &end.order)?;
     push_like(lines, &runs, text)
 }
 
@@ -192,16 +193,16 @@ fn parting(is_first: bool) -> &'static [u8]
 fn push_like_line(lines: &[Vec<u8>], run: &Run<'_>, text: &mut Text) -> Result<(), AllocError>
     ensures { OnOk result (text.new ≡ text.old ++ short_run_text lines.now run.now) }
 {
-    push_cuts(run, b" / ", text)?;
+    push_cuts(&run.line.risk, run.way, b" / ", text)?;
     text.push(line_at(lines, run.line.number))
 }
 
-/// Appends the cuts of a line that runs, each with the text behind it.
-pub(crate) fn push_cuts(run: &Run<'_>, between: &[u8], text: &mut Text) -> Result<(), AllocError>
-    ensures { OnOk result (text.new ≡ text.old ++ run_cuts run.now between.now) }
+/// Appends the cuts of a line that goes this way, each with the text behind it.
+pub fn push_cuts(risk: &Risk, way: usize, between: &[u8], text: &mut Text) -> Result<(), AllocError>
+    ensures { OnOk result (text.new ≡ text.old ++ cuts_before risk.now (ways_of risk.now way) between.now) }
 {
-    let ways = ways_of(&run.line.risk, run.way);
-    match &run.line.risk {
+    let ways = ways_of(risk, way);
+    match risk {
         Risk::Nobody => Ok(()),
         Risk::One(name) => push_cut(name, ways.one, between, text),
         Risk::Two(name, other) => {

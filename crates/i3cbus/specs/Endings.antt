@@ -2,6 +2,7 @@
 use Rattle.std.specs.Prelude.{ℕ, Bool, true, false, Result, Ok, Err}
 use Rattle.i3c_cli.specs.declared.fault.Fault.{Fault}
 use Rattle.i3c_cli.specs.Endings.{tally_status}
+use Rattle.i3c_program.specs.declared.session.Ending.{Ending as ProgramEnding}
 use Rattle.i3c_streams.specs.declared.tally.Tally.{Tally}
 use Rattle.i3c_tracks.specs.declared.answer.Answer.{Answer}
 use Rattle.i3c_tracks.specs.declared.showing.Showing.{Showing}
@@ -23,6 +24,17 @@ abbrev pub lines_ending : Result Tally Fault → Result Ending Fault
 lines_ending (Ok tally) = Ok (Ending.Ran tally)
 lines_ending (Err fault) = Err fault
 
+-- the ending of a program's orders
+abbrev pub meeting_ending : Result ProgramEnding Fault → Result Ending Fault
+meeting_ending (Ok ending) = Ok (Ending.Met ending)
+meeting_ending (Err fault) = Err fault
+
+-- 0 if every order was tried, 1 if not or if a line of the program wasn't done, 3 if an order breaks an expectation
+abbrev pub meeting_status : ProgramEnding → ℕ
+meeting_status ProgramEnding.Tried = 0
+meeting_status ProgramEnding.Wanting = 1
+meeting_status ProgramEnding.Unmet = 3
+
 -- 0 if every order holds, 1 if the file or a limit is refused, 3 if an order breaks an expectation
 abbrev pub answer_status : Answer → ℕ
 answer_status Answer.Holds = 0
@@ -33,4 +45,5 @@ answer_status Answer.Breaks = 3
 abbrev pub exit_status : Result Ending Fault → ℕ
 exit_status (Ok (Ending.Ran tally)) = tally_status tally
 exit_status (Ok (Ending.Explored answer)) = answer_status answer
+exit_status (Ok (Ending.Met ending)) = meeting_status ending
 exit_status (Err fault) = 2

@@ -1,7 +1,8 @@
 ghost use Rattle.std.specs.Prelude.{◌≡◌};
-ghost use Rattle.i3cbus.specs.Endings.{exit_status, explore_ending, lines_ending};
+ghost use Rattle.i3cbus.specs.Endings.{exit_status, explore_ending, lines_ending, meeting_ending};
 
 use i3c_cli::{BREAKS, DONE, FAULT, Fault, REFUSED, tally_status};
+use i3c_program::Ending as ProgramEnding;
 use i3c_streams::Tally;
 use i3c_tracks::Answer;
 
@@ -12,6 +13,8 @@ pub(crate) enum Ending {
     Ran(Tally),
     /// Orders of lines were explored.
     Explored(Answer),
+    /// A program met orders of lines.
+    Met(ProgramEnding),
 }
 
 /// The ending of an exploration: its answer, and whether its output was taken whole.
@@ -23,6 +26,16 @@ pub(crate) fn explore_ending(outcome: Result<Answer, Fault>, flushed: bool) -> R
         Ok(Ending::Explored(answer))
     } else {
         Err(Fault::Write)
+    }
+}
+
+/// The ending of a program's orders.
+pub(crate) fn meeting_ending(outcome: Result<ProgramEnding, Fault>) -> Result<Ending, Fault>
+    ensures { result ≡ meeting_ending outcome }
+{
+    match outcome {
+        Ok(ending) => Ok(Ending::Met(ending)),
+        Err(fault) => Err(fault),
     }
 }
 
@@ -45,6 +58,9 @@ pub(crate) fn status_of(outcome: &Result<Ending, Fault>) -> u8
         Ok(Ending::Explored(Answer::Holds)) => DONE,
         Ok(Ending::Explored(Answer::Refused)) => REFUSED,
         Ok(Ending::Explored(Answer::Breaks)) => BREAKS,
+        Ok(Ending::Met(ProgramEnding::Tried)) => DONE,
+        Ok(Ending::Met(ProgramEnding::Wanting)) => REFUSED,
+        Ok(Ending::Met(ProgramEnding::Unmet)) => BREAKS,
         Err(_) => FAULT,
     }
 }

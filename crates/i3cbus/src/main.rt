@@ -8,6 +8,7 @@
 #![tactic(auto)]
 
 mod ending;
+mod meeting;
 mod run;
 mod stack;
 mod watcher;

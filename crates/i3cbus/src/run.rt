@@ -1,7 +1,8 @@
 ghost use Rattle.std.specs.Prelude.{◌≡◌};
 ghost use Rattle.i3cbus.specs.Endings.{showing_of};
 
-use crate::ending::{Ending, explore_ending, lines_ending, status_of};
+use crate::ending::{Ending, explore_ending, lines_ending, meeting_ending, status_of};
+use crate::meeting::run_meeting;
 use crate::stack::make_stack;
 use crate::watcher::Watcher;
 use i3c_cli::{
@@ -50,6 +51,7 @@ where
             let watcher = Watcher::new(rt, is_watched);
             run_exploration(rt, &exploring, &watcher, file)
         }
+        Task::Meet(meeting, scene) => meeting_ending(run_meeting(rt, meeting, scene)),
         Task::Stress(stress) => lines_ending(run_stress(rt, &stress, is_watched)),
         Task::Version => lines_ending(print_version(rt)),
     }

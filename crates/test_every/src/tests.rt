@@ -303,6 +303,51 @@ fn an_order_that_breaks_an_expectation_is_told(rt: HostRuntime) -> Result<(), Fa
     Ok(())
 }
 
+/// How often a track of the two below adds 1.
+const ADDS: usize = 100;
+
+/// Tracks of which one adds 1 again and again, and the other doubles the counter. From a counter at 1 they come to 202 at
+/// most.
+fn adding(alloc: Global, risky: bool) -> Result<Tracks<Counter>, AllocError> {
+    let lines = [Line::Add(1); ADDS];
+    let limits = Limits {
+        steps: 100_000,
+        states: 1000,
+    };
+    tracks(alloc, &[&lines, &[Line::Double]], limits, risky)
+}
+
+// behind n lines that add there is one count where it isn't doubled, and n + 1 where it is: 2 and twice the number of lines
+// that ran before it was doubled, and those behind it
+#[test]
+fn many_counts_are_steps_of_their_own(rt: HostRuntime) -> Result<(), Fail> {
+    let alloc = rt.alloc();
+    let counts = (ADDS + 1) + (ADDS + 1) * (ADDS + 2) / 2;
+    let start = met(alloc, 1, &[0, 0])?;
+    let read = adding(alloc, false)?.steps(alloc, &start, &Sent::Meets(Ask::Read))?;
+    assert!(rt; read.len() == counts);
+    let risky = adding(alloc, true)?.steps(alloc, &start, &Sent::Meets(Ask::Read))?;
+    assert!(rt; risky.len() == 2 * counts);
+    let seen = adding(alloc, false)?.steps(alloc, &start, &Sent::Waits)?;
+    assert!(rt; seen.len() == counts - 1);
+    Ok(())
+}
+
+// each count is cleared: one step at each of the places, with the turns that were found first. Where lines may be lost, each
+// count stays too
+#[test]
+fn many_alike_steps_are_one(rt: HostRuntime) -> Result<(), Fail> {
+    let alloc = rt.alloc();
+    let counts = (ADDS + 1) + (ADDS + 1) * (ADDS + 2) / 2;
+    let start = met(alloc, 1, &[0, 0])?;
+    let cleared = adding(alloc, false)?.steps(alloc, &start, &Sent::Meets(Ask::Clear))?;
+    assert!(rt; cleared.len() == 2 * (ADDS + 1));
+    assert!(rt; leads_by(&cleared, 0, &[2, 1], &[0, 0, 1]));
+    let risky = adding(alloc, true)?.steps(alloc, &start, &Sent::Meets(Ask::Clear))?;
+    assert!(rt; risky.len() == 2 * (ADDS + 1) + counts);
+    Ok(())
+}
+
 #[test]
 fn places_in_other_tracks_are_refused(rt: HostRuntime) -> Result<(), Fail> {
     let alloc = rt.alloc();

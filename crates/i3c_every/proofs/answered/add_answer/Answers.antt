@@ -1,17 +1,19 @@
-use Rattle.std.proofs.Common.{refl, subst, sym}
+use Rattle.std.proofs.Common.{◌∙◌, List, subst, ℕ}
+use Rattle.std.specs.List.{Contains}
 use Rattle.i3c_orders.specs.declared.choice.Step.{Step}
+use Rattle.i3c_every.specs.Answered.{Tells}
 use Rattle.i3c_every.specs.declared.met.Met.{Met}
 use Rattle.i3c_every.specs.declared.told.Told.{Told}
-use Rattle.i3c_every.proofs.Adding.{on_ok}
+use Rattle.i3c_every.proofs.Adding.{is_new, is_there, on_ok}
 use Rattle.i3c_every.proofs.answered.add_answer.Goals as goal
+
+pub returns-then-has_alike : goal.returns-then-has_alike
+returns-then-has_alike g c =
+    let state = g.M.Machine.shown c.answer.new.runner in
+    is_there (g.M.Answering.answers c.args.rules.now) c.args.line.now c.args.node.now c.args.way c.in_ok-answer.answer state c.args.steps.now.values.items c.in_ok-answer.ensures
+    (subst (λ (places : List ℕ). (step : Step (Met g.row.M.Denot) (Told g.row.M-Answer.Denot)) × Contains c.args.steps.now.values.items step × Tells c.in_ok-answer.answer places state step) c.deref-2.ensures.value (c.has_alike.ensures c.if-has_alike.true))
 
 pub returns : goal.returns
 returns g c =
-    let answer = c.in_ok-answer.field-0.answer in
-    let step : Step (Met g.row.M.Denot) (Told g.row.M-Answer.Denot) = record { answer = Told.Answered answer; state = c.in_ok-met.met } in
-    on_ok c.add.result (λ adds. (
-      step,
-      record { answer = answer; told = refl; led = subst (λ s. (g.M.Answering.answers c.args.rules.now) c.args.node.now.state c.args.line.now c.args.way answer s) (sym c.in_ok-met.ensures.state) c.in_ok-answer.ensures; places = c.in_ok-met.ensures.places },
-      (c.in_ok-met.ensures.turns, c.in_ok-met.ensures.way),
-      adds,
-    )) c.add.ensures
+    let met = c.in_ok-met.ensures in
+    on_ok c.push.result (is_new (g.M.Answering.answers c.args.rules.now) c.args.line.now c.args.node.now c.args.way c.in_ok-answer.answer (g.M.Machine.shown c.answer.new.runner) c.in_ok-met.met c.args.steps.now.values.items c.push.new.self.values.items c.in_ok-answer.ensures (met.state ∙ c.in_ok-state.ensures) met.places met.turns met.way) c.push.ensures

@@ -1,4 +1,4 @@
-use Rattle.std.proofs.Common.{Err, subst, ◌≡◌, ◌∙◌, ap, Some, arith, length, refl, sym}
+use Rattle.std.proofs.Common.{Err, subst, ◌≡◌, ◌∙◌, Some, arith, length, refl, sym}
 use Rattle.std.proofs.lemmas.Bool.{false≢true}
 use Rattle.std.proofs.lemmas.Option.{slice_get_read}
 use Rattle.std.specs.List.{slice_get}

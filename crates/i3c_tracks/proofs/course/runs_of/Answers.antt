@@ -1,5 +1,5 @@
 -- One block more, until none is left.
-use Rattle.std.proofs.Common.{◌∙◌, ℕ, Bool, false, List, ap, arith, get_or, subst}
+use Rattle.std.proofs.Common.{◌∙◌, ℕ, arith, subst}
 use Rattle.i3c_tracks.specs.Courses.{RunIn}
 use Rattle.i3c_tracks.proofs.CourseLaws.{block_at, blocks_more}
 use Rattle.i3c_tracks.proofs.course.runs_of.Goals as goal
@@ -7,10 +7,10 @@ use Rattle.i3c_tracks.proofs.course.runs_of.Goals as goal
 pub loop-index-preserved : goal.loop-index-preserved
 loop-index-preserved c =
     let (own, are, put) = c.in_ok-add_block.ensures in
-    blocks_more c.args.plan.now.blocks.items c.args.plan.now.opened.items c.args.order.now c.loop-index.index c.loop-index.runs.items own c.add_block.new.runs.items c.loop-index.rest.now c.turns_of.result.0.now c.turns_of.result.1.now
+    blocks_more c.args.blocks.now c.args.opened.now c.args.order.now c.loop-index.index c.loop-index.runs.items own c.add_block.new.runs.items c.loop-index.rest.now c.turns_of.result.0.now c.turns_of.result.1.now
     c.as_slice-block.result.now c.is_opened-opened.result c.loop-index.invariant
-    (c.as_slice-block.ensures.value ∙ block_at c.args.plan.now.blocks.items c.loop-index.index c.index.result.now (omega (arith, c.loop-index-test.true, c.len-index-end.ensures)) c.index.ensures)
-    (c.is_opened-opened.ensures ∙ ap (λ (o : List Bool). get_or o c.loop-index.index false) c.deref.ensures.value) c.turns_of.ensures.taken c.turns_of.ensures.left are put
+    (c.as_slice-block.ensures.value ∙ block_at c.args.blocks.now c.loop-index.index c.index-blocks-index.result c.loop-index-test.true c.index-blocks-index.is)
+    c.is_opened-opened.ensures c.turns_of.ensures.taken c.turns_of.ensures.left are put
 
 pub returns : goal.returns
-returns c = (c.loop-index.rest.now, subst (λ (n : ℕ). RunIn c.args.plan.now.blocks.items c.args.plan.now.opened.items c.args.order.now n c.loop-index.runs.items c.loop-index.rest.now) (omega (arith, c.loop-index-test.false, c.loop-index.auto.index-end)) c.loop-index.invariant)
+returns c = (c.loop-index.rest.now, subst (λ (n : ℕ). RunIn c.args.blocks.now c.args.opened.now c.args.order.now n c.loop-index.runs.items c.loop-index.rest.now) (omega (arith, c.loop-index-test.false, c.loop-index.auto.index-end)) c.loop-index.invariant)

@@ -5,8 +5,8 @@ use Rattle.i3c_drive.specs.Steps.{news_of, state}
 use Rattle.i3c_script.specs.Printed.{numbered_text, pieces_text}
 use Rattle.i3c_drive.proofs.driver.Driver.push_lines.Goals as goal
 
-pub returns-clause-told : goal.returns-clause-told
-returns-clause-told c pieces heard =
+pub returns : goal.returns
+returns c pieces heard =
     let st = state c.args.self.now in
     let said = pieces_text pieces in
     let added = numbered_text (suc (forgotten_of st + c.args.count)) (drop c.args.count (log_of st)) in

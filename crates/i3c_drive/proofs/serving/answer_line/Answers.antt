@@ -1,0 +1,21 @@
+use Rattle.std.proofs.Common.{subst}
+use Rattle.std.specs.Io.KnownBytes.{Appends}
+use Rattle.i3c_runner.proofs.CheckRuns.{some_out}
+use Rattle.i3c_streams.proofs.Written.{still_written}
+use Rattle.i3c_drive.proofs.serving.answer_line.Goals as goal
+
+pub returns-in-Ok-flush : goal.returns-in-Ok-flush
+returns-in-Ok-flush g c =
+    let before = g.W.Write.contents c.args.out.now in
+    let mid = g.W.Write.contents c.write_out.new.out in
+    let after = g.W.Write.contents c.flush.new.self in
+    let answer = c.answer.new.text in
+    (answer, c.in-Ok.ensures, still_written before mid after answer (subst (Appends before mid) c.as_bytes.ensures c.in-Ok-write_out.ensures) c.flush.ensures.bytes)
+
+pub returns-in-Err-flush : goal.returns-in-Err-flush
+returns-in-Err-flush g c =
+    let before = g.W.Write.contents c.args.out.now in
+    let mid = g.W.Write.contents c.write_out.new.out in
+    let after = g.W.Write.contents c.flush.new.self in
+    let answer = c.answer.new.text in
+    (answer, c.in-Ok.ensures, some_out before after answer (still_written before mid after answer (subst (Appends before mid) c.as_bytes.ensures c.in-Ok-write_out.ensures) c.flush.ensures.bytes))

@@ -1,0 +1,21 @@
+use Rattle.std.proofs.Common.{Err, refl, subst}
+use Rattle.i3c_orders.specs.Paths.{Answers as SendsSo}
+use Rattle.i3c_program.specs.Sessions.{fails, gives}
+use Rattle.i3c_program.proofs.Coming.{differs_comes, failed_comes, heard_comes}
+use Rattle.i3c_program.proofs.Written.{if_ok}
+use Rattle.i3c_program.proofs.trial.Trial.send.Goals as goal
+
+pub returns-in-Ok : goal.returns-in-Ok
+returns-in-Ok c =
+    if_ok _ _ c.hear.result (λ came heard. heard_comes c.args.self.now c.args.sent c.send.new.orders (c.if-not-is_going.ensures.0 refl) came _ c.in-Ok.ensures heard) c.hear.ensures
+
+pub returns-in-Err-Differs : goal.returns-in-Err-Differs
+returns-in-Err-Differs c =
+    differs_comes c.args.self.now c.args.sent c.send.new.orders (c.if-not-is_going.ensures.0 refl) c.stop.result c.stop.new.self
+    (subst (λ f. SendsSo (gives c.args.self.now) (fails c.args.self.now) c.args.self.now.orders c.args.sent (Err f) c.send.new.orders) c.in-Err-Differs.field-0-is c.in-Err-Differs.ensures) c.stop.ensures.came c.stop.ensures.stopped
+
+pub returns-in-Err-Failed : goal.returns-in-Err-Failed
+returns-in-Err-Failed c =
+    if_ok _ _ c.end.result
+    (λ came by. failed_comes c.args.self.now c.args.sent c.send.new.orders (c.if-not-is_going.ensures.0 refl) c.in-Err-Failed.stop came _
+    (subst (λ f. SendsSo (gives c.args.self.now) (fails c.args.self.now) c.args.self.now.orders c.args.sent (Err f) c.send.new.orders) c.in-Err-Failed.field-0-is c.in-Err-Failed.ensures) by) c.end.ensures

@@ -1,0 +1,7 @@
+pub mod Answers
+pub mod Laws
+pub mod Meeting
+pub mod Scenarios
+pub mod Scripts
+pub mod Sessions
+pub mod Words

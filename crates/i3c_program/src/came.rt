@@ -1,0 +1,22 @@
+use crate::reason::Reason;
+
+/// What a line of a program came to in its session.
+#[derive(Clone, Copy, Debug, PartialEq, Eq)]
+pub enum Came {
+    /// Nothing: it is empty, or a comment.
+    Nothing,
+    /// It isn't done, for this reason.
+    Refused(Reason),
+    /// A run that began as this one sent another line here, or went on.
+    Differs,
+    /// The program is told something; the devices that ask have changed, or not.
+    Told(bool),
+    /// Lines that the tracks or the scene run break an expectation.
+    Breaks,
+    /// The run is over, and another order begins.
+    Begins,
+    /// The run is over, and was the last one.
+    All,
+    /// The program is told the lines of its run.
+    Script,
+}

@@ -1,0 +1,32 @@
+//! A program that meets every order of a scene's events, line by line.
+//!
+//! A scene is a file of `i3cbus explore` with one block. While lines of its tracks run, another program sends lines, and each
+//! is answered before the next one is read. The program's runs come one after another, until it has met every order.
+//!
+//! * `scenario` is what a file says of that: the tracks, what holds of each line of the program, and the blocks behind.
+//! * `word` is what a line of the program says, and `reason` why it isn't done.
+//! * `trial` does what lines say, and `came` is what they come to. `standing` is whether orders are still tried.
+//! * `order_script` writes a run as a script.
+//! * `answering` writes the answer to a line that came to something, of what `telling` writes, as lines or as an object.
+//! * `session` answers one line after another, and `meeting` all lines of an input.
+//! * `laws` says what holds where a program has met every order.
+#![tactic(auto)]
+
+mod answering;
+mod came;
+mod laws;
+mod meeting;
+mod order_script;
+mod reason;
+mod scenario;
+mod session;
+mod standing;
+mod telling;
+mod trial;
+mod word;
+
+pub use laws::programs_meet_every_order_of_a_scene;
+pub use meeting::{MeetFault, meet_every};
+pub use reason::Reason;
+pub use scenario::{NoScenario, Scenario, read_scenario};
+pub use session::{Ending, Session};
