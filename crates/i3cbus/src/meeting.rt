@@ -1,11 +1,23 @@
 use i3c_cli::{Fault, Output, owned_text, reading_fault};
 use i3c_program::{Ending, MeetFault, NoScenario, meet_every};
+use i3c_streams::ScriptFault;
 use i3c_task::Meeting;
 use i3c_text::Text;
 use i3c_tracks::Refusal;
 use std::alloc::Global;
-use std::fs;
 use std::rt::Files;
+use std::{fs, io};
+
+/// Why a scene can't be met, where no line of it is refused.
+const UNREAD: &[u8] = b"cannot read";
+
+const TOO_LARGE: &[u8] = b"it has more than 1048576 bytes";
+
+const NOT_ONE_BLOCK: &[u8] = b"it has no block, or several";
+
+const BREAKS: &[u8] = b"a line in front of the block breaks what is expected";
+
+const TOO_MUCH: &[u8] = b"too much runs in front of the block";
 
 /// Lets the program on standard input meet every order of a scene's file.
 #[inline(never)]
@@ -15,7 +27,7 @@ where
 {
     let mut file = match fs::open(rt, scene) {
         Ok(file) => file,
-        Err(error) => return Err(reading_fault(&error)),
+        Err(error) => return Err(unread(rt.alloc(), &error)),
     };
     let mut printed = Output::new(rt)?;
     let Meeting { form, limits, most } = meeting;
@@ -37,23 +49,23 @@ where
 /// The program's fault.
 fn fault_of(alloc: Global, fault: MeetFault) -> Fault {
     match fault {
-        MeetFault::File(fault) | MeetFault::Lines(fault) => fault.into(),
-        MeetFault::Scene(NoScenario::Memory) => Fault::Memory,
+        MeetFault::File(ScriptFault::Memory) | MeetFault::Scene(NoScenario::Memory) =>
+            Fault::Memory,
+        MeetFault::File(ScriptFault::TooLarge) => scene_fault(alloc, TOO_LARGE),
+        MeetFault::File(_) => scene_fault(alloc, UNREAD),
         MeetFault::Scene(NoScenario::Refused(refusal)) => refused(alloc, &refusal),
-        MeetFault::Scene(NoScenario::NotOneBlock) => scene_fault(
-            alloc,
-            b"it has no block, or several",
-        ),
-        MeetFault::Scene(NoScenario::Breaks) => {
-            scene_fault(
-                alloc,
-                b"a line in front of the block breaks what is expected",
-            )
-        }
-        MeetFault::Scene(NoScenario::Most) => scene_fault(
-            alloc,
-            b"too much runs in front of the block",
-        ),
+        MeetFault::Scene(NoScenario::NotOneBlock) => scene_fault(alloc, NOT_ONE_BLOCK),
+        MeetFault::Scene(NoScenario::Breaks) => scene_fault(alloc, BREAKS),
+        MeetFault::Scene(NoScenario::Most) => scene_fault(alloc, TOO_MUCH),
+        MeetFault::Lines(fault) => fault.into(),
+    }
+}
+
+/// The fault of a scene's file that can't be opened.
+fn unread(alloc: Global, error: &io::Error) -> Fault {
+    match reading_fault(error) {
+        Fault::Memory => Fault::Memory,
+        _ => scene_fault(alloc, UNREAD),
     }
 }
 
