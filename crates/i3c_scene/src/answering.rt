@@ -35,7 +35,8 @@ impl Answering for Scene {
         let command = line.command();
         let tried = self.ways_tried(&rules.risk, command, way);
         runner.wake_to(alloc, self, false)?;
-        runner.live.reply(alloc, rules, command, tried)
+        let live = &mut *runner.live;
+        live.reply(alloc, rules, command, tried)
     }
 
     fn look(&self, alloc: Global) -> Result<Reply, AllocError> {

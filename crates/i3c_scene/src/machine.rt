@@ -20,7 +20,7 @@ impl Machine for Scene {
 
     type Runner = Runner;
 
-    ghost shown = { λ runner. runner.live };
+    ghost shown = { λ runner. runner.live.value };
 
     ghost steps = { LineSteps };
 
@@ -32,7 +32,7 @@ impl Machine for Scene {
 
     ghost quiet = { LineComesTo RanValue.Held };
 
-    ghost near = { λ runner scene. IsCloseTo runner.set runner.touched scene runner.live };
+    ghost near = { λ runner scene. IsCloseTo runner.set runner.touched scene runner.live.value };
 
     fn last_way(&self, line: &Line) -> usize {
         self.latest_of_line(line)
@@ -57,7 +57,7 @@ impl Machine for Scene {
     }
 
     fn kept(alloc: Global, runner: &Runner, spare: Option<Scene>) -> Result<Scene, AllocError>
-        ensures { IfOk result (λ scene. scene ≡ runner.now.live) }
+        ensures { IfOk result (λ scene. scene ≡ runner.now.live.value) }
     {
         match spare {
             Some(mut scene) => {
@@ -100,7 +100,8 @@ impl Scene {
         match self.run(alloc, line, way, false, &mut runner)? {
             Ran::Broken => Ok(None),
             Ran::Held | Ran::Noted => {
-                let scene = runner.live.kept(alloc)?;
+                let live = &*runner.live;
+                let scene = live.kept(alloc)?;
                 Ok(Some(scene))
             }
         }

@@ -9,7 +9,7 @@ use std::alloc::{AllocError, Global};
 /// A bus awake that lines are run on, one after another.
 #[derive(Drop)]
 pub struct Runner {
-    pub(crate) live: SceneBus,
+    pub(crate) live: Box<SceneBus>,
     // where the line that ran last changed one slot at most, this slot
     pub(crate) touched: Option<Slot>,
     // whether the line that ran last may have given a name, or set what frames accept or what has left the log
@@ -23,7 +23,7 @@ impl Runner {
     ghost use Rattle.i3c_scene.specs.Trying.{RunsIn, outcome};
 
     /// One on which no line ran.
-    pub(crate) fn new(live: SceneBus) -> Runner
+    pub(crate) fn new(live: Box<SceneBus>) -> Runner
         ensures { result.live ≡ live }
     {
         Runner {
@@ -41,8 +41,8 @@ impl Runner {
         scene: &Scene,
         again: bool,
     ) -> Result<(), AllocError>
-        requires { IsTrue again → IsCloseTo self.old.set self.old.touched scene.now self.old.live }
-        ensures { OnOk result (self.new.live ≡ scene.now) }
+        requires { IsTrue again → IsCloseTo self.old.set self.old.touched scene.now self.old.live.value }
+        ensures { OnOk result (self.new.live.value ≡ scene.now) }
     {
         match self.touched {
             Some(slot) if again => {
@@ -58,8 +58,8 @@ impl Runner {
     pub(crate) fn tried(&mut self, line: &Line, ways: Ways) -> Result<Ran, AllocError>
         requires one { ways.one < 2 ^ 16 }
         requires other { ways.other < 2 ^ 16 }
-        ensures tried { IfOk result (λ ran. (before : BeforeValue) × RunsIn self.old.live line.now.command line.now.risk ways before self.new.live × (ran ≡ outcome self.new.live before line.now)) }
-        ensures near { OnOk result (IsCloseTo self.new.set self.new.touched self.old.live self.new.live) }
+        ensures tried { IfOk result (λ ran. (before : BeforeValue) × RunsIn self.old.live.value line.now.command line.now.risk ways before self.new.live.value × (ran ≡ outcome self.new.live.value before line.now)) }
+        ensures near { OnOk result (IsCloseTo self.new.set self.new.touched self.old.live.value self.new.live.value) }
     {
         self.set = sets_some(&line.command);
         match self.live.raise_in_line(line) {

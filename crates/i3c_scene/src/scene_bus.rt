@@ -46,17 +46,21 @@ impl Scene {
     ghost use Rattle.std.specs.Prelude.{◌≡◌, IfOk};
 
     /// The bus awake, with a role or session of its own.
-    pub(crate) fn wake(&self, alloc: Global) -> Result<SceneBus, AllocError>
-        ensures { IfOk result (λ live. live ≡ self.now) }
+    // in a box, since each place through which it goes by value would cost as much as the bus is large
+    pub(crate) fn wake(&self, alloc: Global) -> Result<Box<SceneBus>, AllocError>
+        ensures { IfOk result (λ live. live.value ≡ self.now) }
     {
         let rest = &*self.rest;
         let known = rest.known.copied()?;
         let cuts = rest.cuts.clone()?;
         match rest.still.wake(alloc) {
-            Ok((bus, hand)) => Ok(SceneBus {
-                bus: ScriptBus::of_parts(bus, hand, rest.settings.copied(), cuts, Unkept),
-                known,
-            }),
+            Ok((bus, hand)) => {
+                let live = SceneBus {
+                    bus: ScriptBus::of_parts(bus, hand, rest.settings.copied(), cuts, Unkept),
+                    known,
+                };
+                Ok(Box::new(alloc, live)?)
+            }
             Err(_) => Err(AllocError),
         }
     }

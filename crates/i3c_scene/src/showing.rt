@@ -47,7 +47,8 @@ impl Scene {
         ensures { IfOk result (λ told. (said : List ℕ) × LineTells self.now line.now way told said × (text.new ≡ text.old ++ said)) }
     {
         let tried = self.ways_of_line(line, way);
-        let mut live = self.wake(alloc)?;
+        let mut woken = self.wake(alloc)?;
+        let live = &mut *woken;
         live.unmet(line, tried, text)
     }
 }

@@ -1,5 +1,5 @@
 -- A line that is run in ways that stand for its own tells what it tells.
-use Rattle.std.proofs.Common.{◌≡◌, ◌++◌, ℕ, List, Option, Result, Ok, Err}
+use Rattle.std.proofs.Common.{◌∙◌, ◌≡◌, ◌++◌, ℕ, List, Option, Result, Ok, Err}
 use Rattle.std.specs.Prelude.{IfOk}
 use Rattle.i3c_facts.specs.declared.before.Before.{Before}
 use Rattle.i3c_scene.specs.declared.line.Line.{Line}
@@ -18,4 +18,4 @@ told_of (Err e) old live new line way tried text more same is h = tt
 told_of (Ok told) old live new line way tried text more same is (before, said, runs, tells, put) = (said, (before, new, runs_as old live line way tried before new same is runs, tells), put)
 
 pub returns : goal.returns
-returns c = told_of c.unmet.result c.args.self.now c.in_ok-live.live c.unmet.new.self c.args.line.now c.args.way c.ways_of_line-tried.result c.args.text.now c.unmet.new.text c.in_ok-live.ensures c.ways_of_line-tried.ensures.ways c.unmet.ensures
+returns c = told_of c.unmet.result c.args.self.now c.deref_mut-live.result.now c.unmet.new.self c.args.line.now c.args.way c.ways_of_line-tried.result c.args.text.now c.unmet.new.text (c.deref_mut-live.ensures.value ∙ c.in_ok-woken.ensures) c.ways_of_line-tried.ensures.ways c.unmet.ensures
