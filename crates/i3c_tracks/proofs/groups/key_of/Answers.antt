@@ -11,7 +11,7 @@ use Rattle.i3c_tracks.proofs.groups.key_of.Goals as goal
 
 pub loop-index-preserved : goal.loop-index-preserved
 loop-index-preserved c questions same =
-    key_more c.args.state.now c.run.new.runner.live c.args.asked.now questions c.loop-index.key.items c.push.new.self.items c.loop-index.index c.index-asked-index.result c.is_unbroken.result same (c.loop-index.invariant questions same) c.loop-index-test.true c.index-asked-index.is (λ held. c.in_ok-ran.ensures.leads (c.is_unbroken.ensures.held held))
+    key_more c.args.state.now c.run.new.runner.live.value c.args.asked.now questions c.loop-index.key.items c.push.new.self.items c.loop-index.index c.index-asked-index.result c.is_unbroken.result same (c.loop-index.invariant questions same) c.loop-index-test.true c.index-asked-index.is (λ held. c.in_ok-ran.ensures.leads (c.is_unbroken.ensures.held held))
     (λ broken. c.in_ok-ran.ensures.broken (c.is_unbroken.ensures.broken broken)) c.in_ok-push.ensures.items
 
 pub returns : goal.returns
