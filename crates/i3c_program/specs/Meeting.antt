@@ -1,5 +1,5 @@
 -- A program that meets the orders of a scene's file, over all its lines.
-use Rattle.std.specs.Prelude.{◌≡◌, ◌⊎◌, ℕ, List, Option, false}
+use Rattle.std.specs.Prelude.{◌≡◌, ◌<◌, ◌⊎◌, ℕ, List, IfSome, Option, false, length}
 use Rattle.std.specs.Global.{Vec}
 use Rattle.i3c_drive.specs.Serving.{ServesPart, ServesWhole}
 use Rattle.i3c_explore.specs.declared.limits.Limits.{Limits}
@@ -31,8 +31,8 @@ pub record IsMet (form : Form) (limits : Limits) (most : ℕ) (scene known befor
   pub served : ServesWhole IsAnswered known before after start end
   pub ends : ending ≡ ending_of end.trial.standing end.wrong
 
--- why it doesn't end: the file can't be read, or is no scene, or a fault ended the program's lines
+-- why it doesn't end: the file can't be read, and is too large only where it is; or it is no scene; or a fault ended the program's lines
 abbrev pub IsMetNot : Form → Limits → ℕ → Option (List ℕ) → Option (List ℕ) → Option (List ℕ) → Option (List ℕ) → MeetFault → Type 0
-IsMetNot form limits most scene known before after (MeetFault.File fault) = after ≡ before
+IsMetNot form limits most scene known before after (MeetFault.File fault) = (fault ≡ ScriptFault.TooLarge → IfSome scene (λ bytes. 1048576 < length bytes)) × (after ≡ before)
 IsMetNot form limits most scene known before after (MeetFault.Scene why) = (file : List (Vec ℕ)) × AreLines scene file × HasNoScenario file limits why × (after ≡ before)
 IsMetNot form limits most scene known before after (MeetFault.Lines fault) = ((fault ≡ ScriptFault.Memory) × (after ≡ before)) ⊎ ((start : Session) × Opens form limits most scene start × ServesPart IsAnswered known before after start fault)

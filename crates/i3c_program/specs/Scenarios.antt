@@ -69,4 +69,4 @@ abbrev pub HasNoScenario : List (Vec ℕ) → Limits → NoScenario → Type 0
 HasNoScenario file limits NoScenario.Memory = Unit {0}
 HasNoScenario file limits (NoScenario.Refused refusal) = IsRefusedFor file refusal
 HasNoScenario file limits NoScenario.NotOneBlock = (plan : Plan) × IsPlan file plan × HasNotOne plan.opened.items
-HasNoScenario file limits why = (plan : Plan) × (front : List (Vec (Vec Line))) × IsPlan file plan × IsNotBehind front plan.start limits why
+HasNoScenario file limits why = (plan : Plan) × (front : List (Vec (Vec Line))) × (block : Vec (Vec Line)) × (rest : List (Vec (Vec Line))) × IsPlan file plan × AreParted plan front block rest × IsNotBehind front plan.start limits why

@@ -1,7 +1,7 @@
 -- The parts of the plan.
-use Rattle.std.proofs.Common.{refl, subst, sym}
-use Rattle.i3c_program.specs.Scenarios.{HasNotOne, IsBehind, IsOnly}
-use Rattle.i3c_program.proofs.Parting.{not_behind}
+use Rattle.std.proofs.Common.{refl, subst}
+use Rattle.i3c_program.specs.Scenarios.{HasNotOne, IsBehind, IsNotBehind}
+use Rattle.i3c_program.proofs.Parting.{are_parted, not_behind}
 use Rattle.i3c_program.proofs.scenario.scenario_of.Goals as goal
 
 pub returns-in_default : goal.returns-in_default
@@ -13,11 +13,11 @@ returns-in-Ok c = record {
   is = c.requires;
   lines = refl;
   before = refl;
-  parted = record { blocks = c.in-Some-Ok.ensures'.0; only = subst (λ n. IsOnly c.args.plan.opened.items n) (sym c.in-Some-Ok.ensures'.1) (subst (λ opened. IsOnly opened c.in-Some.at) c.deref.ensures.value c.in-Some.ensures) };
+  parted = are_parted c.args.plan c.in-Some-Ok.parts c.deref.result.now c.in-Some.at c.deref.ensures.value c.in-Some.ensures c.in-Some-Ok.ensures';
   led = subst (λ front. IsBehind front c.args.plan.start c.in-Ok.end.order.items c.in-Ok.end.state) c.deref-2.ensures.value c.in-Ok.ensures;
   rules = c.in-Some-Ok.ensures;
   limits_are = refl;
 }
 
 pub returns-in-Err : goal.returns-in-Err
-returns-in-Err c = not_behind c.args.lines.items c.args.limits c.args.plan c.deref-2.result.now c.in-Err.why c.requires c.in-Err.ensures
+returns-in-Err c = not_behind c.args.lines.items c.args.limits c.args.plan c.in-Some-Ok.parts c.in-Err.why c.requires (are_parted c.args.plan c.in-Some-Ok.parts c.deref.result.now c.in-Some.at c.deref.ensures.value c.in-Some.ensures c.in-Some-Ok.ensures') (subst (λ front. IsNotBehind front c.args.plan.start c.args.limits c.in-Err.why) c.deref-2.ensures.value c.in-Err.ensures)
