@@ -80,6 +80,7 @@ static const char *const result_names[] = {
     [DASKREYF_DIFFERS] = "Differs",
     [DASKREYF_MOST] = "Most",
     [DASKREYF_OVER] = "Over",
+    [DASKREYF_NO_ORDER] = "NoOrder",
     [DASKREYF_REFUSED] = "Refused",
     [DASKREYF_BAD_ARGUMENT] = "BadArgument",
     [DASKREYF_GONE] = "Gone",
@@ -141,17 +142,15 @@ static bool open_pairs(int to[2], int from[2])
     return false;
 }
 
-/* Runs the program with every order of a scene, or NULL. */
-static void become_program(const char *program, const char *scene, int input, int output)
+/* Runs the program with these words, the first of which is its own. */
+static void become_program(char *const words[], int input, int output)
 {
-    const char *every = scene ? "--every" : NULL;
-
     if (dup2(input, STDIN_FILENO) >= 0 && dup2(output, STDOUT_FILENO) >= 0)
-        execlp(program, program, "drive", every, scene, (char *)NULL);
+        execvp(words[0], words);
     _exit(NOT_RUN);
 }
 
-static bool start_program(struct daskreyf *bus, const char *program, const char *scene)
+static bool start_program(struct daskreyf *bus, char *const words[])
 {
     int to[2], from[2];
 
@@ -159,7 +158,7 @@ static bool start_program(struct daskreyf *bus, const char *program, const char 
         return false;
     bus->program = fork();
     if (bus->program == 0)
-        become_program(program, scene, to[1], from[1]);
+        become_program(words, to[1], from[1]);
     close(to[1]);
     close(from[1]);
     bus->to = to[0];
@@ -171,17 +170,17 @@ static bool start_program(struct daskreyf *bus, const char *program, const char 
     return false;
 }
 
-static struct daskreyf *start_bus(const char *program, const char *scene)
+static struct daskreyf *start_bus(char *const words[], bool every)
 {
     struct daskreyf *bus = calloc(1, sizeof *bus);
 
     if (!bus)
         return NULL;
-    bus->every = scene != NULL;
+    bus->every = every;
     bus->text = bus->why = "";
     bus->room = FIRST_ROOM;
     bus->answer = malloc(bus->room);
-    if (bus->answer && start_program(bus, program, scene))
+    if (bus->answer && start_program(bus, words))
         return bus;
     free(bus->answer);
     free(bus);
@@ -190,12 +189,31 @@ static struct daskreyf *start_bus(const char *program, const char *scene)
 
 struct daskreyf *daskreyf_start(const char *program)
 {
-    return start_bus(program, NULL);
+    char *const words[] = {(char *)program, (char *)"drive", NULL};
+
+    return start_bus(words, false);
 }
 
 struct daskreyf *daskreyf_every(const char *program, const char *scene)
 {
-    return start_bus(program, scene);
+    return daskreyf_every_of(program, scene, NULL, NULL);
+}
+
+struct daskreyf *daskreyf_every_of(const char *program, const char *scene, const char *option, const char *value)
+{
+    const char *alone = getenv("I3CBUS_ORDER");
+    bool is_alone = alone && *alone;
+    char *const words[] = {
+        (char *)program,
+        (char *)"drive",
+        (char *)"--every",
+        (char *)scene,
+        is_alone ? (char *)"--order" : (char *)option,
+        is_alone ? (char *)alone : (char *)value,
+        NULL,
+    };
+
+    return start_bus(words, true);
 }
 
 int daskreyf_close(struct daskreyf *bus)
@@ -1057,7 +1075,7 @@ static bool begin_again(struct daskreyf *bus)
     bus->asking[0] = '\0';
     if (sscanf(bus->text, "order %lu", &bus->order) == 1)
         return true;
-    if (!begins(bus->text, "all "))
+    if (!begins(bus->text, "all ") && !begins(bus->text, "tried "))
         broken(bus);
     return false;
 }
@@ -1088,4 +1106,13 @@ int daskreyf_wait(struct daskreyf *bus)
 const char *daskreyf_script(struct daskreyf *bus)
 {
     return daskreyf_line(bus, "script") == DASKREYF_OK ? bus->text : NULL;
+}
+
+const char *daskreyf_choices(struct daskreyf *bus)
+{
+    static const char word[] = "choices ";
+
+    if (daskreyf_line(bus, "choices") != DASKREYF_OK)
+        return NULL;
+    return begins(bus->text, word) ? bus->text + strlen(word) : NULL;
 }

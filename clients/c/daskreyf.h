@@ -69,6 +69,7 @@ enum daskreyf_result {
     DASKREYF_DIFFERS,          /* an earlier run that was told the same sent the line that daskreyf_text has behind `due` */
     DASKREYF_MOST,             /* as many orders were tried as may be, and some are left; or too many states before a line */
     DASKREYF_OVER,             /* all orders were tried, or none will begin behind an UNMET, DIFFERS or MOST */
+    DASKREYF_NO_ORDER,         /* the line has no answer of the number that I3CBUS_ORDER has for it */
     DASKREYF_REFUSED,          /* for a reason that isn't known here: daskreyf_why has it */
 
     /* nothing was sent: */
@@ -344,9 +345,16 @@ enum daskreyf_result daskreyf_frames(struct daskreyf *bus, uint16_t count);
  *
  * The status of daskreyf_close is 0 if all orders were tried and all holds, 3 if an expectation doesn't hold, and 2 after a
  * fault, which is told on standard error. Otherwise it is 1: orders are left, or a line had no form or was one of
- * DASKREYF_MANY_FRAMES to DASKREYF_OVER.
+ * DASKREYF_MANY_FRAMES to DASKREYF_NO_ORDER.
  */
 struct daskreyf *daskreyf_every(const char *program, const char *scene);
+
+/*
+ * The same with some orders alone: "--part" and "2/4" for the second of four parts, "--order" and what daskreyf_choices gave
+ * for one, "--random" and "1000" for a thousand that are drawn, "--most" and "1000" for that many at most. NULL twice for all.
+ * Where the environment has I3CBUS_ORDER, both calls try the order of these choices alone.
+ */
+struct daskreyf *daskreyf_every_of(const char *program, const char *scene, const char *option, const char *value);
 
 /*
  * Begins the next order: the first call the first one, and a later call ends the run before it. False where no order begins:
@@ -365,6 +373,9 @@ int daskreyf_wait(struct daskreyf *bus);
 
 /* What ran in this order so far, as a script of `i3cbus run`, like daskreyf_text. NULL if there is none. */
 const char *daskreyf_script(struct daskreyf *bus);
+
+/* The answers that the lines of this order took so far, by which I3CBUS_ORDER finds it again. Like daskreyf_text, NULL if none. */
+const char *daskreyf_choices(struct daskreyf *bus);
 
 #ifdef __cplusplus
 }

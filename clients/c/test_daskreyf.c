@@ -468,6 +468,55 @@ static void test_each_order_of_two_tracks(const char *program)
     CHECK(daskreyf_close(bus) == 0);
 }
 
+/* Keeps a text that the next line overwrites. */
+static void keep(char kept[TEXT], const char *text)
+{
+    snprintf(kept, TEXT, "%s", text ? text : "");
+}
+
+/* What each run of a bus came to, under its choices; how many runs there were. */
+static size_t runs_of(struct daskreyf *bus, char met[ORDERS][TEXT], char choices[ORDERS][TEXT])
+{
+    size_t count = 0;
+
+    while (daskreyf_next(bus) && count < ORDERS) {
+        serve_until_nothing_is_left(bus, met[count]);
+        keep(choices[count++], daskreyf_choices(bus));
+    }
+    return count;
+}
+
+static void test_some_orders_alone(const char *program)
+{
+    static const char scene[] = ADDRESSED "any\ntrack\nraise light 2A\ntrack\ndrop heat\nclose\n";
+    static char met[ORDERS][TEXT], choices[ORDERS][TEXT], alone[ORDERS][TEXT], named[ORDERS][TEXT];
+    struct daskreyf *bus = every(program, scene);
+    size_t count = runs_of(bus, met, choices), parted = 0;
+
+    CHECK(count == 8 && !strcmp(daskreyf_text(bus), "all 8 orders") && daskreyf_close(bus) == 0);
+    for (size_t i = 0; i < count; i++) {
+        bus = daskreyf_every_of(program, "test_scene.i3c", "--order", choices[i]);
+        CHECK(runs_of(bus, alone, named) == 1 && !strcmp(alone[0], met[i]) && !strcmp(named[0], choices[i]));
+        CHECK(!strcmp(daskreyf_text(bus), "tried 1 orders") && daskreyf_close(bus) == 0);
+    }
+    for (int part = 1; part <= 3; part++) {
+        char text[TEXT];
+
+        snprintf(text, sizeof text, "%d/3", part);
+        bus = daskreyf_every_of(program, "test_scene.i3c", "--part", text);
+        parted += runs_of(bus, alone, named);
+        CHECK(daskreyf_close(bus) == 0);
+    }
+    CHECK(parted == count);
+    CHECK(setenv("I3CBUS_ORDER", choices[0], 1) == 0);
+    bus = daskreyf_every(program, "test_scene.i3c");
+    CHECK(runs_of(bus, alone, named) == 1 && !strcmp(named[0], choices[0]) && daskreyf_close(bus) == 0);
+    CHECK(setenv("I3CBUS_ORDER", "99", 1) == 0);
+    bus = daskreyf_every(program, "test_scene.i3c");
+    CHECK(daskreyf_next(bus) && daskreyf_serve(bus) == DASKREYF_NO_ORDER && daskreyf_close(bus) == 1);
+    CHECK(unsetenv("I3CBUS_ORDER") == 0);
+}
+
 static void test_who_asks_at_the_beginning(const char *program)
 {
     struct daskreyf *bus = every(program, ADDRESSED "any\ntrack\nraise light 2A\nclose\n");
@@ -639,6 +688,7 @@ static void test_the_end_of_every_order(const char *program)
 static void test_every_order(const char *program)
 {
     test_each_order_of_two_tracks(program);
+    test_some_orders_alone(program);
     test_who_asks_at_the_beginning(program);
     test_a_scene_without_tracks(program);
     test_assignments_frame_by_frame(program);

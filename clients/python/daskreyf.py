@@ -383,7 +383,14 @@ class Most(Refused):
 
 
 class Over(Refused):
-    """No order is left, or none will begin any more: all were tried, or an earlier line was `Unmet`, `Differs` or `Most`."""
+    """
+    No order is left, or none will begin any more: all were tried that were to be, or an earlier line was `Unmet`, `Differs`,
+    `Most` or `NoOrder`.
+    """
+
+
+class NoOrder(Refused):
+    """The line has no answer of the number that `One`, or `I3CBUS_ORDER`, has for it."""
 
 
 _REFUSALS = {refusal.__name__: refusal for refusal in Refused.__subclasses__()}
@@ -801,6 +808,42 @@ class Bus(Sender):
         return told
 
 
+_ORDER = "I3CBUS_ORDER"
+"""The variable of the environment that has the choices of the one order that `every` tries."""
+
+
+@dataclass(frozen=True)
+class Part:
+    """The orders of part `number` of `of` parts, counted from 1. The parts have each order among them."""
+
+    number: int
+    of: int
+
+    def _words(self) -> tuple[str, ...]:
+        return ("--part", f"{self.number}/{self.of}")
+
+
+@dataclass(frozen=True)
+class One:
+    """One order, by its choices, as `EveryBus.choices` tells them."""
+
+    choices: str
+
+    def _words(self) -> tuple[str, ...]:
+        return ("--order", self.choices)
+
+
+@dataclass(frozen=True)
+class Drawn:
+    """So many orders that are drawn: each line's answer by itself. Equal seeds draw equal orders."""
+
+    count: int
+    seed: int = 0
+
+    def _words(self) -> tuple[str, ...]:
+        return ("--random", str(self.count), "--seed", str(self.seed))
+
+
 class EveryBus(Bus):
     """
     A bus on which a scene's events happen, in another order in each run of the program. `every` yields it, run by run.
@@ -809,12 +852,22 @@ class EveryBus(Bus):
     `close` gives 0 if all orders were tried and all holds, 3 if an expectation doesn't hold, 2 after a fault, otherwise 1.
     """
 
-    def __init__(self, program: str | Sequence[str], scene: str | os.PathLike[str], most: int | None = None) -> None:
-        """Starts the program with a scene, a file of `explore` with one block. It tries `most` orders at most, or all."""
+    def __init__(
+        self,
+        program: str | Sequence[str],
+        scene: str | os.PathLike[str],
+        most: int | None = None,
+        which: Part | One | Drawn | None = None,
+    ) -> None:
+        """
+        Starts the program with a scene, a file of `explore` with one block. It tries the orders of `which`, or all; and `most`
+        orders at most.
+        """
         if most is not None and most < 1:
             raise ValueError(f"one order is tried at least, and not {most}")
         bound: list[str] = [] if most is None else ["--most", str(most)]
-        self._start(program, "--every", os.fspath(scene), *bound)
+        chosen: tuple[str, ...] = () if which is None else which._words()
+        self._start(program, "--every", os.fspath(scene), *bound, *chosen)
         self.order = 1
         """The number of the order, from 1."""
         self._is_noted = False
@@ -837,13 +890,17 @@ class EveryBus(Bus):
         """`script`: what ran in this order so far, as a script of `i3cbus run`."""
         return "".join(f"{line}\n" for line in self._exchange("script")[:-1])
 
+    def choices(self) -> str:
+        """`choices`: the answers that the lines of this order took so far, by which `One` finds it again."""
+        return self._exchange("choices")[0].split()[1]
+
     def again(self) -> bool:
-        """`again`: this run of the program is over, and the next order begins. False where all were tried."""
+        """`again`: this run of the program is over, and the next order begins. False where all were tried that were to be."""
         answer = self.line("again")
         word, number, *_ = answer.lines[0].split()
         self.asking = answer.asking or ()
         self.records = []
-        if word == "all":
+        if word in ("all", "tried"):
             return False
         self.order = int(number)
         return True
@@ -894,12 +951,16 @@ class EveryBus(Bus):
     def _told_order(self) -> str:
         """What is told of the order; nothing where the program is gone."""
         with contextlib.suppress(BusGone):
-            return f"In order {self.order}, which `i3cbus run` replays:\n{self.script().rstrip()}"
+            alone = f"{_ORDER}={self.choices()}"
+            return f"In order {self.order} ({alone}), which `i3cbus run` replays:\n{self.script().rstrip()}"
         return ""
 
 
 def every(
-    program: str | Sequence[str], scene: str | os.PathLike[str], most: int | None = None
+    program: str | Sequence[str],
+    scene: str | os.PathLike[str],
+    most: int | None = None,
+    which: Part | One | Drawn | None = None,
 ) -> Generator[EveryBus, None, None]:
     """
     Lets a program meet every order of a scene's events. The loop's body is one run of the program. What it sends may depend
@@ -919,9 +980,11 @@ def every(
     ends by itself.
 
     What is raised in `with bus` gets the order as a note, which a traceback shows. If the loop is left without that, the
-    order is told on standard error.
+    order is told on standard error. Where the environment has `I3CBUS_ORDER`, as the note has it, that order is tried alone,
+    whatever `which` says.
     """
-    bus = EveryBus(program, scene, most)
+    alone = os.environ.get(_ORDER)
+    bus = EveryBus(program, scene, most, One(alone) if alone else which)
     try:
         yield bus
         while bus.again():

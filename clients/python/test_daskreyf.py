@@ -8,11 +8,13 @@ from __future__ import annotations
 import contextlib
 import io
 import os
+import re
 import signal
 import subprocess
 import tempfile
 import traceback
 import unittest
+import unittest.mock
 from collections.abc import Generator
 from pathlib import Path
 
@@ -623,7 +625,8 @@ class EveryTest(unittest.TestCase):
             [note.partition("\n")[2] for (note,) in notes],
             [self.ADDRESSED + "serve", self.ADDRESSED + "raise light 2A\nserve"],
         )
-        self.assertEqual([note.partition(",")[0] for (note,) in notes], ["In order 1", "In order 2"])
+        # `serve` has two answers, and the last of them is tried first
+        self.assertEqual([note.partition(",")[0] for (note,) in notes], ["In order 1 (I3CBUS_ORDER=1)", "In order 2 (I3CBUS_ORDER=0)"])
         self.assertEqual((told.getvalue(), bus.close()), ("", 0))
 
     def test_an_interruption_has_no_note(self) -> None:
@@ -645,7 +648,7 @@ class EveryTest(unittest.TestCase):
         for catches in (False, True):
             with contextlib.redirect_stderr(io.StringIO()) as told, self.assertRaises(AssertionError) as failed:
                 fails(catches)
-            self.assertEqual(told.getvalue(), f"In order 1, which `i3cbus run` replays:\n{self.ADDRESSED}serve\n")
+            self.assertEqual(told.getvalue(), f"In order 1 (I3CBUS_ORDER=0), which `i3cbus run` replays:\n{self.ADDRESSED}serve\n")
             self.assertFalse(hasattr(failed.exception, "__notes__"))
 
     # What is refused
@@ -659,7 +662,7 @@ class EveryTest(unittest.TestCase):
                     bus.serve() if runs == 1 else bus.reset()
         self.assertEqual((differs.exception.due, differs.exception.answer.lines), ("serve", ("due serve",)))
         self.assertRegex(str(differs.exception), r"^line 3: Differs: 'serve' was due$")
-        self.assertEqual(differs.exception.__notes__, [f"In order 2, which `i3cbus run` replays:\n{self.ADDRESSED}".rstrip()])
+        self.assertEqual(differs.exception.__notes__, [f"In order 2 (I3CBUS_ORDER=-), which `i3cbus run` replays:\n{self.ADDRESSED}".rstrip()])
         self.assertEqual(bus.close(), 1)
 
     def test_a_run_that_ends_where_an_earlier_one_went_on(self) -> None:
@@ -686,6 +689,61 @@ class EveryTest(unittest.TestCase):
         self.assertCountEqual([served for _, served in orders[1:]], [None, Record(1, 1, 1, 0x09, 0x2A)])
         self.assertEqual(bus.close(), 0)
         self.assertRaises(ValueError, next, self.every(scene, most=0))
+
+    TWO_TRACKS = "any\ntrack\nraise light 2A\ntrack\ndrop heat\nclose\n"
+
+    def runs(self, which: daskreyf.Part | daskreyf.One | daskreyf.Drawn | None = None) -> list[tuple[str, str]]:
+        """What `TWO_TRACKS` comes to in each order that is tried, under its choices."""
+        runs = []
+        for bus in every(PROGRAM, self.scene(self.TWO_TRACKS), which=which):
+            told = [self.served(bus)]
+            while bus.wait():
+                told += ["|", *bus.asking, self.served(bus)]
+            runs.append((bus.choices(), " ".join(told)))
+        self.assertEqual(bus.close(), 0)
+        return runs
+
+    def test_each_order_alone_by_its_choices(self) -> None:
+        runs = self.runs()
+        self.assertEqual(len({choices for choices, _ in runs}), 8)
+        for choices, told in runs:
+            self.assertEqual(self.runs(daskreyf.One(choices)), [(choices, told)])
+            with unittest.mock.patch.dict(os.environ, {"I3CBUS_ORDER": choices}):
+                self.assertEqual(self.runs(daskreyf.Part(1, 2)), [(choices, told)])
+
+    def test_parts_of_the_orders(self) -> None:
+        runs = self.runs()
+        parts = [self.runs(daskreyf.Part(number, 3)) for number in (1, 2, 3)]
+        self.assertCountEqual([run for part in parts for run in part], runs)
+        self.assertNotIn([], parts)
+
+    def test_drawn_orders(self) -> None:
+        drawn = self.runs(daskreyf.Drawn(20, 7))
+        self.assertEqual((len(drawn), drawn), (20, self.runs(daskreyf.Drawn(20, 7))))
+        self.assertLessEqual(set(drawn), set(self.runs()))
+        self.assertNotEqual(drawn, self.runs(daskreyf.Drawn(20, 8)))
+
+    def test_a_failure_tells_how_to_try_its_order_alone(self) -> None:
+        with self.assertRaises(daskreyf.Unmet) as unmet:
+            for bus in self.every(self.STRANDED):
+                with bus:
+                    bus.serve()
+        (note,) = unmet.exception.__notes__
+        found = re.search(r"\(I3CBUS_ORDER=([0-9.]+)\)", note)
+        assert found
+        with unittest.mock.patch.dict(os.environ, {"I3CBUS_ORDER": found[1]}), self.assertRaises(daskreyf.Unmet) as again:
+            for bus in self.every(self.STRANDED):
+                self.assertEqual(bus.order, 1)
+                with bus:
+                    bus.serve()
+        self.assertEqual(again.exception.script, unmet.exception.script)
+
+    def test_choices_that_no_order_has(self) -> None:
+        with unittest.mock.patch.dict(os.environ, {"I3CBUS_ORDER": "99"}), self.assertRaises(daskreyf.NoOrder):
+            for bus in self.every(self.TWO_TRACKS):
+                with bus:
+                    bus.serve()
+        self.assertEqual(bus.close(), 1)
 
     def test_no_line_behind_the_last_order(self) -> None:
         with EveryBus(PROGRAM, self.scene("any\nclose\n")) as bus:
@@ -744,7 +802,7 @@ class EveryTest(unittest.TestCase):
                 bus.serve()
                 break
         self.assertEqual(bus.close(), 1)
-        self.assertTrue(told.getvalue().startswith("In order 1, "))
+        self.assertTrue(told.getvalue().startswith("In order 1 (I3CBUS_ORDER="))
 
 
 if __name__ == "__main__":

@@ -164,7 +164,7 @@ other_fields name (piece ∷ pieces) members far = other_field piece_keys name (
 
 -- the fields of what an answer says besides
 abbrev aside_keys : List (List ℕ)
-aside_keys = codes "happened" ∷ codes "due" ∷ codes "order" ∷ codes "all" ∷ codes "script" ∷ []
+aside_keys = codes "happened" ∷ codes "due" ∷ codes "order" ∷ codes "all" ∷ codes "tried" ∷ codes "script" ∷ codes "choices" ∷ []
 
 aside_key : (aside : Aside) → IsOf aside_keys (aside_field aside)
 aside_key Aside.Nothing = tt
@@ -172,7 +172,9 @@ aside_key (Aside.Happened is_so) = refl
 aside_key (Aside.Due line) = refl
 aside_key (Aside.Order count) = refl
 aside_key (Aside.All count) = refl
+aside_key (Aside.Tried count) = refl
 aside_key (Aside.Script lines) = refl
+aside_key (Aside.Choices numbers) = refl
 
 -- how a line ended
 abbrev verdict_keys : List (List ℕ)
@@ -300,7 +302,9 @@ asides_told told =
       due = aside_found (codes "due") told.number told.verdict pieces told.added asking told.aside refl;
       order = aside_found (codes "order") told.number told.verdict pieces told.added asking told.aside refl;
       all = aside_found (codes "all") told.number told.verdict pieces told.added asking told.aside refl;
+      tried = aside_found (codes "tried") told.number told.verdict pieces told.added asking told.aside refl;
       script = aside_found (codes "script") told.number told.verdict pieces told.added asking told.aside refl;
+      choices = aside_found (codes "choices") told.number told.verdict pieces told.added asking told.aside refl;
     }
 
 -- a field that pieces fill by themselves has what the first says, where nothing was there

@@ -91,7 +91,9 @@ pub record TellsAside (aside : Aside) (answered : Data) : Type 0 where
   pub due : get (codes "due") answered ≡ aside_value (codes "due") aside
   pub order : get (codes "order") answered ≡ aside_value (codes "order") aside
   pub all : get (codes "all") answered ≡ aside_value (codes "all") aside
+  pub tried : get (codes "tried") answered ≡ aside_value (codes "tried") aside
   pub script : get (codes "script") answered ≡ aside_value (codes "script") aside
+  pub choices : get (codes "choices") answered ≡ aside_value (codes "choices") aside
 
 -- The object of an answer to a program that meets every order tells how the line ended, whatever other fields it has.
 abbrev pub ToldObjectsTellVerdicts : Type 0

@@ -112,7 +112,9 @@ aside_field (Aside.Happened is_so) = Some (codes "happened", boolean is_so)
 aside_field (Aside.Due line) = Some (codes "due", text_data line.now)
 aside_field (Aside.Order count) = Some (codes "order", number (unsigned count))
 aside_field (Aside.All count) = Some (codes "all", number (unsigned count))
+aside_field (Aside.Tried count) = Some (codes "tried", number (unsigned count))
 aside_field (Aside.Script lines) = Some (codes "script", text_data lines.now)
+aside_field (Aside.Choices numbers) = Some (codes "choices", text_data numbers.now)
 
 -- what an answer says besides
 abbrev pub put_aside : Aside → Members → Members

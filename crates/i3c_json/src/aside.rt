@@ -18,8 +18,12 @@ pub enum Aside<'a> {
     Order(u64),
     /// All orders were tried, and this is their number.
     All(u64),
+    /// So many orders were tried, and no other one is, though there may be more.
+    Tried(u64),
     /// The lines of the order so far.
     Script(&'a [u8]),
+    /// The numbers of the answers that they took.
+    Choices(&'a [u8]),
 }
 
 /// Puts what the answer says besides.
@@ -36,6 +40,8 @@ pub(crate) fn put_aside(
         Aside::Due(line) => put_text(alloc, "due", line, fields),
         Aside::Order(number) => put_number(alloc, "order", *number, fields),
         Aside::All(count) => put_number(alloc, "all", *count, fields),
+        Aside::Tried(count) => put_number(alloc, "tried", *count, fields),
         Aside::Script(lines) => put_text(alloc, "script", lines, fields),
+        Aside::Choices(numbers) => put_text(alloc, "choices", numbers, fields),
     }
 }

@@ -1,4 +1,5 @@
 mod Calling
 mod Ending
+mod Numbering
 mod Trying
 mod Turning

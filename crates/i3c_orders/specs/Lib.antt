@@ -1,3 +1,6 @@
+pub mod Numbers
 pub mod Paths
+pub mod Portions
 pub mod Runs
 pub mod Sessions
+pub mod Shares

@@ -1,5 +1,5 @@
 -- A run as a path of choices, and the next one.
-use Rattle.std.specs.Prelude.{◌≡◌, ◌≢◌, ◌⊎◌, ◌<◌, ℕ, suc, true, false, List, [], ◌∷◌, ◌++◌, length, map, slice_get, Option, None, Some, MatchOption, Result, Ok, Err, Bool}
+use Rattle.std.specs.Prelude.{◌≡◌, ◌≢◌, ◌⊎◌, ◌<◌, ◌≤◌, ℕ, suc, true, false, List, [], ◌∷◌, ◌++◌, length, map, slice_get, take, Option, None, Some, MatchOption, Result, Ok, Err, Bool}
 use Rattle.i3c_orders.specs.declared.choice.Choice.{Choice}
 use Rattle.i3c_orders.specs.declared.choice.Step.{Step}
 use Rattle.i3c_orders.specs.declared.orders.SendFault.{SendFault}
@@ -90,6 +90,18 @@ Ends old (Err unfinished) new = (old.at < length old.path) × (new ≡ old)
 abbrev pub IsOther : {L S A : Type 0} → Choice L S A → Option (Choice L S A) → Type 0
 IsOther choice None = choice.left.items ≡ []
 IsOther choice (Some other) = (other.line ≡ choice.line) × (choice.left.items ≡ other.left.items ++ other.taken ∷ [])
+
+-- the answer of this number is taken of those that are left for a line, and those behind it are passed over; or there is none of this number
+abbrev pub IsChosen : {L S A : Type 0} → Choice L S A → ℕ → Bool → Choice L S A → Type 0
+IsChosen old number true new = (number ≤ length old.left.items) × (new.line ≡ old.line) × (new.left.items ++ new.taken ∷ [] ≡ take (suc number) (old.left.items ++ old.taken ∷ []))
+IsChosen old number false new = (length old.left.items < number) × (new ≡ old)
+
+-- a run that is ahead of those before it chooses among the answers that are left for its newest line
+abbrev pub Chooses : {L S A : Type 0} → Tree L S A → ℕ → Bool → Tree L S A → Type 0
+Chooses {L} {S} {A} old number found new =
+    ((before : List (Choice L S A)) × (choice : Choice L S A) × (other : Choice L S A) × (old.at ≡ length old.path) × (old.path ≡ before ++ choice ∷ []) × IsChosen choice number found other
+    × (new ≡ tree old.start (before ++ other ∷ []) old.at))
+    ⊎ (((old.at < length old.path) ⊎ (old.path ≡ [])) × (found ≡ false) × (new ≡ old))
 
 -- the next path, if there is one
 abbrev pub Turns : {L S A : Type 0} → List (Choice L S A) → Bool → List (Choice L S A) → Type 0

@@ -1,11 +1,14 @@
-ghost use Rattle.std.specs.Prelude.{◌≡◌, [], ◌∷◌, List, None, Some, Ok, Err, false, Option, Contains, ◌↔◌};
+ghost use Rattle.std.specs.Prelude.{◌≡◌, ◌<◌, ◌+◌, ◌*◌, ◌%◌, ◌^◌, [], ◌∷◌, ℕ, All, List, None, Some, Ok, Err, false, Option, Contains, ◌↔◌};
 ghost use Rattle.i3c_orders.specs.declared.choice.Choice.{Choice as ChoiceValue};
 ghost use Rattle.i3c_orders.specs.declared.choice.Step.{Step as StepValue};
 ghost use Rattle.i3c_orders.specs.declared.orders.SendFault.{SendFault as FaultValue};
 ghost use Rattle.i3c_orders.specs.declared.orders.Unfinished.{Unfinished as UnfinishedValue};
+ghost use Rattle.i3c_orders.specs.Numbers.{NamesNumbers, numbers_text};
 ghost use Rattle.i3c_orders.specs.Runs.{AreTried, CanLead, IsRun, IsSettled};
 ghost use Rattle.i3c_orders.specs.Paths.{Answers, Ends, IsOver, Tree, steps_of, told_on};
+ghost use Rattle.i3c_orders.specs.Portions.{Portion};
 ghost use Rattle.i3c_orders.specs.Sessions.{Call, IsSession, IsTried, Move, told_now};
+ghost use Rattle.i3c_orders.specs.Shares.{begin_of, behind_of};
 
 use crate::responder::Responder;
 
@@ -42,4 +45,20 @@ pub fn determined_programs_are_served<M: Responder>()
         → IsSession (M.gives machine) program start calls tried old → program (told_now old) ≡ Some line → Answers (M.gives machine) (M.fails machine) old line (Err FaultValue.Differs) new → ⊥ }
     ensures ends { (machine : M) (program : List M.Answer → Option M.Line) (start : M.State) (calls : List Call) (tried : List (List (StepValue M.State M.Answer))) (old new : Tree M.Line M.State M.Answer) (unfinished : UnfinishedValue)
         → IsSession (M.gives machine) program start calls tried old → program (told_now old) ≡ None → Ends old (Err unfinished) new → ⊥ }
+{}
+
+/// Numbers of 64 bits that are written are read as these.
+pub fn written_numbers_are_read()
+    ensures { (numbers : List ℕ) → All (λ n. n < 2 ^ 64) numbers → NamesNumbers (numbers_text numbers) numbers }
+{}
+
+/// The parts share out the answers to a line. Where there are no more parts than answers, a share ends where the next part's
+/// begins: the first one begins with the first answer, and the last one ends with the last. Where there are more, each part is
+/// known by its answer and by the part of what is behind; so those that take one answer are all parts of what is behind it.
+pub fn parts_share_out_answers()
+    ensures first { (of answers : ℕ) → begin_of 0 of answers ≡ 0 }
+    ensures last { (of answers : ℕ) → 0 < of → begin_of of of answers ≡ answers }
+    ensures behind { (part : Portion) (answers : ℕ) → 0 < answers → part.index ≡ (behind_of part answers).index * answers + part.index % answers }
+    ensures all { (part : Portion) (answers index : ℕ) → 0 < answers → part.index < part.of
+        → (index < (behind_of part answers).of) ↔ (index * answers + part.index % answers < part.of) }
 {}

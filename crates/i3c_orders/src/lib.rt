@@ -21,12 +21,18 @@
 mod choice;
 mod laws;
 mod orders;
+mod portion;
 mod responder;
+mod share;
+mod which;
 
 pub use choice::{Choice, Step};
 pub use laws::{
     all_runs_are_tried, calls_try_all_runs, determined_programs_are_served,
-    settled_machines_try_all_runs,
+    parts_share_out_answers, settled_machines_try_all_runs, written_numbers_are_read,
 };
 pub use orders::{Orders, SendFault, Unfinished, send};
+pub use portion::Portion;
 pub use responder::Responder;
+pub use share::Share;
+pub use which::Which;

@@ -1,5 +1,5 @@
 ghost use Rattle.std.specs.Prelude.{◌≡◌, ◌<◌, ◌++◌, ◌∷◌, [], IfErr, IfOk, OnErr, OnOk, length};
-ghost use Rattle.i3c_orders.specs.Paths.{Answers, IsOther, IsUnsent, Sends, Turns, state_behind};
+ghost use Rattle.i3c_orders.specs.Paths.{Answers, IsChosen, IsOther, IsUnsent, Sends, Turns, state_behind};
 
 use crate::choice::{Choice, Step};
 use crate::responder::Responder;
@@ -44,7 +44,7 @@ impl<L, S, A> Model for Orders<L, S, A> {
 
 impl<L: Drop, S: Drop, A: Drop> Orders<L, S, A> {
     ghost use Rattle.std.specs.Prelude.{◌≡◌, [], take, option_copied, slice_get};
-    ghost use Rattle.i3c_orders.specs.Paths.{Ends, due_of, last_step, state_behind, tree};
+    ghost use Rattle.i3c_orders.specs.Paths.{Chooses, Ends, due_of, last_step, state_behind, tree};
 
     /// Before the first run: each begins in this state.
     pub fn new(alloc: Global, start: S) -> Orders<L, S, A>
@@ -62,6 +62,13 @@ impl<L: Drop, S: Drop, A: Drop> Orders<L, S, A> {
         ensures { result.now ≡ take self.now.at self.now.path }
     {
         &self.path[..self.at]
+    }
+
+    /// The lines of this run so far, and those of the run before that are ahead.
+    pub fn path(&self) -> &[Choice<L, S, A>]
+        ensures { result.now ≡ self.now.path }
+    {
+        &self.path
     }
 
     /// The state that this run has come to.
@@ -92,6 +99,31 @@ impl<L: Drop, S: Drop, A: Drop> Orders<L, S, A> {
         }
     }
 
+    /// Takes the answer of this number, counted from 0, of those that are left for this run's newest line, and passes over those
+    /// behind it: no run takes them. Answers whether there is such an answer. The run has to be ahead of those before it.
+    pub fn choose(&mut self, number: usize) -> bool
+        ensures { Chooses self.old number result self.new }
+    {
+        if self.path.len() > self.at {
+            return false;
+        }
+        let Some(choice) = self.path.pop() else {
+            return false;
+        };
+        let (choice, found) = chosen(choice, number);
+        self.path.push_reserved(choice);
+        found
+    }
+
+    /// The next run begins, and nothing is kept of those before it.
+    pub fn restart(&mut self)
+        ensures { self.new ≡ tree self.old.start [] 0 }
+    {
+        let Orders { path, at, .. } = self;
+        path.clear();
+        *at = 0;
+    }
+
     /// This run is over, and the next one begins: answers whether there is one. If all were tried, they begin again. Behind a
     /// line that wasn't answered a run isn't over: then this says nothing of the runs that go on there.
     ///
@@ -107,6 +139,25 @@ impl<L: Drop, S: Drop, A: Drop> Orders<L, S, A> {
         self.at = 0;
         Ok(turn(&mut self.path))
     }
+}
+
+/// The same line with the answer of this number, if there is one: those behind it are passed over.
+fn chosen<L: Drop, S: Drop, A: Drop>(
+    choice: Choice<L, S, A>,
+    number: usize,
+) -> (Choice<L, S, A>, bool)
+    ensures { IsChosen choice number result.1 result.0 }
+{
+    let last = choice.left.len();
+    if number >= last {
+        return (choice, number == last);
+    }
+    let Choice { line, mut left, .. } = choice;
+    left.truncate(number + 1);
+    let Some(taken) = left.pop() else {
+        unreachable!()
+    };
+    (Choice { line, taken, left }, true)
 }
 
 /// Takes the next path, if there is one.

@@ -1,4 +1,5 @@
 pub mod Coming
+mod Newest
 pub mod Parting
 pub mod Playing
 pub mod Said

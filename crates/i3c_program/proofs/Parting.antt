@@ -3,7 +3,6 @@ use Rattle.std.proofs.Common.{◌≡◌, ◌∙◌, ◌<◌, ◌+◌, ◌++◌, 
 use Rattle.std.proofs.lemmas.List.{length-append, length-take, take-append-drop}
 use Rattle.std.specs.Global.{Vec}
 use Rattle.i3c_explore.specs.declared.limits.Limits.{Limits}
-use Rattle.i3c_scene.specs.declared.line.Line.{Line}
 use Rattle.i3c_tracks.specs.declared.plan.Plan.{Plan}
 use Rattle.i3c_tracks.specs.Planning.{IsPlan}
 use Rattle.i3c_program.specs.declared.scenario.NoScenario.{NoScenario}

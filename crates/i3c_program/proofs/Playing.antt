@@ -1,5 +1,5 @@
 -- A program's lines, one after another, as calls of its runs.
-use Rattle.std.proofs.Common.{◌≡◌, ◌⊎◌, ◌∙◌, inl, inr, ◌<◌, ◌≤◌, ◌+◌, ℕ, suc, zero, Bool, true, false, List, [], ◌∷◌, ◌++◌, All, Contains, MatchOption, Option, None, Some, Ok, ap, arith, get_or, length, refl, subst, sym, take}
+use Rattle.std.proofs.Common.{◌≡◌, ◌⊎◌, ◌∙◌, inl, inr, ◌<◌, ◌≤◌, ◌+◌, ℕ, suc, zero, Bool, true, false, List, [], ◌∷◌, ◌++◌, All, Contains, MatchOption, Option, None, Some, Result, Ok, Err, ap, arith, get_or, length, refl, subst, sym, take}
 use Rattle.std.proofs.lemmas.List.{take_all, take_more}
 use Rattle.std.proofs.lemmas.List.Elements.{All-cons, Contains-append_cases}
 use Rattle.std.proofs.lemmas.Option.{same_Some, slice_get_cases}
@@ -13,7 +13,9 @@ use Rattle.i3c_every.specs.Every.{MeetsEvery}
 use Rattle.i3c_explore.specs.declared.stop.Stop.{Stop}
 use Rattle.i3c_orders.specs.declared.choice.Choice.{Choice}
 use Rattle.i3c_orders.specs.declared.choice.Step.{Step}
-use Rattle.i3c_orders.specs.Paths.{Ends, IsAnswered as IsCalled, IsSent, Tree, last_step, state_behind, steps_of, tree}
+use Rattle.i3c_orders.specs.declared.orders.Unfinished.{Unfinished}
+use Rattle.i3c_orders.specs.declared.which.Which.{Which}
+use Rattle.i3c_orders.specs.Paths.{Ends, IsAnswered as IsCalled, IsSent, Tree, due_of, last_step, state_behind, steps_of, tree}
 use Rattle.i3c_orders.specs.Runs.{state_after}
 use Rattle.i3c_orders.specs.Sessions.{Call, IsSession, told_now}
 use Rattle.i3c_scene.specs.Replying.{IsSight, LineReplies, Replied}
@@ -21,13 +23,15 @@ use Rattle.i3c_scene.specs.Scenes.{Seen}
 use Rattle.i3c_scene.specs.Trying.{LineSteps}
 use Rattle.i3c_program.specs.declared.came.Came.{Came}
 use Rattle.i3c_program.specs.declared.scenario.Scenario.{Scenario}
+use Rattle.i3c_program.specs.declared.selection.Selection.{Selection}
 use Rattle.i3c_program.specs.declared.session.Session.{Session}
 use Rattle.i3c_program.specs.declared.standing.Standing.{Standing}
 use Rattle.i3c_program.specs.declared.trial.Trial.{Trial}
 use Rattle.i3c_program.specs.declared.word.Word.{Word}
 use Rattle.i3c_program.specs.Answers.{reply_in}
+use Rattle.i3c_program.specs.Choosing.{GoesTo, Selects}
 use Rattle.i3c_program.specs.Laws.{Follows, HasMetAll, Holds, IsPlayed}
-use Rattle.i3c_program.specs.Sessions.{Begins, Comes, EndsBy, EndsRun, GoesOn, HasBegun, Hears, IsClosed, IsStart, IsStopped, Sends, StandsAt, Stays, place_of}
+use Rattle.i3c_program.specs.Sessions.{Begins, Comes, EndsBy, EndsRun, GoesOn, HasBegun, Hears, IsChosen, IsClosed, IsHeard, IsStart, IsStopped, IsTaken, IsTurned, Sends, StandsAt, Stays, is_new, place_of}
 
 -- a line of a run whose reply breaks no expectation
 abbrev IsMet : Choice (Sent (List ℕ)) (Met Seen) (Told Replied) → Type 0
@@ -89,6 +93,19 @@ next_called gives old sent new called = go ((slice_get_cases old.path old.at).1)
         let (choice, line, given, put) = is.path in
         (choice, ap (λ n. take n new.path) is.at ∙ take_all (length new.path) new.path (omega (arith)) ∙ put ∙ ap (λ p. p ++ choice ∷ []) (sym (take_all old.at old.path past)))
 
+-- a line that is heard is told
+is_heard : (old : Trial) (came : Came) (new : Trial) → IsHeard old came new → (changed : Bool) × Hears old changed new × (new.orders ≡ old.orders)
+is_heard old Came.Nothing new none = absurd none
+is_heard old (Came.Refused reason) new none = absurd none
+is_heard old Came.Differs new none = absurd none
+is_heard old (Came.Told changed) new (hears, run) = (changed, hears, run)
+is_heard old Came.Breaks new none = absurd none
+is_heard old Came.Begins new none = absurd none
+is_heard old Came.All new none = absurd none
+is_heard old Came.Tried new none = absurd none
+is_heard old Came.Script new none = absurd none
+is_heard old Came.Choices new none = absurd none
+
 -- that all was tried where no run is left, by a law of the orders
 abbrev pub IsEvery : Scenario → (List (Told Replied) → Option (Sent (List ℕ))) → Met Seen → Type 0
 IsEvery scenario program start =
@@ -116,36 +133,43 @@ module _ (scenario : Scenario) (program : List (Told Replied) → Option (Sent (
 
   record Is (trial : Trial) : Type 0 where
     same : trial.scenario ≡ scenario
+    all : trial.selection ≡ Selection.All
     stands : Stands trial.standing trial.orders
 
   stays : (old new : Trial) → Is old → Stays old new → Is new
   stays old new was (orders, standing, (one, order, asked)) = record {
     same = one.0 ∙ was.same;
+    all = one.2 ∙ was.all;
     stands = subst (λ o. Stands new.standing o) (sym orders) (subst (λ s. Stands s old.orders) (sym standing) was.stands);
   }
 
+  halted : (old new : Trial) → old.scenario ≡ scenario → old.selection ≡ Selection.All → IsStopped old new → Is new
+  halted old new same all (standing, orders, (one, order, asked)) = record { same = one.0 ∙ same; all = one.2 ∙ all; stands = subst (λ s. Stands s new.orders) (sym standing) tt }
+
   stopped : (old new : Trial) → Is old → IsStopped old new → Is new
-  stopped old new was (standing, orders, (one, order, asked)) = record { same = one.0 ∙ was.same; stands = subst (λ s. Stands s new.orders) (sym standing) tt }
+  stopped old new was stop = halted old new was.same was.all stop
 
   ended : (old : Trial) (stop : Stop) (came : Came) (new : Trial) → Is old → EndsBy old stop came new → Is new
   ended old Stop.Memory came new was none = absurd none
   ended old Stop.Most came new was (is, stop) = stopped old new was stop
-  ended old (Stop.Breaks order) came new was (is, broken) = record { same = broken.kept.0.0 ∙ was.same; stands = subst (λ s. Stands s new.orders) (sym broken.stands) tt }
+  ended old (Stop.Breaks order) came new was (is, broken) = record { same = broken.kept.0.0 ∙ was.same; all = broken.kept.0.2 ∙ was.all; stands = subst (λ s. Stands s new.orders) (sym broken.stands) tt }
 
   going_of : (old : Trial) → Is old → old.standing ≡ Standing.Going → IsGoing old.orders
   going_of old was going = subst (λ s. Stands s old.orders) going was.stands
 
-  -- the program heard its answer
-  heard : (old : Trial) (sent : Sent (List ℕ)) (changed : Bool) (new : Trial) → Is old → old.standing ≡ Standing.Going → program (told_now old.orders) ≡ Some sent
-      → IsCalled (AreMet LineSteps (LineReplies old.scenario.tracks.rules) IsSight old.scenario.tracks.lines.items) old.orders sent new.orders → Hears old changed new → Is new
-  heard old sent changed new was going asks called hears =
-      record { same = hears.kept.0 ∙ was.same; stands = go ((reply_in hears.step.answer).unmet) refl hears.stands }
+  -- the program heard the answer that was chosen
+  heard : (old : Trial) (sent : Sent (List ℕ)) (chosen : Trial) (changed : Bool) (new : Trial) → Is old → old.standing ≡ Standing.Going → program (told_now old.orders) ≡ Some sent
+      → IsCalled (AreMet LineSteps (LineReplies old.scenario.tracks.rules) IsSight old.scenario.tracks.lines.items) old.orders sent chosen.orders → chosen.scenario ≡ old.scenario → chosen.selection ≡ Selection.All → Hears chosen changed new
+      → new.orders ≡ chosen.orders → Is new
+  heard old sent chosen changed new was going asks called same all hears run =
+      record { same = hears.kept.0 ∙ same ∙ was.same; all = hears.kept.2 ∙ all; stands = go ((reply_in hears.step.answer).unmet) refl hears.stands }
     where
       here : IsGoing old.orders
       here = going_of old was going
 
       ours : IsCalled Gives old.orders sent new.orders
-      ours = subst (λ (s : Scenario). IsCalled (AreMet LineSteps (LineReplies s.tracks.rules) IsSight s.tracks.lines.items) old.orders sent new.orders) was.same called
+      ours = subst (λ t. IsCalled Gives old.orders sent t) (sym run)
+          (subst (λ (s : Scenario). IsCalled (AreMet LineSteps (LineReplies s.tracks.rules) IsSight s.tracks.lines.items) old.orders sent chosen.orders) was.same called)
 
       go : (unmet : Option ℕ) → (reply_in hears.step.answer).unmet ≡ unmet → StandsAt unmet (reply_in hears.step.answer).there new.standing → Stands new.standing new.orders
       go None none standing =
@@ -162,7 +186,19 @@ module _ (scenario : Scenario) (program : List (Told Replied) → Option (Sent (
       go (Some line) some (broken, standing, none, number, there) = subst (λ s. Stands s new.orders) (sym standing) tt
 
   sends : (old : Trial) (sent : Sent (List ℕ)) (came : Came) (new : Trial) → Is old → old.standing ≡ Standing.Going → program (told_now old.orders) ≡ Some sent → Sends old sent came new → Is new
-  sends old sent came new was going asks (inl (changed, is, called, hears)) = heard old sent changed new was going asks called hears
+  sends old sent came new was going asks (inl (answered, called, selection, alike, chosen)) = taken (is_new (due_of (slice_get old.orders.path old.orders.at))) chosen
+    where
+      told : (mid : Trial) → mid.orders ≡ answered.orders → mid.scenario ≡ old.scenario → mid.selection ≡ Selection.All → IsHeard mid came new → Is new
+      told mid run same all is =
+          let (changed, hears, kept) = is_heard mid came new is in
+          heard old sent mid changed new was going asks
+          (subst (λ t. IsCalled (AreMet LineSteps (LineReplies old.scenario.tracks.rules) IsSight old.scenario.tracks.lines.items) old.orders sent t) (sym run) called) same all hears kept
+
+      taken : (first : Bool) → IsChosen first answered came new → Is new
+      taken true (found, mid, selects, like, is) =
+          let (there, all, run) = subst (λ s. Selects s answered.orders found mid.selection mid.orders) (selection ∙ was.all) selects in
+          told mid run (like.0 ∙ alike.0) all (subst (λ b. IsTaken b mid came new) there is)
+      taken false is = told answered refl alike.0 (selection ∙ was.all) is
   sends old sent came new was going asks (inr (inl (differs, is, stop))) = stopped old new was stop
   sends old sent came new was going asks (inr (inr (stop, failed, ends))) = ended old stop came new was ends
 
@@ -191,10 +227,11 @@ module _ (scenario : Scenario) (program : List (Told Replied) → Option (Sent (
       go (inl (suc k, few, is)) = absurd (omega (arith, few))
       go (inr earlier) = here.hold run earlier
 
-  begun : (old mid : Trial) (came : Came) (new : Trial) → Is old → (here : IsGoing old.orders) → old.standing ≡ Standing.Going → program (told_now old.orders) ≡ None → IsClosed old → Ends old.orders (Ok true) mid.orders → mid.scenario ≡ old.scenario → mid.standing ≡ old.standing
-      → Begins mid came new → Is new
-  begun old mid came new was here going ends closed next same standing (inl (is, begins)) = record {
+  begun : (old mid : Trial) (came : Came) (new : Trial) → Is old → (here : IsGoing old.orders) → old.standing ≡ Standing.Going → program (told_now old.orders) ≡ None → IsClosed old → Ends old.orders (Ok true) mid.orders → mid.scenario ≡ old.scenario
+      → mid.selection ≡ Selection.All → mid.standing ≡ old.standing → Begins mid came new → Is new
+  begun old mid came new was here going ends closed next same all standing (inl (is, begins)) = record {
     same = begins.kept.0 ∙ same ∙ was.same;
+    all = begins.kept.2 ∙ all;
     stands = subst (λ s. Stands s new.orders) (sym (begins.stands ∙ standing ∙ going)) (subst (λ o. IsGoing o) (sym begins.run) (record {
       calls = Call.Again ∷ here.calls;
       tried = steps_of old.orders.path ∷ here.tried;
@@ -203,22 +240,29 @@ module _ (scenario : Scenario) (program : List (Told Replied) → Option (Sent (
       hold = held old was here next.0 closed;
     }));
   }
-  begun old mid came new was here going ends closed next same standing (inr (is, few, (stands, run, (one, kept, asked)))) = record { same = one.0 ∙ same ∙ was.same; stands = subst (λ s. Stands s new.orders) (sym stands) tt }
+  begun old mid came new was here going ends closed next same all standing (inr (is, few, stop)) = halted mid new (same ∙ was.same) all stop
 
   goes_on : (old : Trial) (came : Came) (new : Trial) → Is old → old.standing ≡ Standing.Going → program (told_now old.orders) ≡ None → IsClosed old → GoesOn old came new → Is new
-  goes_on old came new was going ends closed (inl (mid, next, kept, standing, begins)) = begun old mid came new was (going_of old was going) going ends closed next kept.0.0 standing begins
-  goes_on old came new was going ends closed (inr (inl (over, is, standing, kept))) =
-      let here : IsGoing old.orders = going_of old was going in record {
-        same = kept.0.0 ∙ was.same;
+  goes_on old came new was going ends closed (result, turned, goes, alike, follows) =
+      go result (subst (λ s. GoesTo s old.orders result turned.selection turned.orders) was.all goes) follows
+    where
+      here : IsGoing old.orders
+      here = going_of old was going
+
+      go : (end : Result Bool Unfinished) → GoesTo Selection.All old.orders end turned.selection turned.orders → IsTurned end turned came new → Is new
+      go (Ok true) (all, next) begins = begun old turned came new was here going ends closed next alike.0 all alike.4 begins
+      go (Ok false) (all, over) (is, standing, run, kept) = record {
+        same = kept.0.0 ∙ alike.0 ∙ was.same;
+        all = kept.0.2 ∙ all;
         stands = subst (λ s. Stands s new.orders) (sym standing) (record {
           start = start;
           is_start = is_start;
           tried = steps_of old.orders.path ∷ here.tried;
-          every = law here.calls here.tried old.orders new.orders here.session ends over;
+          every = law here.calls here.tried old.orders turned.orders here.session ends over;
           hold = held old was here over.0 closed;
         });
       }
-  goes_on old came new was going ends closed (inr (inr (early, is, stop))) = stopped old new was stop
+      go (Err unfinished) (all, early) (is, stop) = halted turned new (alike.0 ∙ was.same) all stop
 
   ends_run : (old : Trial) (came : Came) (new : Trial) → Is old → old.standing ≡ Standing.Going → program (told_now old.orders) ≡ None → EndsRun old came new → Is new
   ends_run old came new was going ends (inl (early, is, stop)) = stopped old new was stop
@@ -230,6 +274,7 @@ module _ (scenario : Scenario) (program : List (Told Replied) → Option (Sent (
   comes old Word.Nothing came new was (is, stay) follows = stays old new was stay
   comes old (Word.Refused reason) came new was (is, stay) follows = stays old new was stay
   comes old Word.Script came new was (is, stay) follows = stays old new was stay
+  comes old Word.Choices came new was (is, stay) follows = stays old new was stay
   comes old (Word.Sends sent) came new was (inl (over, is, stay)) follows = stays old new was stay
   comes old (Word.Sends sent) came new was (inr (going, does)) follows = sends old sent came new was going follows does
   comes old Word.Again came new was (inl (over, is, stay)) follows = stays old new was stay
@@ -240,7 +285,7 @@ module _ (scenario : Scenario) (program : List (Told Replied) → Option (Sent (
   played number old (line ∷ lines) new was (mid, text, answered, follows, rest) = played (suc number) mid lines new (comes old.trial answered.word answered.came mid.trial was answered.comes (follows answered.word answered.is)) rest
 
 pub met_all : ((scenario : Scenario) (program : List (Told Replied) → Option (Sent (List ℕ))) (start : Met Seen) → IsEvery scenario program start) → (scenario : Scenario) (most : ℕ) (program : List (Told Replied) → Option (Sent (List ℕ))) (old new : Session) (lines : List (List ℕ))
-    → HasBegun scenario most old.trial → IsPlayed program 1 old lines new → new.trial.standing ≡ Standing.Tried → HasMetAll scenario program
+    → HasBegun scenario most Which.All old.trial → IsPlayed program 1 old lines new → new.trial.standing ≡ Standing.Tried → HasMetAll scenario program
 met_all law scenario most program old new lines first_line play over = subst (λ s. Stands scenario program first_line.start first_line.is_start every s new.trial.orders) over (played scenario program first_line.start first_line.is_start every 1 old lines new first play).stands
   where
     every : IsEvery scenario program first_line.start
@@ -249,6 +294,7 @@ met_all law scenario most program old new lines first_line play over = subst (λ
     first : Is scenario program first_line.start first_line.is_start every old.trial
     first = record {
       same = first_line.scenario_is;
+      all = first_line.selects;
       stands = subst (λ s. Stands scenario program first_line.start first_line.is_start every s old.trial.orders) (sym first_line.stands) (record {
         calls = [];
         tried = [];

@@ -10,6 +10,8 @@ use Rattle.i3c_json.specs.Values.{text_data}
 use Rattle.i3c_lines.specs.declared.names.Name.{Name}
 use Rattle.i3c_scene.specs.Replying.{Replied}
 use Rattle.i3c_script.specs.Printed.{numbered_text, pieces_text}
+use Rattle.i3c_orders.specs.declared.choice.Choice.{Choice}
+use Rattle.i3c_orders.specs.Numbers.{numbers_of, numbers_text}
 use Rattle.i3c_program.specs.declared.reason.Reason.{Reason}
 
 abbrev pub reason_name : Reason → List ℕ
@@ -19,6 +21,7 @@ reason_name Reason.NoPast = codes "NoPast"
 reason_name Reason.Unmet = codes "Unmet"
 reason_name Reason.Differs = codes "Differs"
 reason_name Reason.Most = codes "Most"
+reason_name Reason.NoOrder = codes "NoOrder"
 reason_name Reason.Over = codes "Over"
 
 -- the reply in what a program is told
@@ -42,6 +45,14 @@ due_text line = codes "due " ++ (line ++ 10 ∷ [])
 -- that all orders were tried
 abbrev pub all_text : ℕ → List ℕ
 all_text count = codes "all " ++ (decimal count ++ (codes " orders" ++ 10 ∷ []))
+
+-- how many orders were tried, where not all are
+abbrev pub tried_text : ℕ → List ℕ
+tried_text count = codes "tried " ++ (decimal count ++ (codes " orders" ++ 10 ∷ []))
+
+-- the numbers of the answers that the lines of a run took
+abbrev pub choices_text : {L S A : Type 0} → List (Choice L S A) → List ℕ
+choices_text run = codes "choices " ++ (numbers_text (numbers_of run) ++ 10 ∷ [])
 
 -- whether something happened, where the program waited
 abbrev pub waited_text : Told Replied → List ℕ

@@ -6,6 +6,7 @@ use Rattle.i3c_every.specs.declared.told.Told.{Told}
 use Rattle.i3c_every.specs.Closing.{ClosesAll}
 use Rattle.i3c_every.specs.Every.{MeetsEvery}
 use Rattle.i3c_orders.specs.declared.choice.Step.{Step}
+use Rattle.i3c_orders.specs.declared.which.Which.{Which}
 use Rattle.i3c_orders.specs.Runs.{state_after}
 use Rattle.i3c_orders.specs.Sessions.{told_now}
 use Rattle.i3c_scene.specs.Replying.{IsSight, LineReplies, Replied}
@@ -47,5 +48,5 @@ pub record HasMetAll (scenario : Scenario) (program : List (Told Replied) → Op
 
 -- A program that is determined by what it is told has met every order, where all were tried
 abbrev pub ProgramsMeetEveryOrder : Type 0
-ProgramsMeetEveryOrder = (scenario : Scenario) (most : ℕ) (program : List (Told Replied) → Option (Sent (List ℕ))) (old new : Session) (lines : List (List ℕ)) → HasBegun scenario most old.trial → IsPlayed program 1 old lines new
+ProgramsMeetEveryOrder = (scenario : Scenario) (most : ℕ) (program : List (Told Replied) → Option (Sent (List ℕ))) (old new : Session) (lines : List (List ℕ)) → HasBegun scenario most Which.All old.trial → IsPlayed program 1 old lines new
     → new.trial.standing ≡ Standing.Tried → HasMetAll scenario program

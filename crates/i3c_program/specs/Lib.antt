@@ -1,4 +1,5 @@
 pub mod Answers
+pub mod Choosing
 pub mod Laws
 pub mod Meeting
 pub mod Scenarios

@@ -1,5 +1,5 @@
 -- What the lines of a program come to, one after another, while it meets every order.
-use Rattle.std.specs.Prelude.{◌≡◌, ◌≢◌, ◌⊎◌, ◌++◌, ◌||◌, ◌≤◌, ◌<◌, ◌∷◌, ℕ, suc, Bool, true, false, List, [], Option, None, Some, Ok, Err, codes, drop, length, replicate, slice_get, take}
+use Rattle.std.specs.Prelude.{◌≡◌, ◌≢◌, ◌⊎◌, ◌++◌, ◌||◌, ◌≤◌, ◌<◌, ◌∷◌, ℕ, suc, Bool, true, false, List, [], Option, None, Some, Result, Ok, Err, codes, drop, length, replicate, slice_get, take}
 use Rattle.std.specs.Fmt.{decimal}
 use Rattle.std.specs.Global.{Vec}
 use Rattle.serde_json.specs.Data.{Data, number as numeral, unsigned}
@@ -18,7 +18,10 @@ use Rattle.i3c_lines.specs.declared.names.Name.{Name}
 use Rattle.i3c_orders.specs.declared.choice.Choice.{Choice}
 use Rattle.i3c_orders.specs.declared.choice.Step.{Step}
 use Rattle.i3c_orders.specs.declared.orders.SendFault.{SendFault}
-use Rattle.i3c_orders.specs.Paths.{Answers as SendsSo, Ends, due_of, last_step, state_behind, tree}
+use Rattle.i3c_orders.specs.declared.orders.Unfinished.{Unfinished}
+use Rattle.i3c_orders.specs.declared.which.Which.{Which}
+use Rattle.i3c_orders.specs.Numbers.{numbers_of, numbers_text}
+use Rattle.i3c_orders.specs.Paths.{Answers as SendsSo, due_of, last_step, state_behind, tree}
 use Rattle.i3c_scene.specs.Latest.{latest_of}
 use Rattle.i3c_scene.specs.Replying.{IsSight, LineReplies, Replied}
 use Rattle.i3c_scene.specs.Scenes.{Seen}
@@ -29,13 +32,15 @@ use Rattle.i3c_tracks.specs.Courses.{LastBreaks}
 use Rattle.i3c_program.specs.declared.came.Came.{Came}
 use Rattle.i3c_program.specs.declared.reason.Reason.{Reason}
 use Rattle.i3c_program.specs.declared.scenario.Scenario.{Scenario}
+use Rattle.i3c_program.specs.declared.selection.Selection.{Selection}
 use Rattle.i3c_program.specs.declared.session.Ending.{Ending}
 use Rattle.i3c_program.specs.declared.session.Session.{Session}
 use Rattle.i3c_program.specs.declared.standing.Broken.{Broken}
 use Rattle.i3c_program.specs.declared.standing.Standing.{Standing}
 use Rattle.i3c_program.specs.declared.trial.Trial.{Trial}
 use Rattle.i3c_program.specs.declared.word.Word.{Word}
-use Rattle.i3c_program.specs.Answers.{WritesLine, all_text, bare_object, due_text, put_reason, refused_line, reply_in, told_object, told_text, unmet_text}
+use Rattle.i3c_program.specs.Answers.{WritesLine, all_text, bare_object, choices_text, due_text, put_reason, refused_line, reply_in, told_object, told_text, tried_text, unmet_text}
+use Rattle.i3c_program.specs.Choosing.{GoesTo, Selects, StartsAs}
 use Rattle.i3c_program.specs.Scripts.{AreRunsIn, IsScript, turns_in}
 use Rattle.i3c_program.specs.Words.{IsWord}
 
@@ -61,24 +66,29 @@ pub record IsStart (scenario : Scenario) (met : Met Seen) : Type 0 where
   pub places : met.places.items ≡ replicate (length scenario.tracks.lines.items) 0
   pub turns : met.turns.items ≡ []
 
--- a program before its first line
-pub record HasBegun (scenario : Scenario) (most : ℕ) (trial : Trial) : Type 0 where
+-- a program before its first line, with these orders to try
+pub record HasBegun (scenario : Scenario) (most : ℕ) (which : Which) (trial : Trial) : Type 0 where
   pub start : Met Seen
   pub is_start : IsStart scenario start
   pub orders : trial.orders ≡ tree start [] 0
   pub scenario_is : trial.scenario ≡ scenario
   pub first : trial.order ≡ 1
   pub most_is : trial.most ≡ most
+  pub selects : StartsAs which trial.selection
   pub asked : trial.asked.items ≡ []
   pub stands : trial.standing ≡ Standing.Going
 
--- what stays for all lines of a program
+-- what stays where no answer is chosen, and no order
 abbrev pub IsOfOne : Trial → Trial → Type 0
-IsOfOne old new = (new.scenario ≡ old.scenario) × (new.most ≡ old.most)
+IsOfOne old new = (new.scenario ≡ old.scenario) × (new.most ≡ old.most) × (new.selection ≡ old.selection)
 
 -- what stays within an order, where the program hears nothing
 abbrev pub IsOfOrder : Trial → Trial → Type 0
 IsOfOrder old new = IsOfOne old new × (new.order ≡ old.order) × (new.asked ≡ old.asked)
+
+-- what stays where one is chosen: all but the program's runs, and what is left to be chosen
+abbrev pub IsAlike : Trial → Trial → Type 0
+IsAlike old new = (new.scenario ≡ old.scenario) × (new.most ≡ old.most) × (new.order ≡ old.order) × (new.asked ≡ old.asked) × (new.standing ≡ old.standing)
 
 -- nothing changes
 abbrev pub Stays : Trial → Trial → Type 0
@@ -112,6 +122,22 @@ abbrev pub IsHeard : Trial → Came → Trial → Type 0
 IsHeard old (Came.Told changed) new = Hears old changed new × (new.orders ≡ old.orders)
 IsHeard old came new = ⊥
 
+-- the answer that is chosen is heard, unless there is none of the number that is named
+abbrev pub IsTaken : Bool → Trial → Came → Trial → Type 0
+IsTaken true old came new = IsHeard old came new
+IsTaken false old came new = (came ≡ Came.Refused Reason.NoOrder) × IsStopped old new
+
+-- an answer is chosen to a line that no run before has sent; another one is answered as there
+abbrev pub IsChosen : Bool → Trial → Came → Trial → Type 0
+IsChosen true old came new =
+    (found : Bool) × (chosen : Trial) × Selects old.selection old.orders found chosen.selection chosen.orders × IsAlike old chosen × IsTaken found chosen came new
+IsChosen false old came new = IsHeard old came new
+
+-- whether no run before has sent a line here
+abbrev pub is_new : Option (Sent (List ℕ)) → Bool
+is_new None = true
+is_new (Some sent) = false
+
 -- these turns behind the program's last line break the expectation of the line with this number, where this is instead
 abbrev pub Finds : Trial → List Turn → ℕ → List ℕ → Type 0
 Finds trial behind number there =
@@ -136,7 +162,8 @@ EndsBy old (Stop.Breaks order) came new = (came ≡ Came.Breaks) × IsBroken old
 -- what a line that the program sends comes to: it is answered; or it isn't the line that was sent here before; or lines of the tracks don't lead on to it
 abbrev pub Sends : Trial → Sent (List ℕ) → Came → Trial → Type 0
 Sends old sent came new =
-    ((changed : Bool) × (came ≡ Came.Told changed) × SendsSo (gives old) (fails old) old.orders sent (Ok tt) new.orders × Hears old changed new)
+    ((answered : Trial) × SendsSo (gives old) (fails old) old.orders sent (Ok tt) answered.orders × (answered.selection ≡ old.selection) × IsAlike old answered
+    × IsChosen (is_new (due_of (slice_get old.orders.path old.orders.at))) answered came new)
     ⊎ (SendsSo (gives old) (fails old) old.orders sent (Err SendFault.Differs) old.orders × (came ≡ Came.Differs) × IsStopped old new)
     ⊎ ((stop : Stop) × SendsSo (gives old) (fails old) old.orders sent (Err (SendFault.Failed stop)) old.orders × EndsBy old stop came new)
 
@@ -153,11 +180,25 @@ pub record IsNext (old new : Trial) : Type 0 where
 abbrev pub Begins : Trial → Came → Trial → Type 0
 Begins old came new = ((came ≡ Came.Begins) × IsNext old new) ⊎ ((came ≡ Came.Refused Reason.Most) × (old.most ≤ old.order) × IsStopped old new)
 
+-- what is said where no order is left of those that are tried
+abbrev pub end_of : Selection → Came
+end_of Selection.All = Came.All
+end_of selection = Came.Tried
+
+-- no order is left of those that are tried
+abbrev pub IsDone : Trial → Came → Trial → Type 0
+IsDone old came new = (came ≡ end_of old.selection) × (new.standing ≡ Standing.Tried) × (new.orders ≡ old.orders) × IsOfOrder old new
+
+-- whether there is another order
+abbrev pub IsTurned : Result Bool Unfinished → Trial → Came → Trial → Type 0
+IsTurned (Ok true) old came new = Begins old came new
+IsTurned (Ok false) old came new = IsDone old came new
+IsTurned (Err unfinished) old came new = (came ≡ Came.Differs) × IsStopped old new
+
 -- what follows where all that was left of a run has led on: another order, or none
 abbrev pub GoesOn : Trial → Came → Trial → Type 0
-GoesOn old came new = ((mid : Trial) × Ends old.orders (Ok true) mid.orders × IsOfOrder old mid × (mid.standing ≡ old.standing) × Begins mid came new)
-    ⊎ (Ends old.orders (Ok false) new.orders × (came ≡ Came.All) × (new.standing ≡ Standing.Tried) × IsOfOrder old new)
-    ⊎ ((old.orders.at < length old.orders.path) × (came ≡ Came.Differs) × IsStopped old new)
+GoesOn old came new =
+    (result : Result Bool Unfinished) × (turned : Trial) × GoesTo old.selection old.orders result turned.selection turned.orders × IsAlike old turned × IsTurned result turned came new
 
 -- what is left behind the program's last line leads on, in every order
 abbrev pub IsClosed : Trial → Type 0
@@ -183,6 +224,7 @@ abbrev pub Comes : Trial → Word → Came → Trial → Type 0
 Comes old Word.Nothing came new = (came ≡ Came.Nothing) × Stays old new
 Comes old (Word.Refused reason) came new = (came ≡ Came.Refused reason) × Stays old new
 Comes old Word.Script came new = (came ≡ Came.Script) × Stays old new
+Comes old Word.Choices came new = (came ≡ Came.Choices) × Stays old new
 Comes old (Word.Sends sent) came new = IsOver old came new ⊎ ((old.standing ≡ Standing.Going) × Sends old sent came new)
 Comes old Word.Again came new = IsOver old came new ⊎ ((old.standing ≡ Standing.Going) × EndsRun old came new)
 
@@ -209,6 +251,8 @@ HasLines number (Came.Told changed) trial said = (step : Step (Met Seen) (Told R
 HasLines number Came.Breaks trial said = (broken : Broken) × (trial.standing ≡ Standing.Broken broken) × (said ≡ unmet_text broken.number broken.there ++ refused_line number Reason.Unmet)
 HasLines number Came.Begins trial said = said ≡ (codes "order " ++ (decimal trial.order ++ 10 ∷ [])) ++ last_line number None
 HasLines number Came.All trial said = said ≡ all_text trial.order ++ last_line number None
+HasLines number Came.Tried trial said = said ≡ tried_text trial.order ++ last_line number None
+HasLines number Came.Choices trial said = said ≡ choices_text (run_of trial) ++ last_line number None
 HasLines number Came.Script trial said = (script : List ℕ) × IsScript trial.scenario (run_of trial) trial.standing script × (said ≡ script ++ last_line number None)
 
 -- the same answer as an object
@@ -220,6 +264,8 @@ HasObject count (Came.Told changed) trial value = (step : Step (Met Seen) (Told 
 HasObject count Came.Breaks trial value = (broken : Broken) × (trial.standing ≡ Standing.Broken broken) × (value ≡ bare_object count (put_unmet broken.number broken.there) None)
 HasObject count Came.Begins trial value = value ≡ bare_object count (put_outcome None) (Some (codes "order", numeral (unsigned trial.order)))
 HasObject count Came.All trial value = value ≡ bare_object count (put_outcome None) (Some (codes "all", numeral (unsigned trial.order)))
+HasObject count Came.Tried trial value = value ≡ bare_object count (put_outcome None) (Some (codes "tried", numeral (unsigned trial.order)))
+HasObject count Came.Choices trial value = value ≡ bare_object count (put_outcome None) (Some (codes "choices", text_data (numbers_text (numbers_of (run_of trial)))))
 HasObject count Came.Script trial value = (script : List ℕ) × IsScript trial.scenario (run_of trial) trial.standing script × (value ≡ bare_object count (put_outcome None) (Some (codes "script", text_data script)))
 
 -- the answer to a line that came to this is appended to a text, in its form

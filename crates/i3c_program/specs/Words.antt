@@ -17,7 +17,7 @@ IsSaid written word = (command : Command) × IsCommand written command × (word 
 
 -- the words that are no lines of a script
 abbrev pub IsOwn : List ℕ → Word → Type 0
-IsOwn line word = ((line ≡ codes "wait") × (word ≡ Word.Sends Sent.Waits)) ⊎ ((line ≡ codes "again") × (word ≡ Word.Again)) ⊎ ((line ≡ codes "script") × (word ≡ Word.Script))
+IsOwn line word = ((line ≡ codes "wait") × (word ≡ Word.Sends Sent.Waits)) ⊎ ((line ≡ codes "again") × (word ≡ Word.Again)) ⊎ ((line ≡ codes "script") × (word ≡ Word.Script)) ⊎ ((line ≡ codes "choices") × (word ≡ Word.Choices))
 
 -- what a line of a program says: nothing, a word of its own, or the line of a script that it stands for; else it has no form
 abbrev pub IsWord : List ℕ → Word → Type 0

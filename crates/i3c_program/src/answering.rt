@@ -2,12 +2,13 @@ ghost use Rattle.std.specs.Prelude.{◌≡◌};
 ghost use Rattle.i3c_program.specs.Sessions.{written};
 
 use crate::came::Came;
+use crate::order_name::{push_choices, push_numbers};
 use crate::order_script::push_script;
 use crate::reason::Reason;
 use crate::standing::Standing;
 use crate::telling::{
     push_all, push_aside, push_differs, push_due, push_reason, push_refused, push_told_lines,
-    push_told_object, push_unmet, push_unmet_object,
+    push_told_object, push_tried, push_unmet, push_unmet_object,
 };
 use crate::trial::Trial;
 use i3c_drive::{Form, push_last};
@@ -62,8 +63,16 @@ impl Trial {
                 push_all(self.order, text)?;
                 push_last(number, &None, text)
             }
+            Came::Tried => {
+                push_tried(self.order, text)?;
+                push_last(number, &None, text)
+            }
             Came::Script => {
                 self.push_script(text)?;
+                push_last(number, &None, text)
+            }
+            Came::Choices => {
+                push_choices(self.orders.choices(), text)?;
                 push_last(number, &None, text)
             }
         }
@@ -104,7 +113,9 @@ impl Trial {
             Came::Breaks => self.push_broken_object(number, text),
             Came::Begins => push_aside(alloc, number, Aside::Order(self.order), text),
             Came::All => push_aside(alloc, number, Aside::All(self.order), text),
+            Came::Tried => push_aside(alloc, number, Aside::Tried(self.order), text),
             Came::Script => self.push_script_object(number, text),
+            Came::Choices => self.push_choices_object(number, text),
         }
     }
 
@@ -143,6 +154,15 @@ impl Trial {
         let mut script = Text::new(self.alloc);
         self.push_script(&mut script)?;
         push_aside(self.alloc, number, Aside::Script(script.as_bytes()), text)
+    }
+
+    /// Appends the numbers of the answers that the run's lines took, as an object.
+    fn push_choices_object(&self, number: u64, text: &mut Text) -> Result<(), AllocError>
+        ensures { OnOk result ((value : Data) × HasObject number CameValue.Choices self.now value × WritesLine value text.old text.new) }
+    {
+        let mut numbers = Text::new(self.alloc);
+        push_numbers(self.orders.choices(), &mut numbers)?;
+        push_aside(self.alloc, number, Aside::Choices(numbers.as_bytes()), text)
     }
 
     /// Appends the run as a script.

@@ -17,6 +17,10 @@ pub enum Came {
     Begins,
     /// The run is over, and was the last one.
     All,
+    /// The run is over, and no other one of those that are tried is left, which aren't all.
+    Tried,
     /// The program is told the lines of its run.
     Script,
+    /// It is told the numbers of the answers that these took.
+    Choices,
 }

@@ -2,9 +2,8 @@ ghost use Rattle.std.specs.Prelude.{MatchResult};
 ghost use Rattle.i3c_program.specs.Meeting.{IsMet, IsMetNot};
 
 use crate::scenario::{NoScenario, read_scenario};
-use crate::session::{Ending, Session};
-use i3c_drive::{Form, answer_lines};
-use i3c_explore::Limits;
+use crate::session::{Ending, Session, Terms};
+use i3c_drive::answer_lines;
 use i3c_streams::ScriptFault;
 use i3c_tracks::read_lines;
 use std::alloc::Global;
@@ -21,10 +20,8 @@ pub enum MeetFault {
     Lines(ScriptFault),
 }
 
-/// Lets a program meet every order of a scene's events: answers each of its lines before the next one is read, until they end.
-///
-/// `limits` bound what is run, and kept, in front of the scene's block and before each line of the program. At most so many
-/// orders are tried.
+/// Lets a program meet the orders of a scene's events on these terms: answers each of its lines before the next one is read,
+/// until they end.
 ///
 /// # Errors
 ///
@@ -32,25 +29,23 @@ pub enum MeetFault {
 /// a fault all answers went out, but to a writer that fails only a part of them.
 pub fn meet_every<S: Read, R: Read, W: Write>(
     alloc: Global,
-    form: Form,
-    limits: Limits,
-    most: u64,
+    terms: Terms,
     scene: &mut S,
     reader: &mut R,
     writer: &mut W,
 ) -> Result<Ending, MeetFault>
-    ensures { MatchResult result (IsMet form limits most (S.remaining scene.old) (R.remaining reader.old) (W.contents writer.old) (W.contents writer.new))
-        (IsMetNot form limits most (S.remaining scene.old) (R.remaining reader.old) (W.contents writer.old) (W.contents writer.new)) }
+    ensures { MatchResult result (IsMet terms (S.remaining scene.old) (R.remaining reader.old) (W.contents writer.old) (W.contents writer.new))
+        (IsMetNot terms (S.remaining scene.old) (R.remaining reader.old) (W.contents writer.old) (W.contents writer.new)) }
 {
     let lines = match read_lines(alloc, scene) {
         Ok(lines) => lines,
         Err(fault) => return Err(MeetFault::File(fault)),
     };
-    let scenario = match read_scenario(alloc, lines, limits) {
+    let scenario = match read_scenario(alloc, lines, terms.limits) {
         Ok(scenario) => scenario,
         Err(why) => return Err(MeetFault::Scene(why)),
     };
-    let Ok(mut session) = Session::new(alloc, form, scenario, most) else {
+    let Ok(mut session) = Session::new(alloc, scenario, terms) else {
         return Err(MeetFault::Lines(ScriptFault::Memory));
     };
     match answer_lines(alloc, &mut session, reader, writer) {

@@ -13,6 +13,8 @@ pub enum Reason {
     Differs,
     /// A limit is exceeded.
     Most,
+    /// The line has no answer of the number that the order to be tried has there.
+    NoOrder,
     /// Every order was tried, or no other one will be.
     Over,
 }
@@ -32,6 +34,7 @@ impl Reason {
             Reason::Unmet => b"Unmet",
             Reason::Differs => b"Differs",
             Reason::Most => b"Most",
+            Reason::NoOrder => b"NoOrder",
             Reason::Over => b"Over",
         }
     }

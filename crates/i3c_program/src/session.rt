@@ -6,15 +6,30 @@ use crate::scenario::Scenario;
 use crate::standing::Standing;
 use crate::trial::Trial;
 use i3c_drive::{Answerer, Form};
+use i3c_explore::Limits;
+use i3c_orders::Which;
 use i3c_text::Text;
 use std::alloc::{AllocError, Global};
+
+/// On which terms a program meets the orders of a scene.
+#[derive(Drop)]
+pub struct Terms {
+    /// The form of the answers.
+    pub form: Form,
+    /// What is run, and kept, in front of the scene's block and before each line of the program.
+    pub limits: Limits,
+    /// Which orders are tried.
+    pub which: Which,
+    /// The most orders that are tried.
+    pub most: u64,
+}
 
 /// How the session of a program ended.
 #[derive(Clone, Copy, Debug, PartialEq, Eq)]
 pub enum Ending {
-    /// Every order was tried, and each line of the program was done, or refused by the bus.
+    /// Every order that was to be tried was, and each line of the program was done, or refused by the bus.
     Tried,
-    /// Not every order was tried, or a line of the program wasn't done.
+    /// Not every one was, or a line of the program wasn't done.
     Wanting,
     /// An order breaks an expectation.
     Unmet,
@@ -33,25 +48,20 @@ impl Session {
     ghost use Rattle.std.specs.Prelude.{◌≡◌, false, IfOk};
     ghost use Rattle.i3c_program.specs.Sessions.{HasBegun, ending_of};
 
-    /// A session before its first line, whose answers have this form. At most so many orders are tried.
+    /// A session before its first line, on these terms.
     ///
     /// # Errors
     ///
     /// There is no memory for it.
-    pub fn new(
-        alloc: Global,
-        form: Form,
-        scenario: Scenario,
-        most: u64,
-    ) -> Result<Session, AllocError>
-        ensures begun { IfOk result (λ session. HasBegun scenario most session.trial) }
-        ensures form { IfOk result (λ session. session.form ≡ form) }
+    pub fn new(alloc: Global, scenario: Scenario, terms: Terms) -> Result<Session, AllocError>
+        ensures begun { IfOk result (λ session. HasBegun scenario terms.most terms.which session.trial) }
+        ensures form { IfOk result (λ session. session.form ≡ terms.form) }
         ensures wrong { IfOk result (λ session. session.wrong ≡ false) }
     {
-        let trial = Trial::new(alloc, scenario, most)?;
+        let trial = Trial::new(alloc, scenario, terms.most, terms.which)?;
         Ok(Session {
             trial,
-            form,
+            form: terms.form,
             wrong: false,
         })
     }
@@ -86,7 +96,13 @@ fn is_wrong(came: Came) -> bool
 {
     match came {
         Came::Refused(_) | Came::Differs => true,
-        Came::Nothing | Came::Told(_) | Came::Breaks | Came::Begins | Came::All | Came::Script =>
-            false,
+        Came::Nothing
+        | Came::Told(_)
+        | Came::Breaks
+        | Came::Begins
+        | Came::All
+        | Came::Tried
+        | Came::Script
+        | Came::Choices => false,
     }
 }

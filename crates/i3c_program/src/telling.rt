@@ -4,7 +4,7 @@ ghost use Rattle.i3c_drive.specs.Steps.{news_of};
 ghost use Rattle.i3c_json.specs.Objects.{aside_field, put_outcome, put_unmet, put_verdict};
 ghost use Rattle.i3c_json.specs.Values.{text_data};
 ghost use Rattle.i3c_program.specs.declared.reason.Reason.{Reason as ReasonValue};
-ghost use Rattle.i3c_program.specs.Answers.{WritesLine, all_text, bare_object, due_text, end_text, put_end_of, put_reason, refused_line, reply_in, told_object, told_text, unmet_text, waited_field, waited_text};
+ghost use Rattle.i3c_program.specs.Answers.{WritesLine, all_text, bare_object, due_text, end_text, put_end_of, put_reason, refused_line, reply_in, told_object, told_text, tried_text, unmet_text, waited_field, waited_text};
 ghost use Rattle.i3c_script.specs.Printed.{pieces_text};
 
 use crate::reason::Reason;
@@ -87,6 +87,15 @@ pub(crate) fn push_all(count: u64, text: &mut Text) -> Result<(), AllocError>
     ensures { OnOk result (text.new ≡ text.old ++ all_text count) }
 {
     text.push(b"all ")?;
+    text.push_decimal(count)?;
+    text.push(b" orders\n")
+}
+
+/// Appends how many orders were tried, where not all are.
+pub(crate) fn push_tried(count: u64, text: &mut Text) -> Result<(), AllocError>
+    ensures { OnOk result (text.new ≡ text.old ++ tried_text count) }
+{
+    text.push(b"tried ")?;
     text.push_decimal(count)?;
     text.push(b" orders\n")
 }

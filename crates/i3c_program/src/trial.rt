@@ -5,6 +5,7 @@ use crate::came::Came;
 use crate::order_script::{course_of, runs_behind, turns_in};
 use crate::reason::Reason;
 use crate::scenario::Scenario;
+use crate::selection::Selection;
 use crate::standing::{Broken, Standing};
 use crate::telling::reply_in;
 use crate::word::{Word, read_word};
@@ -12,7 +13,7 @@ use i3c_drive::are_same;
 use i3c_every::{Met, Sent, Told, close};
 use i3c_explore::{Stop, Turn};
 use i3c_lines::Name;
-use i3c_orders::{Orders, SendFault, Unfinished, send};
+use i3c_orders::{Orders, SendFault, Unfinished, Which, send};
 use i3c_scene::{ProgramLine, Reply, Scene};
 use i3c_text::Text;
 use i3c_tracks::unmet_number;
@@ -27,25 +28,33 @@ pub struct Trial {
     // the number of the order, from 1, and how many are tried at most
     pub(crate) order: u64,
     pub(crate) most: u64,
+    // which orders are tried
+    pub(crate) selection: Selection,
     // the names of those that ask, as the program was told last
     pub(crate) asked: Vec<Name>,
     pub(crate) standing: Standing,
 }
 
 impl Trial {
-    ghost use Rattle.std.specs.Prelude.{◌≡◌, ◌++◌, ℕ, List, IfOk};
+    ghost use Rattle.std.specs.Prelude.{◌≡◌, ◌++◌, ℕ, List, IfOk, slice_get};
+    ghost use Rattle.i3c_orders.specs.Paths.{due_of};
     ghost use Rattle.i3c_program.specs.declared.came.Came.{Came as CameValue};
     ghost use Rattle.i3c_program.specs.declared.word.Word.{Word as WordValue};
-    ghost use Rattle.i3c_program.specs.Sessions.{Begins, Comes, EndsBy, Finds, GoesOn, HasBegun, IsBroken, IsHeard, IsStopped};
+    ghost use Rattle.i3c_program.specs.Sessions.{Begins, Comes, EndsBy, Finds, GoesOn, HasBegun, IsBroken, IsChosen, IsDone, IsHeard, IsStopped, is_new};
     ghost use Rattle.i3c_program.specs.Words.{IsWord};
 
-    /// A program before its first line.
+    /// A program before its first line. At most so many of these orders are tried.
     ///
     /// # Errors
     ///
     /// There is no memory for it.
-    pub(crate) fn new(alloc: Global, scenario: Scenario, most: u64) -> Result<Trial, AllocError>
-        ensures { IfOk result (HasBegun scenario most) }
+    pub(crate) fn new(
+        alloc: Global,
+        scenario: Scenario,
+        most: u64,
+        which: Which,
+    ) -> Result<Trial, AllocError>
+        ensures { IfOk result (HasBegun scenario most which) }
     {
         let start = start_of(alloc, &scenario)?;
         Ok(Trial {
@@ -54,6 +63,7 @@ impl Trial {
             orders: Orders::new(alloc, start),
             order: 1,
             most,
+            selection: Selection::new(which),
             asked: Vec::new(alloc),
             standing: Standing::Going,
         })
@@ -67,6 +77,7 @@ impl Trial {
             Word::Nothing => Ok(Came::Nothing),
             Word::Refused(reason) => Ok(Came::Refused(reason)),
             Word::Script => Ok(Came::Script),
+            Word::Choices => Ok(Came::Choices),
             Word::Sends(sent) => self.send(sent),
             Word::Again => self.again(),
         }
@@ -79,11 +90,36 @@ impl Trial {
         if !self.standing.is_going() {
             return Ok(Came::Refused(Reason::Over));
         }
+        let is_new = self.is_new();
         match send(self.alloc, &self.scenario.tracks, &mut self.orders, sent) {
-            Ok(()) => self.hear(),
+            Ok(()) => self.choose(is_new),
             Err(SendFault::Memory) => Err(AllocError),
             Err(SendFault::Differs) => Ok(self.stop(Came::Differs)),
             Err(SendFault::Failed(stop)) => self.end(stop),
+        }
+    }
+
+    /// Whether no run before has sent a line here.
+    fn is_new(&self) -> bool
+        ensures { result ≡ is_new (due_of (slice_get self.now.orders.path self.now.orders.at)) }
+    {
+        match self.orders.due() {
+            Some(_) => false,
+            None => true,
+        }
+    }
+
+    /// An answer to the line is chosen, if no run before has sent it, and the program hears it.
+    fn choose(&mut self, is_new: bool) -> Result<Came, AllocError>
+        ensures { IfOk result (λ came. IsChosen is_new self.old came self.new) }
+    {
+        if !is_new {
+            return self.hear();
+        }
+        if self.selection.choose(&mut self.orders) {
+            self.hear()
+        } else {
+            Ok(self.stop(Came::Refused(Reason::NoOrder)))
         }
     }
 
@@ -170,13 +206,22 @@ impl Trial {
     fn go_on(&mut self) -> Came
         ensures { GoesOn self.old result self.new }
     {
-        match self.orders.again() {
+        match self.selection.go_on(&mut self.orders) {
             Err(Unfinished) => self.stop(Came::Differs),
-            Ok(false) => {
-                self.standing = Standing::Tried;
-                Came::All
-            }
+            Ok(false) => self.end_all(),
             Ok(true) => self.begin(),
+        }
+    }
+
+    /// No order is left of those that are tried.
+    fn end_all(&mut self) -> Came
+        ensures { IsDone self.old result self.new }
+    {
+        self.standing = Standing::Tried;
+        if self.selection.is_all() {
+            Came::All
+        } else {
+            Came::Tried
         }
     }
 

@@ -20,6 +20,8 @@ pub enum Word {
     Again,
     /// It asks for the lines of its run.
     Script,
+    /// It asks which answers these took.
+    Choices,
     /// It says nothing that can be done.
     Refused(Reason),
 }
@@ -45,6 +47,9 @@ pub fn read_word(alloc: Global, line: &[u8]) -> Result<Word, AllocError>
     }
     if line == b"script".as_slice() {
         return Ok(Word::Script);
+    }
+    if line == b"choices".as_slice() {
+        return Ok(Word::Choices);
     }
     match Command::parse(line) {
         Some(command) => read_command(alloc, line, &command),

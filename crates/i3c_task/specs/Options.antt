@@ -5,6 +5,9 @@ use Rattle.clap.specs.Words.{first_value, matched_of, one_text, raw_values}
 use Rattle.clap.specs.declared.parser.matches.Found.{Found}
 use Rattle.i3c_base.specs.Sets.{is_in}
 use Rattle.i3c_explore.specs.Parts.{Part, whole}
+use Rattle.i3c_orders.specs.declared.which.Which.{Which}
+use Rattle.i3c_orders.specs.Numbers.{NamesNumber, NamesNumbers}
+use Rattle.i3c_orders.specs.Portions.{Portion}
 use Rattle.i3c_text.specs.Digits.{IsHexDigit}
 
 -- a flag, which takes nothing, is set or isn't
@@ -30,6 +33,12 @@ most_lines = record { name = codes "most"; least = 0; most = 1844674407370955161
 abbrev pub most_orders : NumberOption
 most_orders = record { name = codes "most"; least = 1; most = 18446744073709551615; without = 18446744073709551615 }
 
+abbrev pub random : NumberOption
+random = record { name = codes "random"; least = 1; most = 18446744073709551615; without = 1 }
+
+abbrev pub seed : NumberOption
+seed = record { name = codes "seed"; least = 0; most = 18446744073709551615; without = 0 }
+
 abbrev pub jobs : NumberOption
 jobs = record { name = codes "jobs"; least = 1; most = 4294967295; without = 1 }
 
@@ -48,20 +57,41 @@ IsNumberIn least most without (Some text) n = IsNumeral 10 text × (n ≡ digits
 abbrev pub IsNumberOf : NumberOption → Found → ℕ → Type 0
 IsNumberOf option found n = IsNumberIn option.least option.most option.without (first_value found option.name) n
 
+-- the two numbers of a text K/N
+pub record NamesTwo (text : List ℕ) (number of : ℕ) : Type 0 where
+  pub first : List ℕ
+  pub second : List ℕ
+  pub same : text ≡ first ++ 47 ∷ second
+  pub is_first : NamesNumber first number
+  pub is_second : NamesNumber second of
+
 -- the part K of N that a text K/N names
-pub record NamesPart (text : List ℕ) (part : Part) : Type 0 where
-  pub number : List ℕ
-  pub of : List ℕ
-  pub same : text ≡ number ++ 47 ∷ of
-  pub is_number : IsNumeral 10 number
-  pub is_of : IsNumeral 10 of
-  pub index : part.index + 1 ≡ digits_value 10 number
-  pub parts : part.of ≡ digits_value 10 of
+abbrev pub NamesPart : List ℕ → Part → Type 0
+NamesPart text part = NamesTwo text (part.index + 1) part.of
+
+-- the same of the orders of a program
+abbrev pub NamesPortion : List ℕ → Portion → Type 0
+NamesPortion text portion = NamesTwo text (portion.index + 1) portion.of
 
 -- the part that `--part` names, or all orders without it
 abbrev pub IsPartOf : Option (List ℕ) → Part → Type 0
 IsPartOf None part = part ≡ whole
 IsPartOf (Some text) part = NamesPart text part
+
+-- so many orders are drawn as `--random` says, from the seed of `--seed` on
+abbrev pub IsDrawn : Found → Which → Type 0
+IsDrawn found (Which.Drawn count from) = IsNumberOf random found count × IsNumberOf seed found from
+IsDrawn found which = ⊥
+
+-- which orders a program meets: the one that `--order` names, or the part that `--part` does, or as many as `--random` says, or all
+abbrev pub IsWhich : Found → Which → Type 0
+IsWhich found (Which.One numbers) = (text : List ℕ) × (first_value found (codes "order") ≡ Some text) × NamesNumbers text numbers.items
+IsWhich found (Which.Part portion) =
+    (first_value found (codes "order") ≡ None) × ((text : List ℕ) × (first_value found (codes "part") ≡ Some text) × NamesPortion text portion)
+IsWhich found (Which.Drawn count from) =
+    (first_value found (codes "order") ≡ None) × (first_value found (codes "part") ≡ None) × ((text : List ℕ) × (first_value found (codes "random") ≡ Some text))
+    × IsDrawn found (Which.Drawn count from)
+IsWhich found Which.All = (first_value found (codes "order") ≡ None) × (first_value found (codes "part") ≡ None) × (first_value found (codes "random") ≡ None)
 
 -- a text names the address of a legacy target, 08 to 77, by two hex digits in capitals
 abbrev pub NamesLegacy : List ℕ → ℕ → Type 0

@@ -19,4 +19,5 @@ IsOfWords WordsFault.Memory = Unit {0}
 IsOfWords (WordsFault.Usage words) = Unit {0}
 IsOfWords WordsFault.Legacy = ⊥
 IsOfWords WordsFault.Part = ⊥
+IsOfWords WordsFault.Order = ⊥
 IsOfWords (WordsFault.Number name) = ⊥

@@ -63,17 +63,18 @@ With --json the answer to each is one object on one line, with fields for the li
   {\"line\":7,\"ok\":true,\"served\":\"turned down\"}
 
 With --every the lines of the scene's tracks run between the program's, in another order in each run of the program, until it
-has met every order. The program has three more lines:
+has met every order. The program has four more lines:
 
   wait     it has nothing to do until something happens: 'happened', or 'nothing left'
   again    its run is over: 'order 2' begins, or 'all 12 orders' were tried
   script   the lines of its run so far, as a script
+  choices  the answers that they took, as 'choices 0.13.1', by which --order tries this order alone
 
 Where something doesn't hold that the scene expects, the answer is 'unmet', the line's number, and what is there instead.
 
 Exit status with --every:
-  0  every order was tried, and all holds
-  1  not every order was tried, or a line of the program had no form or wasn't the one that was due
+  0  every order was tried that was to be, and all holds
+  1  not every one was, or a line of the program had no form or wasn't the one that was due
   2  the scene or the lines were not read to their end, and standard error says why
   3  in an order something doesn't hold
 

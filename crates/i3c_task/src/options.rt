@@ -1,13 +1,15 @@
-ghost use Rattle.std.specs.Prelude.{◌≡◌, ℕ, ◌^◌, ◌<◌, IfOk, MatchOption, MatchResult, map, option_map};
+ghost use Rattle.std.specs.Prelude.{◌≡◌, ◌++◌, ◌∷◌, [], ℕ, ◌^◌, ◌<◌, IfOk, IfSome, MatchOption, MatchResult, OnOk, map, option_map};
 ghost use Rattle.std.specs.Str.Parse.{IsNumeral, digits_value};
 ghost use Rattle.clap.specs.Words.{first_value, found_of};
-ghost use Rattle.i3c_task.specs.Options.{AllName, AreLegacies, IsFlag, IsNumberIn, IsPartOf, NamesLegacy, NamesPart, legacy_texts, text_or, texts_of};
+ghost use Rattle.i3c_orders.specs.Numbers.{NamesNumber, NamesNumbers};
+ghost use Rattle.i3c_task.specs.Options.{AllName, AreLegacies, IsDrawn, IsFlag, IsNumberIn, IsPartOf, IsWhich, NamesLegacy, NamesPart, NamesPortion, NamesTwo, legacy_texts, text_or, texts_of};
 
-use crate::verb::LEGACY;
+use crate::verb::{LEGACY, ORDER, PART, RANDOM, SEED};
 use crate::words_fault::WordsFault;
 use clap::ArgMatches;
 use i3c_base::{Addr7, Addresses};
 use i3c_explore::Part;
+use i3c_orders::{Portion, Which};
 use i3c_text::read_byte;
 use std::alloc::{AllocError, Global};
 
@@ -94,15 +96,102 @@ pub(crate) fn part_given(text: Option<&str>) -> Result<Part, WordsFault>
 fn part_of(text: &str) -> Result<Part, WordsFault>
     ensures { MatchResult result (NamesPart text.now) (λ fault. fault ≡ WordsFault.Part) }
 {
+    let (number, of) = two_of(text)?;
+    match Part::new(number, of) {
+        Some(part) => Ok(part),
+        None => Err(WordsFault::Part),
+    }
+}
+
+/// The part of a program's orders that a text `K/N` names.
+fn portion_of(text: &str) -> Result<Portion, WordsFault>
+    ensures { MatchResult result (NamesPortion text.now) (λ fault. fault ≡ WordsFault.Part) }
+{
+    let (number, of) = two_of(text)?;
+    match Portion::new(number, of) {
+        Some(portion) => Ok(portion),
+        None => Err(WordsFault::Part),
+    }
+}
+
+/// The two numbers of a text `K/N`.
+fn two_of(text: &str) -> Result<(usize, usize), WordsFault>
+    ensures { MatchResult result (λ two. NamesTwo text.now two.0 two.1) (λ fault. fault ≡ WordsFault.Part) }
+{
     let Some((number, of)) = text.split_once('/') else {
         return Err(WordsFault::Part);
     };
     match (decimal(number), decimal(of)) {
-        (Some(number), Some(of)) => match Part::new(number as usize, of as usize) {
-            Some(part) => Ok(part),
-            None => Err(WordsFault::Part),
-        },
+        (Some(number), Some(of)) => Ok((number as usize, of as usize)),
         _ => Err(WordsFault::Part),
+    }
+}
+
+/// Which orders a program is to meet. The parser takes one of these options at most.
+pub(crate) fn which_given(alloc: Global, given: &ArgMatches<'_>) -> Result<Which, WordsFault>
+    ensures { IfOk result (IsWhich (found_of given.now)) }
+{
+    if let Some(text) = given.get_str(ORDER) {
+        return Ok(Which::One(numbers_of(alloc, text)?));
+    }
+    if let Some(text) = given.get_str(PART) {
+        return Ok(Which::Part(portion_of(text)?));
+    }
+    match given.get_str(RANDOM) {
+        Some(_) => drawn_given(given),
+        None => Ok(Which::All),
+    }
+}
+
+/// How many orders are to be drawn, and from which seed.
+fn drawn_given(given: &ArgMatches<'_>) -> Result<Which, WordsFault>
+    ensures { IfOk result (IsDrawn (found_of given.now)) }
+{
+    let count = number_given(given, RANDOM, 1, u64::MAX, 1)?;
+    let seed = number_given(given, SEED, 0, u64::MAX, 0)?;
+    Ok(Which::Drawn(count, seed))
+}
+
+/// The numbers of a text, with points between them, or none of a dash.
+fn numbers_of(alloc: Global, text: &str) -> Result<Vec<usize>, WordsFault>
+    ensures { IfOk result (λ numbers. NamesNumbers text.now numbers.items) }
+{
+    let mut numbers = Vec::new(alloc);
+    if text == "-" {
+        return Ok(numbers);
+    }
+    let mut rest = text;
+    while let Some((first, others)) = cut_at_point(rest) {
+        keep(&mut numbers, place_of(first)?)?;
+        rest = others;
+    }
+    keep(&mut numbers, place_of(rest)?)?;
+    Ok(numbers)
+}
+
+/// What stands before a text's first point, and what behind it.
+fn cut_at_point(text: &str) -> Option<(&str, &str)>
+    ensures { IfSome result (λ parts. text.now ≡ parts.0.now ++ 46 ∷ parts.1.now) }
+{
+    let (first, others) = text.split_once('.')?;
+    Some((first, others))
+}
+
+/// Puts a number behind others.
+fn keep(numbers: &mut Vec<usize>, number: usize) -> Result<(), AllocError>
+    ensures { OnOk result (numbers.new.items ≡ numbers.old.items ++ number ∷ []) }
+{
+    numbers.push(number)?;
+    Ok(())
+}
+
+/// One of these numbers.
+fn place_of(text: &str) -> Result<usize, WordsFault>
+    ensures { IfOk result (NamesNumber text.now) }
+{
+    match decimal(text) {
+        Some(number) => Ok(number as usize),
+        None => Err(WordsFault::Order),
     }
 }
 

@@ -1,14 +1,14 @@
 ghost use Rattle.std.specs.Prelude.{◌≡◌, ◌∷◌, ◌↔◌, [], IfOk, IsOkAnd, IsTrue, MatchOption, codes, length, map};
 ghost use Rattle.std.specs.String.{string_bytes};
 ghost use Rattle.clap.specs.Words.{found_of};
-ghost use Rattle.i3c_task.specs.Options.{IsNumberOf, most_orders};
+ghost use Rattle.i3c_task.specs.Options.{IsNumberOf, IsWhich, most_orders};
 ghost use Rattle.i3c_task.specs.Tasks.{HasCodes, IsAskedFor, IsCapturing, IsDrive, IsExplore, IsForm, IsNamed, IsRun, IsStress, IsTaskOf, IsTelling, IsTrace, IsWave, IsWaveform, file_of, limits_between};
 ghost use Rattle.i3c_task.specs.Parsed.{IsGiven, IsReadFrom, NamesNone};
 ghost use Rattle.i3c_task.specs.Words.{RunsInput};
 
 use crate::argument::Bonds;
 use crate::options::{
-    flag_given, legacies_given, number_given, part_given, text_given, texts_given,
+    flag_given, legacies_given, number_given, part_given, text_given, texts_given, which_given,
 };
 use crate::verb::{
     ALL, BY, DEVICES, ECHO, EVERY, EXPLAIN, FILE, FROM_TRACE, JOBS, JSON, LEGACY, LINT, MOST,
@@ -20,6 +20,7 @@ use clap::ArgMatches;
 use i3c_base::Addresses;
 use i3c_ccc::CodeSet;
 use i3c_explore::{Limits, Part};
+use i3c_orders::Which;
 use i3c_streams::{Form, Watching};
 use std::alloc::Global;
 
@@ -121,12 +122,14 @@ pub struct Exploring<'a> {
 }
 
 /// How another program meets the orders of a file's tracks.
-#[derive(Clone, Copy)]
+#[derive(Drop)]
 pub struct Meeting {
     /// The form in which its lines are answered.
     pub form: Form,
     /// What is run, and kept, before each of its lines.
     pub limits: Limits,
+    /// Which orders are tried.
+    pub which: Which,
     /// The most orders that are tried.
     pub most: u64,
 }
@@ -220,7 +223,7 @@ fn task_of<'a>(alloc: Global, verb: Verb, given: &ArgMatches<'a>) -> Result<Task
 {
     match verb {
         Verb::Run => Ok(Task::File(run_given(given), file_given(given))),
-        Verb::Drive => drive_given(given),
+        Verb::Drive => drive_given(alloc, given),
         Verb::Check => Ok(Task::File(Work::Check, file_given(given))),
         Verb::Draw => Ok(Task::File(Work::Draw, file_given(given))),
         Verb::Explore => explore_given(alloc, given),
@@ -256,13 +259,13 @@ fn run_given(given: &ArgMatches<'_>) -> Work
 }
 
 /// How the lines of another program are to be answered: as those of a driven bus, or while it meets every order of a scene.
-fn drive_given<'a>(given: &ArgMatches<'a>) -> Result<Task<'a>, WordsFault>
+fn drive_given<'a>(alloc: Global, given: &ArgMatches<'a>) -> Result<Task<'a>, WordsFault>
     ensures { IfOk result (IsDrive (found_of given.now)) }
 {
     let form = form_given(given);
     match given.get_str(EVERY) {
         None => Ok(Task::File(Work::Drive(form), STANDARD_INPUT)),
-        Some(scene) => Ok(Task::Meet(meeting_given(given, form)?, scene)),
+        Some(scene) => Ok(Task::Meet(meeting_given(alloc, given, form)?, scene)),
     }
 }
 
@@ -277,10 +280,11 @@ fn form_given(given: &ArgMatches<'_>) -> Form
     }
 }
 
-/// How a program is to meet every order, with answers of this form.
-fn meeting_given(given: &ArgMatches<'_>, form: Form) -> Result<Meeting, WordsFault>
+/// How a program is to meet orders, with answers of this form.
+fn meeting_given(alloc: Global, given: &ArgMatches<'_>, form: Form) -> Result<Meeting, WordsFault>
     ensures form { IfOk result (λ meeting. meeting.form ≡ form) }
     ensures limits { IfOk result (λ meeting. meeting.limits ≡ limits_between) }
+    ensures which { IfOk result (λ meeting. IsWhich (found_of given.now) meeting.which) }
     ensures most { IfOk result (λ meeting. IsNumberOf most_orders (found_of given.now) meeting.most) }
 {
     Ok(Meeting {
@@ -289,6 +293,7 @@ fn meeting_given(given: &ArgMatches<'_>, form: Form) -> Result<Meeting, WordsFau
             steps: MOST_STEPS,
             states: MOST_STATES,
         },
+        which: which_given(alloc, given)?,
         most: number_given(given, MOST, 1, u64::MAX, u64::MAX)?,
     })
 }

@@ -37,10 +37,21 @@ pub(crate) const EVERY: &str = "every";
 /// The option for how many orders `drive` tries, and for how many lines `explore` runs.
 pub(crate) const MOST: &str = "most";
 
-/// The other options of `explore`: which part of all orders is tried, how many threads run lines, and the facts by which ends
-/// are grouped. Its flag leaves out the ends.
+/// The option for the part of all orders that `drive` or `explore` tries.
 pub(crate) const PART: &str = "part";
 
+/// The options of `drive` for one order, and for so many that are drawn, from a seed on.
+pub(crate) const ORDER: &str = "order";
+
+pub(crate) const RANDOM: &str = "random";
+
+pub(crate) const SEED: &str = "seed";
+
+/// The options of `drive` that say which orders are tried.
+const WHICH: &str = "which-orders";
+
+/// The other options of `explore`: how many threads run lines, and the facts by which ends are grouped. Its flag leaves out the
+/// ends.
 pub(crate) const JOBS: &str = "jobs";
 
 pub(crate) const QUIET: &str = "quiet";
@@ -116,8 +127,17 @@ pub(crate) struct Usage {
     // what the help says at its end, or nothing
     more: Option<Help>,
     arguments: &'static [Argument],
-    // a group of arguments that others need one of
-    group: Option<&'static str>,
+    group: Option<Group>,
+}
+
+/// A group of arguments.
+#[derive(Clone, Copy)]
+struct Group {
+    name: &'static str,
+    // whether one of them is taken at most
+    is_single: bool,
+    // the argument that each of them needs, if they need one
+    needs: Option<&'static str>,
 }
 
 /// The file of a script.
@@ -190,6 +210,30 @@ const OF_DRIVE: &[Argument] = &[
         takes: Takes::Number("N", ValueParser::Unsigned(1, u64::MAX)),
         bond: Bond::Needs(EVERY),
         help: "Gives up after N orders; without this it tries all",
+    },
+    Argument {
+        name: PART,
+        takes: Takes::Text("K/N"),
+        bond: Bond::Joins(WHICH),
+        help: "Tries part K of N alone: the N parts have each order among them, by the answers to the first lines",
+    },
+    Argument {
+        name: ORDER,
+        takes: Takes::Text("CHOICES"),
+        bond: Bond::Joins(WHICH),
+        help: "Tries one order alone, by what 'choices' told of it",
+    },
+    Argument {
+        name: RANDOM,
+        takes: Takes::Number("N", ValueParser::Unsigned(1, u64::MAX)),
+        bond: Bond::Joins(WHICH),
+        help: "Tries N orders that are drawn, each line's answer by itself",
+    },
+    Argument {
+        name: SEED,
+        takes: Takes::Number("S", ValueParser::Unsigned(0, u64::MAX)),
+        bond: Bond::Needs(RANDOM),
+        help: "Draws them from the seed S, 0 without this",
     },
 ];
 
@@ -353,7 +397,11 @@ static USAGES: [Usage; 8] = [
         about: "Answers the lines on standard input, each before it reads the next, for another program",
         more: Some(Help::Driving),
         arguments: OF_DRIVE,
-        group: None,
+        group: Some(Group {
+            name: WHICH,
+            is_single: true,
+            needs: Some(EVERY),
+        }),
     },
     Usage {
         verb: Verb::Check,
@@ -385,7 +433,11 @@ static USAGES: [Usage; 8] = [
         about: "Tells what a trace says: symbols as the line 'symbols' of a script prints them",
         more: None,
         arguments: OF_TRACE,
-        group: Some(WITH_LEGACIES),
+        group: Some(Group {
+            name: WITH_LEGACIES,
+            is_single: false,
+            needs: None,
+        }),
     },
     Usage {
         verb: Verb::Wave,
@@ -459,17 +511,26 @@ fn described<'a>(alloc: Global, usage: &Usage) -> Command<'a>
     }
 }
 
-/// The same command, with a group of arguments of which others need one.
+/// The same command, with a group of its arguments.
 fn grouped<'a>(
     alloc: Global,
     command: Command<'a>,
-    group: Option<&'static str>,
+    group: Option<Group>,
     bonds: Bonds,
 ) -> Result<Command<'a>, AllocError>
     ensures { bonds ≡ Bonds.Left → IfOk result (λ r. r ≡ command.entry) }
 {
     match (bonds, group) {
-        (Bonds::Kept, Some(group)) => command.group(ArgGroup::new(alloc, group).multiple(true)),
+        (Bonds::Kept, Some(group)) => command.group(parsed_group(alloc, group)?),
         _ => Ok(command),
+    }
+}
+
+/// The group, as the parser takes it.
+fn parsed_group<'a>(alloc: Global, group: Group) -> Result<ArgGroup<'a>, AllocError> {
+    let parsed = ArgGroup::new(alloc, group.name).multiple(!group.is_single);
+    match group.needs {
+        Some(other) => parsed.requires_arg(other),
+        None => Ok(parsed),
     }
 }

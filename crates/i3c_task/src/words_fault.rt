@@ -13,6 +13,8 @@ pub enum WordsFault {
     Legacy,
     #[error("i3cbus: --part takes K/N, two decimal numbers, K from 1 to N\n")]
     Part,
+    #[error("i3cbus: --order takes the numbers that 'choices' told, with points between them\n")]
+    Order,
     #[error("i3cbus: --{0} takes a number of decimal digits alone\n")]
     Number(&'static str),
 }

@@ -1,5 +1,5 @@
 use i3c_cli::{Fault, Output, owned_text, reading_fault};
-use i3c_program::{Ending, MeetFault, NoScenario, meet_every};
+use i3c_program::{Ending, MeetFault, NoScenario, Terms, meet_every};
 use i3c_streams::ScriptFault;
 use i3c_task::Meeting;
 use i3c_text::Text;
@@ -19,7 +19,7 @@ const BREAKS: &[u8] = b"a line in front of the block breaks what is expected";
 
 const TOO_MUCH: &[u8] = b"too much runs in front of the block";
 
-/// Lets the program on standard input meet every order of a scene's file.
+/// Lets the program on standard input meet the orders of a scene's file.
 #[inline(never)]
 pub(crate) fn run_meeting<R>(rt: &R, meeting: Meeting, scene: &str) -> Result<Ending, Fault>
 where
@@ -30,16 +30,19 @@ where
         Err(error) => return Err(unread(rt.alloc(), &error)),
     };
     let mut printed = Output::new(rt)?;
-    let Meeting { form, limits, most } = meeting;
-    let outcome = meet_every(
-        rt.alloc(),
+    let Meeting {
         form,
         limits,
+        which,
         most,
-        &mut file,
-        &mut rt.reader(),
-        &mut printed,
-    );
+    } = meeting;
+    let terms = Terms {
+        form,
+        limits,
+        which,
+        most,
+    };
+    let outcome = meet_every(rt.alloc(), terms, &mut file, &mut rt.reader(), &mut printed);
     match outcome {
         Ok(ending) => Ok(ending),
         Err(fault) => Err(fault_of(rt.alloc(), fault)),

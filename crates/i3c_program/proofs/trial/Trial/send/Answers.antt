@@ -1,13 +1,16 @@
 use Rattle.std.proofs.Common.{Err, refl, subst}
 use Rattle.i3c_orders.specs.Paths.{Answers as SendsSo}
-use Rattle.i3c_program.specs.Sessions.{fails, gives}
-use Rattle.i3c_program.proofs.Coming.{differs_comes, failed_comes, heard_comes}
+use Rattle.std.specs.Result.{IfOk}
+use Rattle.i3c_program.specs.Sessions.{IsChosen, fails, gives}
+use Rattle.i3c_program.proofs.Coming.{chosen_comes, differs_comes, failed_comes}
 use Rattle.i3c_program.proofs.Written.{if_ok}
 use Rattle.i3c_program.proofs.trial.Trial.send.Goals as goal
 
 pub returns-in-Ok : goal.returns-in-Ok
 returns-in-Ok c =
-    if_ok _ _ c.hear.result (λ came heard. heard_comes c.args.self.now c.args.sent c.send.new.orders (c.if-not-is_going.ensures.0 refl) came _ c.in-Ok.ensures heard) c.hear.ensures
+    let old = c.args.self.now in
+    let chosen = subst (λ b. IfOk c.choose.result (λ came. IsChosen b (record old { orders = c.send.new.orders }) came c.choose.new.self)) c.is_new-is_new.ensures c.choose.ensures in
+    if_ok _ _ c.choose.result (λ came is. chosen_comes old c.args.sent c.send.new.orders (c.if-not-is_going.ensures.0 refl) came _ c.in-Ok.ensures is) chosen
 
 pub returns-in-Err-Differs : goal.returns-in-Err-Differs
 returns-in-Err-Differs c =
