@@ -21,6 +21,7 @@
 #define REASON		32	/* why a line was refused */
 #define REGISTERS	16	/* what `write` takes at most */
 #define ROUNDS		64	/* of an assignment, at most */
+#define DUES		64	/* interrupts that the core hasn't got yet, at most */
 
 static char *to_path = "to", *from_path = "from";
 module_param_named(to, to_path, charp, 0444);
@@ -29,6 +30,15 @@ static bool trace;		/* log each line and each answer */
 module_param(trace, bool, 0644);
 static bool naive;		/* let the core add returning devices again */
 module_param(naive, bool, 0644);
+/*
+ * The engine is `drive --every`: each binding of the bus is one order of a
+ * scene.  Then one line follows another by the answers alone, and none comes
+ * from a work queue while another thread sends.
+ */
+static bool every;
+module_param(every, bool, 0444);
+static bool over;		/* every: no order of the scene is left */
+module_param(over, bool, 0444);
 
 /* The engine outlives an unbind, as hardware would: hence not in dk_master. */
 static int to_fd = -1, from_fd = -1;
@@ -38,6 +48,12 @@ static unsigned int delivered;	/* entries of the engine's log that were handled 
 static bool asking;		/* the next frame would meet a request */
 static char in[1024];
 static int in_len, in_pos;
+
+/* An interrupt that the core hasn't got yet. */
+struct dk_due {
+	struct i3c_dev_desc *desc;
+	struct i3c_ibi_slot *slot;
+};
 
 struct dk_master {
 	struct i3c_master_controller base;
@@ -54,6 +70,9 @@ struct dk_master {
 	struct i3c_dev_desc *devs[128];
 	struct work_struct join, serve;
 	atomic_t handled;	/* interrupts whose handlers haven't ended */
+	struct dk_due due[DUES];	/* every: what dk_settle() gives to the core */
+	int dues;
+	bool joined;		/* every: dk_settle() is to assign addresses */
 	char shown[PAGE_SIZE];	/* the answer to the last line of `sensor` */
 };
 
@@ -161,7 +180,9 @@ static int dk_error(struct dk_master *m)
 static bool dk_served(struct dk_master *m)
 {
 	if (begins(m->line, "joining")) {
-		if (!m->leaving)
+		if (every)
+			m->joined = true;
+		else if (!m->leaving)
 			queue_work(m->base.wq, &m->join);
 	} else if (begins(m->line, "turned down")) {
 		m->declined = true;
@@ -170,6 +191,17 @@ static bool dk_served(struct dk_master *m)
 		return false;
 	}
 	return true;
+}
+
+/* Gives the core an interrupt, or with `every` keeps it for dk_settle(). */
+static void dk_give(struct dk_master *m, struct i3c_dev_desc *desc,
+		    struct i3c_ibi_slot *slot)
+{
+	atomic_inc(&m->handled);
+	if (!every)
+		i3c_master_queue_ibi(desc, slot);
+	else if (!WARN_ON(m->dues == DUES))
+		m->due[m->dues++] = (struct dk_due){ desc, slot };
 }
 
 /* Is it a new entry of the engine's log?  Then the core gets the interrupt. */
@@ -198,8 +230,7 @@ static bool dk_recorded(struct dk_master *m)
 		*(u8 *)slot->data = value;
 		slot->len = 1;
 	}
-	atomic_inc(&m->handled);
-	i3c_master_queue_ibi(desc, slot);
+	dk_give(m, desc, slot);
 	return true;
 }
 
@@ -227,7 +258,7 @@ static bool dk_may_serve(struct dk_master *m)
 /* What a controller does when a device pulls SDA low. */
 static void dk_wake(struct dk_master *m)
 {
-	if (dk_may_serve(m))
+	if (!every && dk_may_serve(m))
 		queue_work(m->base.wq, &m->serve);
 }
 
@@ -330,6 +361,19 @@ static bool dk_is_back(struct dk_master *m, u8 addr, u64 pid)
 	return true;
 }
 
+/* ENTDAA, round by round: devices come and go between them. */
+static int dk_rounds(struct dk_master *m, struct dk_news *news)
+{
+	int ret = dk_do(m, "open");
+
+	if (ret)
+		return ret;
+	do
+		ret = dk_exchange(m, dk_note, news, "round");
+	while (!ret && strcmp(m->answer, "done"));
+	return dk_do(m, "end") ?: ret;
+}
+
 static int dk_do_daa(struct i3c_master_controller *base)
 {
 	struct dk_master *m = to_dk(base);
@@ -337,7 +381,7 @@ static int dk_do_daa(struct i3c_master_controller *base)
 	int i, ret;
 
 	mutex_lock(&m->lock);
-	ret = dk_hold(m, true) ?: dk_exchange(m, dk_note, &news, "daa");
+	ret = dk_hold(m, true) ?: dk_rounds(m, &news);
 	mutex_unlock(&m->lock);
 
 	for (i = 0; i < news.count; i++)
@@ -595,6 +639,56 @@ static int dk_request_ibi(struct i3c_dev_desc *dev, const struct i3c_ibi_setup *
 	return -ENOMEM;
 }
 
+/* every: gives the core the interrupts, and waits for each one's handler. */
+static void dk_deliver(struct dk_master *m)
+{
+	struct dk_due next;
+
+	while (m->dues) {
+		next = m->due[0];
+		memmove(m->due, m->due + 1, --m->dues * sizeof(next));
+		i3c_master_queue_ibi(next.desc, next.slot);
+		flush_workqueue(m->base.wq);
+	}
+}
+
+/* every: the device's driver wants no more interrupts, and some are left. */
+static void dk_forget(struct dk_master *m, struct i3c_dev_desc *dev,
+		      struct i3c_generic_ibi_pool *pool)
+{
+	int i, kept = 0;
+
+	for (i = 0; i < m->dues; i++) {
+		if (m->due[i].desc != dev) {
+			m->due[kept++] = m->due[i];
+			continue;
+		}
+		dev_warn(m->dev, "an interrupt of %02x, but no handler\n", dev->info.dyn_addr);
+		i3c_generic_ibi_recycle_slot(pool, m->due[i].slot);
+		atomic_dec(&m->handled);
+	}
+	m->dues = kept;
+}
+
+/*
+ * every: does what came up, one thing after another, until the controller has
+ * nothing to do.  It is called where no other line is to be sent.
+ */
+static void dk_settle(struct dk_master *m)
+{
+	for (;;) {
+		dk_deliver(m);
+		if (m->joined) {
+			m->joined = false;
+			i3c_master_do_daa(&m->base);
+		} else if (dk_may_serve(m)) {
+			dk_serve(&m->serve);
+		} else {
+			return;
+		}
+	}
+}
+
 static void dk_free_ibi(struct i3c_dev_desc *dev)
 {
 	struct dk_master *m = to_dk(i3c_dev_get_master(dev));
@@ -603,6 +697,7 @@ static void dk_free_ibi(struct i3c_dev_desc *dev)
 
 	mutex_lock(&m->lock);
 	data->pool = NULL;
+	dk_forget(m, dev, pool);
 	mutex_unlock(&m->lock);
 	i3c_generic_ibi_free_pool(pool);
 }
@@ -615,8 +710,11 @@ static int dk_enable_ibi(struct i3c_dev_desc *dev)
 
 static int dk_disable_ibi(struct i3c_dev_desc *dev)
 {
-	return i3c_master_disec_locked(i3c_dev_get_master(dev), dev->info.dyn_addr,
-				       I3C_CCC_EVENT_SIR);
+	struct dk_master *m = to_dk(i3c_dev_get_master(dev));
+	int ret = i3c_master_disec_locked(&m->base, dev->info.dyn_addr, I3C_CCC_EVENT_SIR);
+
+	dk_deliver(m);		/* the core waits for the handlers */
+	return ret;
 }
 
 static void dk_recycle_ibi_slot(struct i3c_dev_desc *dev, struct i3c_ibi_slot *slot)
@@ -667,7 +765,7 @@ static int dk_attach_i2c_dev(struct i2c_dev_desc *dev)
 
 	mutex_lock(&m->lock);
 	ret = dk_do(m, "legacy i2c%02x %02X %02X", dev->addr, dev->addr, dev->lvr);
-	if (hub && begins(m->refused, "BusMade"))	/* bound again */
+	if (begins(m->refused, "BusMade"))	/* bound again, or a scene's bus */
 		ret = 0;
 	mutex_unlock(&m->lock);
 	return ret;
@@ -697,13 +795,21 @@ static int dk_declare(struct dk_master *m)
 	return ret;
 }
 
-/* Starts the engine's bus with the devices of the device tree. */
+/* Notes the main controller's address, which `show` prints first. */
+static void dk_active(struct dk_master *m, void *data)
+{
+	sscanf(m->line, "active %2hhx", &hub);
+}
+
+/* Takes the bus of a scene, or starts one with the devices of the device tree. */
 static int dk_start(struct dk_master *m, const char *main)
 {
 	struct device_node *np = m->dev->of_node;
 	const char *target;
 	int i, ret;
 
+	if (every)
+		return dk_exchange(m, dk_active, NULL, "show");
 	ret = dk_declare(m) ?: dk_do(m, "main hub %s", main);
 	if (!ret && sscanf(m->answer, "hub slot 0 at %2hhx", &hub) != 1)
 		ret = -EIO;
@@ -756,7 +862,8 @@ static const struct i3c_master_controller_ops dk_ops = {
 /*
  * The devices' side of the bus: a line written to `sensor` goes to the engine,
  * and reading gives what it printed, and why it was refused.  Then the
- * controller serves whoever asks, unless the line began with a minus.
+ * controller serves whoever asks, unless the line began with a minus.  With
+ * `every` the write returns when it has done so.
  */
 
 /* Adds a printed line to what is shown, if all of it fits. */
@@ -772,6 +879,7 @@ static ssize_t sensor_store(struct device *dev, struct device_attribute *attr,
 			    const char *buf, size_t len)
 {
 	struct dk_master *m = dev_get_drvdata(dev);
+	bool settles = every && *buf != '-';
 	size_t n = 0;
 	int ret;
 
@@ -784,6 +892,8 @@ static ssize_t sensor_store(struct device *dev, struct device_attribute *attr,
 		n += scnprintf(m->shown + n, sizeof(m->shown) - n, "refused %s\n", m->refused);
 	m->shown[n] = 0;
 	mutex_unlock(&m->lock);
+	if (settles)
+		dk_settle(m);
 	return ret == -EPIPE ? ret : len;
 }
 
@@ -842,14 +952,56 @@ static struct attribute *dk_attrs[] = {
 };
 ATTRIBUTE_GROUPS(dk);
 
+/* Opens a FIFO, whose other end the engine may open later. */
+static int dk_open(const char *path, struct openflags flags)
+{
+	int fd;
+
+	do
+		fd = os_open_file(path, flags, 0);
+	while (fd == -EINTR);
+	return fd;
+}
+
+/* The engine ends when it has read all.  Another may open the FIFOs then. */
+static void dk_close(void)
+{
+	int got;
+
+	os_close_file(to_fd);
+	do
+		got = os_read_file(from_fd, in, sizeof(in));
+	while (got > 0 || got == -EINTR);
+	os_close_file(from_fd);
+	to_fd = from_fd = -1;
+	in_len = in_pos = 0;
+	sent = 0;
+}
+
+/* every: this order is over.  The next one begins with the bus of the scene. */
+static void dk_again(struct dk_master *m)
+{
+	asking = false;
+	mutex_lock(&m->lock);
+	over = dk_do(m, "again") || !begins(m->answer, "order ");
+	if (m->refused[0])
+		dk_do(m, "script");
+	mutex_unlock(&m->lock);
+	hub = 0;
+	delivered = 0;
+	if (over)
+		dk_close();
+}
+
 static int dk_probe(struct platform_device *pdev)
 {
 	struct dk_master *m;
 
+	over = false;
 	if (to_fd < 0)
-		to_fd = os_open_file(to_path, of_write(OPENFLAGS()), 0);
+		to_fd = dk_open(to_path, of_write(OPENFLAGS()));
 	if (to_fd >= 0 && from_fd < 0)
-		from_fd = os_open_file(from_path, of_read(OPENFLAGS()), 0);
+		from_fd = dk_open(from_path, of_read(OPENFLAGS()));
 	if (to_fd < 0 || from_fd < 0)
 		return dev_err_probe(&pdev->dev, -ENODEV, "no engine at %s, %s\n",
 				     to_path, from_path);
@@ -875,6 +1027,8 @@ static int dk_remove(struct platform_device *pdev)
 	cancel_work_sync(&m->serve);
 	cancel_work_sync(&m->join);
 	i3c_master_unregister(&m->base);
+	if (every)
+		dk_again(m);
 	return 0;
 }
 
