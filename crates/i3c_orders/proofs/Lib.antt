@@ -1,5 +1,6 @@
 mod Calling
 mod Ending
+pub mod Marking
 mod Numbering
 mod Trying
 mod Turning

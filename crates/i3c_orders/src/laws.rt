@@ -1,10 +1,11 @@
-ghost use Rattle.std.specs.Prelude.{◌≡◌, ◌<◌, ◌+◌, ◌*◌, ◌%◌, ◌^◌, [], ◌∷◌, ℕ, All, List, None, Some, Ok, Err, false, Option, Contains, ◌↔◌};
+ghost use Rattle.std.specs.Prelude.{◌≡◌, ◌⊎◌, ◌<◌, ◌+◌, ◌*◌, ◌%◌, ◌^◌, [], ◌∷◌, ℕ, All, List, None, Some, Ok, Err, false, Option, Contains, ◌↔◌};
 ghost use Rattle.i3c_orders.specs.declared.choice.Choice.{Choice as ChoiceValue};
 ghost use Rattle.i3c_orders.specs.declared.choice.Step.{Step as StepValue};
 ghost use Rattle.i3c_orders.specs.declared.orders.SendFault.{SendFault as FaultValue};
 ghost use Rattle.i3c_orders.specs.declared.orders.Unfinished.{Unfinished as UnfinishedValue};
+ghost use Rattle.i3c_orders.specs.Marks.{AreCovered, AreMarked, IsKnown, Turn};
 ghost use Rattle.i3c_orders.specs.Numbers.{NamesNumbers, numbers_text};
-ghost use Rattle.i3c_orders.specs.Runs.{AreTried, CanLead, IsRun, IsSettled};
+ghost use Rattle.i3c_orders.specs.Runs.{AreTried, CanLead, IsRun, IsSettled, told_by};
 ghost use Rattle.i3c_orders.specs.Paths.{Answers, Ends, IsOver, Tree, steps_of, told_on};
 ghost use Rattle.i3c_orders.specs.Portions.{Portion};
 ghost use Rattle.i3c_orders.specs.Sessions.{Call, IsSession, IsTried, Move, told_now};
@@ -45,6 +46,15 @@ pub fn determined_programs_are_served<M: Responder>()
         → IsSession (M.gives machine) program start calls tried old → program (told_now old) ≡ Some line → Answers (M.gives machine) (M.fails machine) old line (Err FaultValue.Differs) new → ⊥ }
     ensures ends { (machine : M) (program : List M.Answer → Option M.Line) (start : M.State) (calls : List Call) (tried : List (List (StepValue M.State M.Answer))) (old new : Tree M.Line M.State M.Answer) (unfinished : UnfinishedValue)
         → IsSession (M.gives machine) program start calls tried old → program (told_now old) ≡ None → Ends old (Err unfinished) new → ⊥ }
+{}
+
+/// For a program that leaves a run where its next line is one that it sent before, in a state alike: where the newest run is
+/// over or left and no choice on its path has anything left, behind the beginning of each run that was tried the program's run is
+/// over, or each answer that its line is given was tried, there or where it was sent before.
+pub fn marked_runs_are_covered<M: Responder>()
+    ensures { (machine : M) (program : List M.Answer → Option M.Line) (start : M.State) (turns : List Turn) (tried : List (List (StepValue M.State M.Answer))) (path : List (ChoiceValue M.Line M.State M.Answer))
+        → AreMarked (M.gives machine) M.alike program start turns tried path → IsOver path
+        → (program (told_by (steps_of path)) ≡ None) ⊎ IsKnown M.alike program start (steps_of path ∷ tried) (steps_of path) → AreCovered (M.gives machine) M.alike program start (steps_of path ∷ tried) }
 {}
 
 /// Numbers of 64 bits that are written are read as these.

@@ -7,6 +7,7 @@ use Rattle.i3c_every.specs.declared.told.Told.{Told}
 use Rattle.i3c_explore.specs.declared.stop.Stop.{Stop}
 use Rattle.i3c_orders.specs.declared.orders.SendFault.{SendFault}
 use Rattle.i3c_orders.specs.Paths.{Answers as SendsSo, Tree, due_of}
+use Rattle.i3c_scene.specs.declared.runner.Runner.{Runner}
 use Rattle.i3c_scene.specs.Replying.{Replied}
 use Rattle.i3c_scene.specs.Scenes.{Seen}
 use Rattle.i3c_program.specs.declared.came.Came.{Came}
@@ -15,15 +16,15 @@ use Rattle.i3c_program.specs.declared.trial.Trial.{Trial}
 use Rattle.i3c_program.specs.declared.word.Word.{Word}
 use Rattle.i3c_program.specs.Sessions.{Comes, EndsBy, IsChosen, IsStopped, fails, gives, is_new}
 
-module _ (old : Trial) (sent : Sent (List ℕ)) (orders : Tree (Sent (List ℕ)) (Met Seen) (Told Replied)) (going : old.standing ≡ Standing.Going) where
-  pub chosen_comes : (came : Came) (new : Trial) → SendsSo (gives old) (fails old) old.orders sent (Ok tt) orders → IsChosen (is_new (due_of (slice_get old.orders.path old.orders.at))) (record old { orders = orders }) came new
+module _ (old : Trial) (sent : Sent (List ℕ)) (runner : Runner) (orders : Tree (Sent (List ℕ)) (Met Seen) (Told Replied)) (going : old.standing ≡ Standing.Going) where
+  pub chosen_comes : (came : Came) (new : Trial) → SendsSo (gives old) (fails old) old.orders sent (Ok tt) orders → IsChosen (is_new (due_of (slice_get old.orders.path old.orders.at))) (record old { runner = runner; orders = orders }) came new
       → Comes old (Word.Sends sent) came new
-  chosen_comes came new answered chosen = inr (going, inl (record old { orders = orders }, answered, refl, (refl, refl, refl, refl, refl), chosen))
+  chosen_comes came new answered chosen = inr (going, inl (record old { runner = runner; orders = orders }, answered, refl, (refl, refl, refl, refl, refl), chosen))
 
-  pub differs_comes : (came : Came) (new : Trial) → SendsSo (gives old) (fails old) old.orders sent (Err SendFault.Differs) orders → came ≡ Came.Differs → IsStopped (record old { orders = orders }) new → Comes old (Word.Sends sent) came new
+  pub differs_comes : (came : Came) (new : Trial) → SendsSo (gives old) (fails old) old.orders sent (Err SendFault.Differs) orders → came ≡ Came.Differs → IsStopped (record old { runner = runner; orders = orders }) new → Comes old (Word.Sends sent) came new
   differs_comes came new (choice, there, other, same) is stopped =
-      inr (going, inr (inl ((choice, there, other, refl), is, subst (λ (t : Tree (Sent (List ℕ)) (Met Seen) (Told Replied)). IsStopped (record old { orders = t }) new) same stopped)))
+      inr (going, inr (inl ((choice, there, other, refl), is, subst (λ (t : Tree (Sent (List ℕ)) (Met Seen) (Told Replied)). IsStopped (record old { runner = runner; orders = t }) new) same stopped)))
 
-  pub failed_comes : (stop : Stop) (came : Came) (new : Trial) → SendsSo (gives old) (fails old) old.orders sent (Err (SendFault.Failed stop)) orders → EndsBy (record old { orders = orders }) stop came new → Comes old (Word.Sends sent) came new
+  pub failed_comes : (stop : Stop) (came : Came) (new : Trial) → SendsSo (gives old) (fails old) old.orders sent (Err (SendFault.Failed stop)) orders → EndsBy (record old { runner = runner; orders = orders }) stop came new → Comes old (Word.Sends sent) came new
   failed_comes stop came new (last, failed, same) by =
-      inr (going, inr (inr (stop, (last, failed, refl), subst (λ (t : Tree (Sent (List ℕ)) (Met Seen) (Told Replied)). EndsBy (record old { orders = t }) stop came new) same by)))
+      inr (going, inr (inr (stop, (last, failed, refl), subst (λ (t : Tree (Sent (List ℕ)) (Met Seen) (Told Replied)). EndsBy (record old { runner = runner; orders = t }) stop came new) same by)))

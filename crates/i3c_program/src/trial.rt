@@ -11,10 +11,10 @@ use crate::telling::reply_in;
 use crate::word::{Word, read_word};
 use i3c_drive::are_same;
 use i3c_every::{Met, Sent, Told, close};
-use i3c_explore::{Stop, Turn};
+use i3c_explore::{Machine as _, Stop, Turn};
 use i3c_lines::Name;
 use i3c_orders::{Orders, SendFault, Unfinished, Which, send};
-use i3c_scene::{ProgramLine, Reply, Scene};
+use i3c_scene::{ProgramLine, Reply, Runner, Scene};
 use i3c_text::Text;
 use i3c_tracks::unmet_number;
 use std::alloc::{AllocError, Global};
@@ -24,6 +24,8 @@ use std::alloc::{AllocError, Global};
 pub struct Trial {
     pub(crate) alloc: Global,
     pub(crate) scenario: Scenario,
+    // the bus on which lines run, in whatever state
+    runner: Runner,
     pub(crate) orders: Orders<Sent<ProgramLine>, Met<Scene>, Told<Reply>>,
     // the number of the order, from 1, and how many are tried at most
     pub(crate) order: u64,
@@ -57,9 +59,11 @@ impl Trial {
         ensures { IfOk result (HasBegun scenario most which) }
     {
         let start = start_of(alloc, &scenario)?;
+        let runner = scenario.start.runner(alloc)?;
         Ok(Trial {
             alloc,
             scenario,
+            runner,
             orders: Orders::new(alloc, start),
             order: 1,
             most,
@@ -91,7 +95,13 @@ impl Trial {
             return Ok(Came::Refused(Reason::Over));
         }
         let is_new = self.is_new();
-        match send(self.alloc, &self.scenario.tracks, &mut self.orders, sent) {
+        match send(
+            self.alloc,
+            &self.scenario.tracks,
+            &mut self.runner,
+            &mut self.orders,
+            sent,
+        ) {
             Ok(()) => self.choose(is_new),
             Err(SendFault::Memory) => Err(AllocError),
             Err(SendFault::Differs) => Ok(self.stop(Came::Differs)),
@@ -196,6 +206,7 @@ impl Trial {
             &self.scenario.tracks,
             &self.scenario.rest,
             self.orders.state(),
+            &mut self.runner,
         ) {
             Ok(()) => Ok(self.go_on()),
             Err(stop) => self.end(stop),

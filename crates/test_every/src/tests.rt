@@ -133,7 +133,7 @@ fn leads_by(
 fn a_line_meets_each_order_of_two_tracks(rt: HostRuntime) -> Result<(), Fail> {
     let alloc = rt.alloc();
     let tracks = tracks(alloc, &TWO, WIDE, false)?;
-    let steps = tracks.steps(alloc, &met(alloc, 1, &[0, 0])?, &Sent::Meets(Ask::Read))?;
+    let steps = tracks.steps(alloc, &mut runner(), &met(alloc, 1, &[0, 0])?, &Sent::Meets(Ask::Read))?;
     assert!(rt;
         are(
             &steps,
@@ -157,7 +157,7 @@ fn a_line_meets_each_order_of_two_tracks(rt: HostRuntime) -> Result<(), Fail> {
 fn equal_answers_states_and_places_are_one_step(rt: HostRuntime) -> Result<(), Fail> {
     let alloc = rt.alloc();
     let tracks = tracks(alloc, &TWO, WIDE, false)?;
-    let steps = tracks.steps(alloc, &met(alloc, 1, &[0, 0])?, &Sent::Meets(Ask::Clear))?;
+    let steps = tracks.steps(alloc, &mut runner(), &met(alloc, 1, &[0, 0])?, &Sent::Meets(Ask::Clear))?;
     assert!(rt;
         are(
             &steps,
@@ -176,7 +176,7 @@ fn equal_answers_states_and_places_are_one_step(rt: HostRuntime) -> Result<(), F
 fn a_line_alone_meets_no_line(rt: HostRuntime) -> Result<(), Fail> {
     let alloc = rt.alloc();
     let tracks = tracks(alloc, &TWO, WIDE, false)?;
-    let steps = tracks.steps(alloc, &met(alloc, 1, &[0, 0])?, &Sent::Alone(Ask::Read))?;
+    let steps = tracks.steps(alloc, &mut runner(), &met(alloc, 1, &[0, 0])?, &Sent::Alone(Ask::Read))?;
     assert!(rt; are(&steps, &[(answered(1), 1, &[0, 0])]));
     Ok(())
 }
@@ -186,7 +186,7 @@ fn a_line_alone_meets_no_line(rt: HostRuntime) -> Result<(), Fail> {
 fn a_line_goes_each_of_its_ways(rt: HostRuntime) -> Result<(), Fail> {
     let alloc = rt.alloc();
     let tracks = tracks(alloc, &TWO, WIDE, true)?;
-    let steps = tracks.steps(alloc, &met(alloc, 7, &[1, 0])?, &Sent::Alone(Ask::Clear))?;
+    let steps = tracks.steps(alloc, &mut runner(), &met(alloc, 7, &[1, 0])?, &Sent::Alone(Ask::Clear))?;
     assert!(rt;
         are(
             &steps,
@@ -206,7 +206,7 @@ fn a_line_goes_each_of_its_ways(rt: HostRuntime) -> Result<(), Fail> {
 fn a_line_goes_each_way_behind_each_order(rt: HostRuntime) -> Result<(), Fail> {
     let alloc = rt.alloc();
     let tracks = tracks(alloc, &TWO, WIDE, true)?;
-    let steps = tracks.steps(alloc, &met(alloc, 1, &[0, 0])?, &Sent::Meets(Ask::Read))?;
+    let steps = tracks.steps(alloc, &mut runner(), &met(alloc, 1, &[0, 0])?, &Sent::Meets(Ask::Read))?;
     let lost = Heard::Answered(Reply::Lost);
     assert!(rt;
         are(
@@ -232,7 +232,7 @@ fn a_line_goes_each_way_behind_each_order(rt: HostRuntime) -> Result<(), Fail> {
 fn in_a_wait_a_line_runs_at_least(rt: HostRuntime) -> Result<(), Fail> {
     let alloc = rt.alloc();
     let tracks = tracks(alloc, &TWO, WIDE, false)?;
-    let steps = tracks.steps(alloc, &met(alloc, 1, &[0, 0])?, &Sent::Waits)?;
+    let steps = tracks.steps(alloc, &mut runner(), &met(alloc, 1, &[0, 0])?, &Sent::Waits)?;
     assert!(rt;
         are(
             &steps,
@@ -244,7 +244,7 @@ fn in_a_wait_a_line_runs_at_least(rt: HostRuntime) -> Result<(), Fail> {
             ]
         )
     );
-    let last = tracks.steps(alloc, &met(alloc, 2, &[1, 0])?, &Sent::Waits)?;
+    let last = tracks.steps(alloc, &mut runner(), &met(alloc, 2, &[1, 0])?, &Sent::Waits)?;
     assert!(rt; are(&last, &[(happened(4), 4, &[1, 1])]));
     Ok(())
 }
@@ -253,10 +253,10 @@ fn in_a_wait_a_line_runs_at_least(rt: HostRuntime) -> Result<(), Fail> {
 fn a_wait_says_that_nothing_is_left_only_where_nothing_is(rt: HostRuntime) -> Result<(), Fail> {
     let alloc = rt.alloc();
     let some = tracks(alloc, &TWO, WIDE, false)?;
-    let steps = some.steps(alloc, &met(alloc, 4, &[1, 1])?, &Sent::Waits)?;
+    let steps = some.steps(alloc, &mut runner(), &met(alloc, 4, &[1, 1])?, &Sent::Waits)?;
     assert!(rt; are(&steps, &[(nothing_left(4), 4, &[1, 1])]));
     let none = tracks(alloc, &[], WIDE, false)?;
-    let steps = none.steps(alloc, &met(alloc, 5, &[])?, &Sent::Waits)?;
+    let steps = none.steps(alloc, &mut runner(), &met(alloc, 5, &[])?, &Sent::Waits)?;
     assert!(rt; are(&steps, &[(nothing_left(5), 5, &[])]));
     Ok(())
 }
@@ -268,13 +268,13 @@ fn a_limit_is_exceeded(rt: HostRuntime) -> Result<(), Fail> {
     let start = met(alloc, 1, &[0, 0])?;
     for (steps, states, enough) in [(4, 2, true), (3, 2, false), (4, 1, false)] {
         let tracks = tracks(alloc, &TWO, Limits { steps, states }, false)?;
-        let found = tracks.steps(alloc, &start, &Sent::Meets(Ask::Read));
+        let found = tracks.steps(alloc, &mut runner(), &start, &Sent::Meets(Ask::Read));
         assert!(rt; found.is_ok() == enough);
         assert!(rt; enough || matches!(found, Err(Stop::Most)));
-        let seen = tracks.steps(alloc, &start, &Sent::Waits);
+        let seen = tracks.steps(alloc, &mut runner(), &start, &Sent::Waits);
         assert!(rt; seen.is_ok() == enough);
         assert!(rt; enough || matches!(seen, Err(Stop::Most)));
-        assert!(rt; tracks.steps(alloc, &start, &Sent::Alone(Ask::Read)).is_ok());
+        assert!(rt; tracks.steps(alloc, &mut runner(), &start, &Sent::Alone(Ask::Read)).is_ok());
     }
     Ok(())
 }
@@ -296,10 +296,10 @@ fn an_order_that_breaks_an_expectation_is_told(rt: HostRuntime) -> Result<(), Fa
     let alloc = rt.alloc();
     let tracks = tracks(alloc, &TWO, WIDE, false)?;
     let start = met(alloc, 500, &[0, 0])?;
-    let found = tracks.steps(alloc, &start, &Sent::Meets(Ask::Read));
+    let found = tracks.steps(alloc, &mut runner(), &start, &Sent::Meets(Ask::Read));
     assert!(rt; breaks_by(&found, &[1]));
-    assert!(rt; breaks_by(&tracks.steps(alloc, &start, &Sent::Waits), &[1]));
-    assert!(rt; tracks.steps(alloc, &start, &Sent::Alone(Ask::Read)).is_ok());
+    assert!(rt; breaks_by(&tracks.steps(alloc, &mut runner(), &start, &Sent::Waits), &[1]));
+    assert!(rt; tracks.steps(alloc, &mut runner(), &start, &Sent::Alone(Ask::Read)).is_ok());
     Ok(())
 }
 
@@ -324,11 +324,11 @@ fn many_counts_are_steps_of_their_own(rt: HostRuntime) -> Result<(), Fail> {
     let alloc = rt.alloc();
     let counts = (ADDS + 1) + (ADDS + 1) * (ADDS + 2) / 2;
     let start = met(alloc, 1, &[0, 0])?;
-    let read = adding(alloc, false)?.steps(alloc, &start, &Sent::Meets(Ask::Read))?;
+    let read = adding(alloc, false)?.steps(alloc, &mut runner(), &start, &Sent::Meets(Ask::Read))?;
     assert!(rt; read.len() == counts);
-    let risky = adding(alloc, true)?.steps(alloc, &start, &Sent::Meets(Ask::Read))?;
+    let risky = adding(alloc, true)?.steps(alloc, &mut runner(), &start, &Sent::Meets(Ask::Read))?;
     assert!(rt; risky.len() == 2 * counts);
-    let seen = adding(alloc, false)?.steps(alloc, &start, &Sent::Waits)?;
+    let seen = adding(alloc, false)?.steps(alloc, &mut runner(), &start, &Sent::Waits)?;
     assert!(rt; seen.len() == counts - 1);
     Ok(())
 }
@@ -340,10 +340,10 @@ fn many_alike_steps_are_one(rt: HostRuntime) -> Result<(), Fail> {
     let alloc = rt.alloc();
     let counts = (ADDS + 1) + (ADDS + 1) * (ADDS + 2) / 2;
     let start = met(alloc, 1, &[0, 0])?;
-    let cleared = adding(alloc, false)?.steps(alloc, &start, &Sent::Meets(Ask::Clear))?;
+    let cleared = adding(alloc, false)?.steps(alloc, &mut runner(), &start, &Sent::Meets(Ask::Clear))?;
     assert!(rt; cleared.len() == 2 * (ADDS + 1));
     assert!(rt; leads_by(&cleared, 0, &[2, 1], &[0, 0, 1]));
-    let risky = adding(alloc, true)?.steps(alloc, &start, &Sent::Meets(Ask::Clear))?;
+    let risky = adding(alloc, true)?.steps(alloc, &mut runner(), &start, &Sent::Meets(Ask::Clear))?;
     assert!(rt; risky.len() == 2 * (ADDS + 1) + counts);
     Ok(())
 }
@@ -352,9 +352,14 @@ fn many_alike_steps_are_one(rt: HostRuntime) -> Result<(), Fail> {
 fn places_in_other_tracks_are_refused(rt: HostRuntime) -> Result<(), Fail> {
     let alloc = rt.alloc();
     let tracks = tracks(alloc, &TWO, WIDE, false)?;
-    let found = tracks.steps(alloc, &met(alloc, 1, &[0])?, &Sent::Waits);
+    let found = tracks.steps(alloc, &mut runner(), &met(alloc, 1, &[0])?, &Sent::Waits);
     assert!(rt; matches!(found, Err(Stop::Memory)));
     Ok(())
+}
+
+/// A runner in some state.
+fn runner() -> Counter {
+    Counter { count: 77 }
 }
 
 /// What a program is told of what it sends, if it is.
@@ -364,7 +369,7 @@ fn told(
     orders: &mut Orders<Sent<Ask>, Met<Counter>, Told<Reply>>,
     sent: Sent<Ask>,
 ) -> Option<Heard> {
-    if send(alloc, tracks, orders, sent).is_err() {
+    if send(alloc, tracks, &mut runner(), orders, sent).is_err() {
         return None;
     }
     match orders.newest() {
@@ -433,7 +438,7 @@ fn a_program_that_is_not_determined_is_found(rt: HostRuntime) -> Result<(), Fail
     for other in [Sent::Alone(Ask::Read), Sent::Meets(Ask::Clear), Sent::Waits] {
         assert!(rt;
             matches!(
-                send(alloc, &tracks, &mut orders, other),
+                send(alloc, &tracks, &mut runner(), &mut orders, other),
                 Err(SendFault::Differs)
             )
         );
@@ -453,7 +458,7 @@ fn a_limit_that_is_exceeded_is_a_fault_of_the_line(rt: HostRuntime) -> Result<()
     let mut orders = Orders::new(alloc, met(alloc, 1, &[0, 0])?);
     assert!(rt;
         matches!(
-            send(alloc, &tracks, &mut orders, Sent::Waits),
+            send(alloc, &tracks, &mut runner(), &mut orders, Sent::Waits),
             Err(SendFault::Failed(Stop::Most))
         )
     );
