@@ -21,8 +21,27 @@ enum {
     ASKING_ROOM = 64 * (DASKREYF_NAME + 1) + 1,
     AS_ROOM = LINE_ROOM,
     END_ROOM = 48, /* the begin of an answer's last line, with its number */
+    QUEUE_ROOM = 4096, /* a pipe takes as much at once */
+    FIRST_TURNS = 16,
     FIRST_FREE_DESCRIPTOR = 3,
     NOT_RUN = 127
+};
+
+/* A line of a program, and its answer. */
+struct turn {
+    char *line;
+    char *answer;
+    size_t length;
+};
+
+/* What a program sent that meets every order. */
+struct run {
+    struct turn *turns; /* of this run; and those of the run before that may come again */
+    size_t count, room;
+    size_t at; /* how many of them this run has come by */
+    size_t same; /* how many are answered as in the run before */
+    char queue[QUEUE_ROOM]; /* lines that were answered from these, and that the engine hasn't got yet */
+    size_t queued;
 };
 
 struct daskreyf {
@@ -32,7 +51,8 @@ struct daskreyf {
     bool every; /* every order of a scene */
     bool over; /* no other order begins */
     unsigned long order;
-    uint64_t number; /* of the last line that was sent */
+    struct run run;
+    uint64_t number; /* of the last line that was sent, or is to be */
     char as[AS_ROOM]; /* what is put in front of the next line, or nothing */
     bool as_too_long;
 
@@ -216,6 +236,16 @@ struct daskreyf *daskreyf_every_of(const char *program, const char *scene, const
     return start_bus(words, true);
 }
 
+/* Keeps the first turns of a run, and no other ones. */
+static void forget_turns(struct run *run, size_t count)
+{
+    while (run->count > count) {
+        run->count--;
+        free(run->turns[run->count].line);
+        free(run->turns[run->count].answer);
+    }
+}
+
 int daskreyf_close(struct daskreyf *bus)
 {
     int status = 0;
@@ -227,6 +257,8 @@ int daskreyf_close(struct daskreyf *bus)
         ;
     if (!bus->gone)
         close(bus->from);
+    forget_turns(&bus->run, 0);
+    free(bus->run.turns);
     free(bus->answer);
     free(bus);
     return WIFEXITED(status) ? WEXITSTATUS(status) : -WTERMSIG(status);
@@ -249,19 +281,21 @@ static bool send_all(struct daskreyf *bus, const char *bytes, size_t count)
     return true;
 }
 
-/* Sends a line in one piece, with its line feed. */
+/* Sends the lines that wait and this one behind them in one piece, each with its line feed. */
 static enum daskreyf_result send_whole(struct daskreyf *bus, const char *line)
 {
-    size_t length = strlen(line);
-    char *whole = malloc(length + 1);
+    size_t length = strlen(line), queued = bus->run.queued;
+    char *whole = malloc(queued + length + 1);
     bool sent;
 
     if (!whole)
         return DASKREYF_NO_MEMORY;
-    memcpy(whole, line, length);
-    whole[length] = '\n';
-    sent = send_all(bus, whole, length + 1);
+    memcpy(whole, bus->run.queue, queued);
+    memcpy(whole + queued, line, length);
+    whole[queued + length] = '\n';
+    sent = send_all(bus, whole, queued + length + 1);
     free(whole);
+    bus->run.queued = 0;
     return sent ? DASKREYF_OK : DASKREYF_GONE;
 }
 
@@ -294,15 +328,16 @@ static bool receive_piece(struct daskreyf *bus)
     return true;
 }
 
-/* Whether the line ends the answer that is waited for. No other line looks so, whatever devices are called. */
-static bool is_last(const struct daskreyf *bus, const char *line)
+/* Whether the line ends the answer to the line with this number. No other line looks so, whatever devices are called. */
+static bool is_last(uint64_t number, const char *line)
 {
     char done[END_ROOM], refused[END_ROOM];
-    int length;
+    int length, ends;
 
-    snprintf(done, sizeof done, "ok %" PRIu64 "\n", bus->number);
-    length = snprintf(refused, sizeof refused, "refused %" PRIu64 " ", bus->number);
-    return !strcmp(line, done) || (!strncmp(line, refused, (size_t)length) && isupper((unsigned char)line[length]));
+    ends = snprintf(done, sizeof done, "ok %" PRIu64 "\n", number);
+    length = snprintf(refused, sizeof refused, "refused %" PRIu64 " ", number);
+    return !strncmp(line, done, (size_t)ends)
+        || (!strncmp(line, refused, (size_t)length) && isupper((unsigned char)line[length]));
 }
 
 /* Whether the answer is whole: nothing comes behind its last line before another one is sent. */
@@ -314,7 +349,7 @@ static bool is_whole(const struct daskreyf *bus)
         return false;
     while (line > bus->answer && line[-1] != '\n')
         line--;
-    return is_last(bus, line);
+    return is_last(bus->number, line);
 }
 
 static enum daskreyf_result receive(struct daskreyf *bus)
@@ -328,6 +363,13 @@ static enum daskreyf_result receive(struct daskreyf *bus)
     } while (!is_whole(bus));
     bus->answer[--bus->length] = '\0';
     return DASKREYF_OK;
+}
+
+/* An answer that has not what it must have by docs/FORMATS.md: the bus is over. */
+static enum daskreyf_result broken(struct daskreyf *bus)
+{
+    bus->gone = true;
+    return DASKREYF_GONE;
 }
 
 /* The last line of the text. */
@@ -459,21 +501,166 @@ static enum daskreyf_result take_answer(struct daskreyf *bus, const char *sent)
     return result;
 }
 
+/*
+ * The lines of a run in every order
+ *
+ * Where another run begins, the engine tells how many of its lines are answered as in the run before (`same`). These are
+ * answered from what was kept of that run. They wait, and go to the engine together with the next line that isn't: so it
+ * finds a program that sends another line here, as ever.
+ */
+
+/* Whether the line is none of the program's to the bus: the engine's own word, or a comment. */
+static bool is_aside(const char *line)
+{
+    return !*line || *line == '#' || !strcmp(line, "again") || !strcmp(line, "script") || !strcmp(line, "choices")
+        || !strcmp(line, "same");
+}
+
+/* Whether the line didn't come to the bus. */
+static bool is_unheard(enum daskreyf_result result)
+{
+    return result == DASKREYF_BAD_LINE || result == DASKREYF_MANY_FRAMES || result == DASKREYF_NO_PAST;
+}
+
+/* Whether a mark with this answer leaves the run. */
+static bool is_left(const char *text)
+{
+    return !strcmp(text, "known");
+}
+
+/* Whether the run before sent this line here, and was answered as this run is. */
+static bool is_known(const struct run *run, const char *line)
+{
+    return run->at < run->same && !strcmp(run->turns[run->at].line, line);
+}
+
+/* Sends the lines that wait, of which the last one has the bus' number. What they are answered is known. */
+static enum daskreyf_result send_queue(struct daskreyf *bus)
+{
+    bool sent = send_all(bus, bus->run.queue, bus->run.queued);
+
+    bus->run.queued = 0;
+    return sent ? receive(bus) : DASKREYF_GONE;
+}
+
+/* Lets a line wait. It is one that the engine took before, so it has less than LINE_ROOM bytes. */
+static enum daskreyf_result queue_line(struct daskreyf *bus, const char *line)
+{
+    struct run *run = &bus->run;
+    size_t length = strlen(line);
+    enum daskreyf_result result = DASKREYF_OK;
+
+    if (QUEUE_ROOM - run->queued < length + 1)
+        result = send_queue(bus);
+    memcpy(run->queue + run->queued, line, length);
+    run->queue[run->queued + length] = '\n';
+    run->queued += length + 1;
+    return result;
+}
+
+/* Answers a line as in the run before. The room was enough for that answer once. */
+static enum daskreyf_result answer_known(struct daskreyf *bus, const char *line)
+{
+    const struct turn *turn = &bus->run.turns[bus->run.at];
+    enum daskreyf_result result = queue_line(bus, line);
+
+    bus->run.at++;
+    bus->number++;
+    memcpy(bus->answer, turn->answer, turn->length + 1);
+    bus->length = turn->length;
+    return result == DASKREYF_OK ? take_answer(bus, line) : broken(bus);
+}
+
+/* Cuts the answers to the lines that waited, in front of the one to this line. */
+static void cut_known(struct daskreyf *bus)
+{
+    const char *line = bus->answer;
+
+    while (line && !is_last(bus->number - 1, line))
+        line = next_line(line);
+    line = line ? next_line(line) : NULL;
+    if (!line)
+        return;
+    bus->length -= (size_t)(line - bus->answer);
+    memmove(bus->answer, line, bus->length + 1);
+}
+
+static bool make_turn_room(struct run *run)
+{
+    size_t room = run->room ? 2 * run->room : FIRST_TURNS;
+    struct turn *larger;
+
+    if (run->count < run->room)
+        return true;
+    larger = realloc(run->turns, room * sizeof *larger);
+    if (!larger)
+        return false;
+    run->turns = larger;
+    run->room = room;
+    return true;
+}
+
+/* Keeps a line of this run with its answer, in place of what the run before sent from here on. */
+static enum daskreyf_result keep_turn(struct daskreyf *bus, const char *line)
+{
+    struct run *run = &bus->run;
+    struct turn turn = {strdup(line), malloc(bus->length + 1), bus->length};
+
+    forget_turns(run, run->at);
+    if (!turn.line || !turn.answer || !make_turn_room(run)) {
+        free(turn.line);
+        free(turn.answer);
+        return DASKREYF_NO_MEMORY;
+    }
+    memcpy(turn.answer, bus->answer, bus->length + 1);
+    run->turns[run->count++] = turn;
+    run->at = run->count;
+    return DASKREYF_OK;
+}
+
+/* Takes a turn back whose line didn't come to the bus. */
+static void take_turn_back(struct run *run)
+{
+    run->at--;
+    forget_turns(run, run->at);
+}
+
+/* Sends a line behind those that wait, and receives its answer. */
+static enum daskreyf_result ask(struct daskreyf *bus, const char *line)
+{
+    bool waited = bus->run.queued > 0;
+    enum daskreyf_result result;
+
+    bus->number++;
+    result = send_whole(bus, line);
+    if (result == DASKREYF_OK)
+        result = receive(bus);
+    if (result == DASKREYF_OK && waited)
+        cut_known(bus);
+    return result;
+}
+
 static enum daskreyf_result exchange(struct daskreyf *bus, const char *line)
 {
-    enum daskreyf_result result = DASKREYF_GONE;
+    bool is_kept = bus->every && !is_aside(line);
+    enum daskreyf_result result;
 
     bus->text = bus->why = "";
     memset(&bus->served, 0, sizeof bus->served);
-    if (!bus->gone) {
-        bus->number++;
-        result = send_whole(bus, line);
+    if (bus->gone)
+        return DASKREYF_GONE;
+    if (is_known(&bus->run, line))
+        return answer_known(bus, line);
+    result = ask(bus, line);
+    if (result == DASKREYF_OK && is_kept)
+        result = keep_turn(bus, line);
+    if (result != DASKREYF_OK) {
+        bus->gone = true;
+        return result;
     }
-    if (result == DASKREYF_OK)
-        result = receive(bus);
-    if (result == DASKREYF_OK)
-        return take_answer(bus, line);
-    bus->gone = true;
+    result = take_answer(bus, line);
+    if (is_kept && (is_unheard(result) || (begins(line, "mark ") && is_left(bus->text))))
+        take_turn_back(&bus->run);
     return result;
 }
 
@@ -548,13 +735,6 @@ const struct daskreyf_served *daskreyf_served(const struct daskreyf *bus)
 const char *daskreyf_asking(const struct daskreyf *bus)
 {
     return bus->asking;
-}
-
-/* An answer that has not what it must have by docs/FORMATS.md: the bus is over. */
-static enum daskreyf_result broken(struct daskreyf *bus)
-{
-    bus->gone = true;
-    return DASKREYF_GONE;
 }
 
 /* The start */
@@ -1067,10 +1247,50 @@ enum daskreyf_result daskreyf_frames(struct daskreyf *bus, uint16_t count)
 
 /* Every order */
 
+/* Takes the answer to `same`, which came behind the one to `again`: how many lines of the next run are answered as in this one. */
+static void take_same(struct daskreyf *bus)
+{
+    const char *line = bus->answer;
+    struct run *run = &bus->run;
+
+    run->at = run->same = 0;
+    while (line && !is_last(bus->number - 1, line))
+        line = next_line(line);
+    line = line ? next_line(line) : NULL;
+    if (!line)
+        return;
+    if (sscanf(line, "same %zu", &run->same) == 1 && run->same > run->count)
+        run->same = run->count;
+    bus->length = (size_t)(line - bus->answer) - 1;
+    bus->answer[bus->length] = '\0';
+}
+
+/* Ends a run, and asks in the same breath what stays as it was in the next one. */
+static enum daskreyf_result exchange_again(struct daskreyf *bus)
+{
+    enum daskreyf_result result = bus->gone ? DASKREYF_GONE : DASKREYF_OK;
+
+    bus->text = bus->why = "";
+    memset(&bus->served, 0, sizeof bus->served);
+    if (result == DASKREYF_OK && bus->run.queued)
+        result = send_queue(bus);
+    if (result == DASKREYF_OK)
+        result = send_whole(bus, "again\nsame");
+    bus->number += 2;
+    if (result == DASKREYF_OK)
+        result = receive(bus);
+    if (result != DASKREYF_OK) {
+        bus->gone = true;
+        return result;
+    }
+    take_same(bus);
+    return take_answer(bus, "again");
+}
+
 /* Ends the run before, and begins the next one, in whose beginning nobody is known to ask. */
 static bool begin_again(struct daskreyf *bus)
 {
-    if (daskreyf_line(bus, "again") != DASKREYF_OK)
+    if (exchange_again(bus) != DASKREYF_OK)
         return false;
     bus->asking[0] = '\0';
     if (sscanf(bus->text, "order %lu", &bus->order) == 1)
@@ -1101,6 +1321,13 @@ int daskreyf_wait(struct daskreyf *bus)
     if (daskreyf_line(bus, "wait") != DASKREYF_OK)
         return -1;
     return !strcmp(bus->text, "happened");
+}
+
+int daskreyf_mark(struct daskreyf *bus, const char *text)
+{
+    if (send_line(bus, "mark %s", text) != DASKREYF_OK)
+        return -1;
+    return is_left(bus->text);
 }
 
 const char *daskreyf_script(struct daskreyf *bus)

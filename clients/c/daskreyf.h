@@ -377,6 +377,13 @@ const char *daskreyf_script(struct daskreyf *bus);
 /* The answers that the lines of this order took so far, by which I3CBUS_ORDER finds it again. Like daskreyf_text, NULL if none. */
 const char *daskreyf_choices(struct daskreyf *bus);
 
+/*
+ * The text, 1 to 64 hexadecimal digits, stands for all that decides what the program does next. 1 where the program said so
+ * before, with the bus and what is left to happen as they are now: then this run ends here, since what is behind it is tried
+ * elsewhere, and daskreyf_next comes next. Else 0, or -1 where the line is refused.
+ */
+int daskreyf_mark(struct daskreyf *bus, const char *text);
+
 #ifdef __cplusplus
 }
 #endif

@@ -621,6 +621,37 @@ static void test_an_unmet_expectation_behind_a_frame(const char *program)
     CHECK(daskreyf_close(bus) == 3);
 }
 
+static void test_lines_that_are_known(const char *program)
+{
+    struct daskreyf *bus;
+
+    /* in the second order this engine answers only when it has two lines */
+    write_file("test_scene.i3c", "");
+    bus = every_of_shell("#!/bin/sh\n"
+        "read line; echo done; echo asking light; echo ok 1\n"
+        "read line; echo quiet; echo ok 2\n"
+        "read line; read other; echo order 2; echo ok 3; echo same 1; echo ok 4\n"
+        "read line; read other; echo done; echo asking light; echo ok 5; echo torn; echo asking; echo ok 6\n"
+        "read again; read same; [ \"$line$other$again$same\" = listserveagainsame ] || exit 9\n"
+        "echo all 2 orders; echo ok 7; echo same 0; echo ok 8\n");
+    CHECK(daskreyf_next(bus) && daskreyf_line(bus, "list") == DASKREYF_OK && daskreyf_serve(bus) == DASKREYF_OK);
+    CHECK(daskreyf_served(bus)->request == DASKREYF_QUIET);
+    CHECK(daskreyf_next(bus) && daskreyf_order(bus) == 2 && !*daskreyf_asking(bus));
+    CHECK(daskreyf_line(bus, "list") == DASKREYF_OK && !strcmp(daskreyf_text(bus), "done"));
+    CHECK(!strcmp(daskreyf_asking(bus), "light"));
+    CHECK(daskreyf_serve(bus) == DASKREYF_OK && !strcmp(daskreyf_text(bus), "torn") && !*daskreyf_asking(bus));
+    CHECK(daskreyf_served(bus)->request == DASKREYF_TORN);
+    CHECK(!daskreyf_next(bus) && !strcmp(daskreyf_text(bus), "all 2 orders") && daskreyf_close(bus) == 0);
+
+    /* another line behind one that is known, and an order's script there */
+    bus = every(program, ADDRESSED "any\ntrack\nraise light 2A\nclose\n");
+    CHECK(daskreyf_next(bus) && daskreyf_line(bus, "policy all") == DASKREYF_OK && daskreyf_serve(bus) == DASKREYF_OK);
+    CHECK(daskreyf_next(bus) && daskreyf_line(bus, "policy all") == DASKREYF_OK);
+    CHECK(!strcmp(daskreyf_script(bus), ADDRESSED "policy all"));
+    CHECK(daskreyf_reset(bus) == DASKREYF_DIFFERS && !strcmp(daskreyf_text(bus), "due serve"));
+    CHECK(daskreyf_close(bus) == 1);
+}
+
 static void test_a_program_that_differs(const char *program)
 {
     struct daskreyf *bus = every(program, ADDRESSED "any\ntrack\nraise light 2A\nclose\n");
@@ -695,6 +726,7 @@ static void test_every_order(const char *program)
     test_what_an_assignment_serves(program);
     test_an_unmet_expectation(program);
     test_an_unmet_expectation_behind_a_frame(program);
+    test_lines_that_are_known(program);
     test_a_program_that_differs(program);
     test_lines_that_every_order_has_not(program);
     test_as_many_orders_as_may_be(program);

@@ -35,8 +35,14 @@ REGISTERS = 16
 """The registers of a device or a legacy target, and the most bytes of one transfer."""
 
 _PIECE = 65536
+# as much as any pipe takes at once
+_WAITING = 4096
 _RECORD = re.compile(r"record (\d+) slot (\d+) raise (\d+) at ([0-9A-F]{2}) byte ([0-9A-F]{2}|--)")
 _ASKING = re.compile(r"asking( |$)")
+# What is none of the program's lines to the bus: a word of the engine's own, or a comment.
+_ASIDE = re.compile(r"again|script|choices|same|(#.*)?")
+# What a line is answered that didn't come to the bus.
+_UNHEARD = re.compile(r"refused [0-9]+ (BadLine|ManyFrames|NoPast)( .*)?")
 # The lines that print a name first: what looks like a line `asking` is a device of that name.
 _NAMING = ("legacy", "main", "attach")
 
@@ -752,11 +758,17 @@ class Bus(Sender):
         return answer.lines[-1]
 
     def _exchange(self, text: str) -> list[str]:
-        """Sends a line and reads its answer. If that is interrupted the bus is over, as its next answer would be another's."""
-        line = text.encode("utf-8", "surrogateescape") + b"\n"
+        """Sends a line and reads its answer."""
         self._number += 1
+        return self._ask(_line_of(text))
+
+    def _ask(self, lines: bytes) -> list[str]:
+        """
+        Sends lines, the last of which has the bus's number, and reads their answers. If that is interrupted the bus is over, as
+        its next answer would be another's.
+        """
         try:
-            self._send(line)
+            self._send(lines)
             return self._receive()
         except BaseException:
             self._process.kill()
@@ -780,15 +792,8 @@ class Bus(Sender):
             if not piece:
                 self._fail("i3cbus has ended in the midst of an answer" if answer else "i3cbus has ended")
             answer += piece
-            if answer.endswith(b"\n") and self._is_last(answer[answer.rfind(b"\n", 0, -1) + 1 : -1]):
+            if answer.endswith(b"\n") and _ends(self._number, answer[answer.rfind(b"\n", 0, -1) + 1 : -1].decode("latin-1")):
                 return answer.decode("latin-1").split("\n")[:-1]
-
-    def _is_last(self, line: bytes) -> bool:
-        """Whether the line ends the answer that is waited for. No other line looks so, whatever devices are called."""
-        if line == b"ok %d" % self._number:
-            return True
-        refused = b"refused %d " % self._number
-        return line.startswith(refused) and line[len(refused) : len(refused) + 1].isupper()
 
     def _fail(self, what: str) -> NoReturn:
         """Says why the program is gone, with its status and what it told on standard error."""
@@ -806,6 +811,19 @@ class Bus(Sender):
         process.stderr.close()
         process.stdout.close()
         return told
+
+
+def _line_of(text: str) -> bytes:
+    """A line as it is sent."""
+    return text.encode("utf-8", "surrogateescape") + b"\n"
+
+
+def _ends(number: int, line: str) -> bool:
+    """Whether the line ends the answer to the line with this number. No other line looks so, whatever devices are called."""
+    if line == f"ok {number}":
+        return True
+    refused = f"refused {number} "
+    return line.startswith(refused) and line[len(refused) : len(refused) + 1].isupper()
 
 
 _ORDER = "I3CBUS_ORDER"
@@ -871,6 +889,12 @@ class EveryBus(Bus):
         self.order = 1
         """The number of the order, from 1."""
         self._is_noted = False
+        # The lines of this run, and those of the run before that may come again; how many of them this run has come by, and how
+        # many are answered as in the run before. Such a line waits until another one is sent.
+        self._turns: list[tuple[str, list[str]]] = []
+        self._at = 0
+        self._same = 0
+        self._waits = b""
 
     def __exit__(
         self,
@@ -885,6 +909,14 @@ class EveryBus(Bus):
     def wait(self) -> bool:
         """`wait`: the program has nothing to do until something happens. False where nothing is left to, whoever asks."""
         return self.line("wait").lines[0] == "happened"
+
+    def mark(self, text: str) -> bool:
+        """
+        `mark`: TEXT, 1 to 64 hexadecimal digits, stands for all that decides what the program does next. True where the program
+        said so before, with the bus and what is left to happen as they are now: then this run ends here, since what is behind
+        it is tried elsewhere.
+        """
+        return self.line(f"mark {text}").lines[:1] == ("known",)
 
     def script(self) -> str:
         """`script`: what ran in this order so far, as a script of `i3cbus run`."""
@@ -903,7 +935,43 @@ class EveryBus(Bus):
         if word in ("all", "tried"):
             return False
         self.order = int(number)
+        self._at = 0
+        self._same = int(self._exchange("same")[0].split()[1])
         return True
+
+    def _exchange(self, text: str) -> list[str]:
+        """
+        Sends a line and reads its answer, unless the run before sent it here and was answered as this run is: then it is
+        answered from there, and goes to the engine with the next line that isn't.
+        """
+        if self._at < self._same and self._turns[self._at][0] == text:
+            return self._known()
+        answer = super()._exchange(text)
+        if not _ASIDE.fullmatch(text) and not _UNHEARD.fullmatch(answer[-1]) and not (text.startswith("mark ") and answer[0] == "known"):
+            self._turns[self._at :] = [(text, answer)]
+            self._at += 1
+        return answer
+
+    def _known(self) -> list[str]:
+        """The answer that the next line got in the run before, whose last line has another number here."""
+        text, (*lines, last) = self._turns[self._at]
+        line = _line_of(text)
+        if len(self._waits) + len(line) > _WAITING:
+            self._ask(b"")
+        self._waits += line
+        self._at += 1
+        self._number += 1
+        word, _, why = last.partition(" ")
+        return [*lines, " ".join((word, str(self._number), *why.split(" ")[1:]))]
+
+    def _ask(self, lines: bytes) -> list[str]:
+        """Sends lines behind those that wait, and gives the answer to the last one."""
+        waits, self._waits = self._waits, b""
+        answer = super()._ask(waits + lines)
+        first = 0
+        if waits and lines:
+            first = 1 + next(index for index, line in enumerate(answer) if _ends(self._number - 1, line))
+        return answer[first:]
 
     def line(self, text: str) -> Answer:
         """Sends a line, as every `Bus` does. `Unmet` and `Differs` get the order as a note."""

@@ -15,7 +15,7 @@ import tempfile
 import traceback
 import unittest
 import unittest.mock
-from collections.abc import Generator
+from collections.abc import Callable, Generator
 from pathlib import Path
 
 import daskreyf
@@ -444,6 +444,16 @@ class FaultsTest(unittest.TestCase):
         bus.close()
 
 
+def _kept_in(sent: list[bytes], send: Callable[[Bus, bytes], None]) -> Callable[[Bus, bytes], None]:
+    """The same call, which also keeps what is sent."""
+
+    def kept(bus: Bus, lines: bytes) -> None:
+        sent.append(lines)
+        send(bus, lines)
+
+    return kept
+
+
 class EveryTest(unittest.TestCase):
     """Programs that meet every order. What is expected is written down by hand, from the scenes."""
 
@@ -523,6 +533,31 @@ class EveryTest(unittest.TestCase):
             asking.append(bus.asking)
         # `list` has served light, or light asks after it
         self.assertCountEqual(asking, [(), (), (), ("light",)])
+
+    def test_lines_that_are_known_go_with_the_next_one(self) -> None:
+        sent: list[bytes] = []
+        numbers = []
+        with unittest.mock.patch.object(EveryBus, "_send", autospec=True, side_effect=_kept_in(sent, EveryBus._send)):
+            for bus in self.every("any\ntrack\nraise light 2A\nclose\n"):
+                bus.policy(Policy.ALL)
+                numbers.append(bus.answer.number)
+                bus.serve()
+                while bus.wait():
+                    bus.serve()
+                numbers.append(bus.answer.number)
+        first = [b"policy all\n", b"serve\n", b"wait\n", b"again\n", b"same\n"]
+        # light's interrupt comes before the first `serve`, or in the wait behind it
+        self.assertEqual(sent, [*first, b"policy all\nserve\n", b"wait\n", b"serve\n", b"wait\n", b"again\n"])
+        self.assertEqual(numbers, [1, 3, 6, 10])
+
+    def test_another_line_behind_one_that_is_known(self) -> None:
+        with self.assertRaises(daskreyf.Differs) as differs:
+            for bus in self.every("any\ntrack\nraise light 2A\nclose\n"):
+                with bus:
+                    bus.policy(Policy.ALL)
+                    bus.serve() if bus.order == 1 else bus.reset()
+        self.assertEqual(differs.exception.due, "serve")
+        self.assertTrue(differs.exception.__notes__[0].endswith(f"replays:\n{self.ADDRESSED}policy all"))
 
     def test_a_scene_without_tracks_has_one_order(self) -> None:
         orders = [(bus.order, bus.wait(), bus.serve()) for bus in self.every("any\nclose\n")]
@@ -661,7 +696,8 @@ class EveryTest(unittest.TestCase):
                     runs += 1
                     bus.serve() if runs == 1 else bus.reset()
         self.assertEqual((differs.exception.due, differs.exception.answer.lines), ("serve", ("due serve",)))
-        self.assertRegex(str(differs.exception), r"^line 3: Differs: 'serve' was due$")
+        # behind `serve`, `again` and `same`
+        self.assertRegex(str(differs.exception), r"^line 4: Differs: 'serve' was due$")
         self.assertEqual(differs.exception.__notes__, [f"In order 2 (I3CBUS_ORDER=-), which `i3cbus run` replays:\n{self.ADDRESSED}".rstrip()])
         self.assertEqual(bus.close(), 1)
 

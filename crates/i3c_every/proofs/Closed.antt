@@ -1,5 +1,5 @@
 -- What is left where a program's run is over leads on.
-use Rattle.std.proofs.Common.{◌≡◌, ◌∙◌, ◌<◌, ◌≤◌, ◌+◌, ◌++◌, ℕ, Bool, true, false, IfOk, List, Contains, Option, None, Some, Err, Ok, Result, ap, arith, get_or, inl, inr, length, refl, reverse, subst, sym}
+use Rattle.std.proofs.Common.{◌≡◌, ◌∙◌, ◌<◌, ◌≤◌, ◌+◌, ◌++◌, ◌∷◌, [], ℕ, Bool, true, false, IfOk, List, Contains, Option, None, Some, Err, Ok, Result, ap, arith, get_or, inl, inr, length, refl, reverse, subst, sym}
 use Rattle.std.specs.List.{slice_get}
 use Rattle.std.specs.Prelude.{IfErr, MatchOption, slice_index}
 use Rattle.std.specs.Global.{Vec}
@@ -23,6 +23,11 @@ use Rattle.i3c_every.specs.Closing.{AllLeadOn, AreDone, ClosesAll, IsBehind, Lea
 use Rattle.i3c_every.specs.Meeting.{FailsAt, IsBegunAt}
 use Rattle.i3c_every.specs.declared.met.Met.{Met}
 use Rattle.i3c_every.proofs.Between.{taken_of}
+
+-- no block leads on by itself
+pub none_lead : {S L : Type 0} (steps : S → L → ℕ → S → Type 0) (blocks : List (Vec (Vec L))) (start : S) → blocks ≡ [] → AllLeadOn steps blocks start
+none_lead steps blocks start none [] whole = (start, refl)
+none_lead steps blocks start none (order ∷ before) whole = absurd (omega (arith, whole.1, ap length none))
 
 -- no line of a track is next behind the last track
 pub none_behind : {L : Type 0} (tracks : List (Vec L)) (places : List ℕ) (t : ℕ) (line : L) → length tracks ≤ t → IsNextAt (track tracks) places t line → ⊥

@@ -1,5 +1,5 @@
 -- What was tried of a program's runs while lines of the tracks run.
-use Rattle.std.proofs.Common.{◌≡◌, ◌∙◌, ℕ, List, [], ◌∷◌, ◌++◌, Contains, Option, None, Some, ap, append-nil, refl, subst, sym}
+use Rattle.std.proofs.Common.{◌≡◌, ◌∙◌, ℕ, zero, suc, List, [], ◌∷◌, ◌++◌, Contains, Option, None, Some, ap, append-nil, arith, refl, subst, sym}
 use Rattle.std.specs.Global.{Vec}
 use Rattle.std.proofs.lemmas.List.{append_assoc, map_push}
 use Rattle.std.proofs.lemmas.Option.{same_Some}
@@ -16,6 +16,11 @@ use Rattle.i3c_every.specs.Meeting.{AreMet, IsSeenBehind, IsToldBehind, waited}
 none_is_some : {X : Type 0} (o : Option X) (x : X) → o ≡ None → o ≡ Some x → ⊥
 none_is_some o x none some = cc
 
+-- the one element of a list
+only_one : {X : Type 0} (y x : X) → Contains (y ∷ []) x → x ≡ y
+only_one y x (zero, few, is) = sym is
+only_one y x (suc k, few, is) = absurd (omega (arith, few))
+
 -- the answers of a run and one step more, and the state behind them
 told_more : {S A : Type 0} (run : List (Step S A)) (step : Step S A) → told_by (run ++ step ∷ []) ≡ told_by run ++ step.answer ∷ []
 told_more {S} {A} run step = map_push (λ (s : Step S A). s.answer) run step
@@ -26,17 +31,20 @@ state_more start (first ∷ run) step = state_more first.state run step
 
 module _ {S L P A : Type 0} (steps : S → L → ℕ → S → Type 0) (answers : S → P → ℕ → A → S → Type 0) (sees : S → A → Type 0) (tracks : List (Vec L)) where
   -- each order is told by one of the steps, in each way
-  each_met : (old : Met S) (sent : Sent P) (all : List (Step (Met S) (Told A))) → AreMet steps answers sees tracks old sent all → (order : List Turn) → MayRun tracks old.places.items sent order → (way : ℕ)
+  pub each_met : (old : Met S) (sent : Sent P) (all : List (Step (Met S) (Told A))) → AreMet steps answers sees tracks old sent all → (order : List Turn) → MayRun tracks old.places.items sent order → (way : ℕ)
       → (step : Step (Met S) (Told A)) × Contains all step × IsToldSo steps answers sees tracks old sent order way step
   each_met old (Sent.Meets line) all met order may way = met.each order may way
   each_met old (Sent.Alone line) all met order may way = met.each order may way
   each_met old Sent.Waits all met order may way = met.each order may
+  each_met old (Sent.Marks mark) all (step, one, stays, none) order may way = (step, subst (λ l. Contains l step) (sym one) (0, omega arith, refl), stays)
 
   -- and each step is of the order and the way that it keeps
   from_met : (old : Met S) (sent : Sent P) (all : List (Step (Met S) (Told A))) → AreMet steps answers sees tracks old sent all → (step : Step (Met S) (Told A)) → Contains all step → HasMet steps answers sees tracks old sent step.answer step.state
   from_met old (Sent.Meets line) all met step at = met.from step at
   from_met old (Sent.Alone line) all met step at = met.from step at
   from_met old Sent.Waits all met step at = met.from step at
+  from_met old (Sent.Marks mark) all (one, is, stays, none) step at =
+      subst (λ (s : Step (Met S) (Told A)). HasMet steps answers sees tracks old (Sent.Marks mark) s.answer s.state) (sym (only_one one step (subst (λ l. Contains l step) is at))) ([], refl, stays, none)
 
   module _ (program : List (Told A) → Option (Sent P)) (start : Met S) (tried : List (List (Step (Met S) (Told A)))) where
     -- where all answers were tried, all orders were
@@ -74,7 +82,7 @@ module _ {S L P A : Type 0} (steps : S → L → ℕ → S → Type 0) (answers 
           led_same other.places.items other.state order end last (subst (λ (s : S). LeadsFrom steps tracks other.places.items s order end) states (subst (λ (p : List ℕ). LeadsFrom steps tracks p one.state order end) places led)) leads
 
       -- two steps tell the same, and lead to equal states and places
-      abbrev AreSame : Step (Met S) (Told A) → Step (Met S) (Told A) → Type 0
+      abbrev pub AreSame : Step (Met S) (Told A) → Step (Met S) (Told A) → Type 0
       AreSame one other = (one.answer ≡ other.answer) × (one.state.state ≡ other.state.state) × (one.state.places.items ≡ other.state.places.items)
 
       told_alike : (one other : Met S) (line : P) (order : List Turn) (way : ℕ) (step next : Step (Met S) (Told A)) → one.state ≡ other.state → one.places.items ≡ other.places.items → IsToldBehind steps answers tracks one order line way step
@@ -91,11 +99,15 @@ module _ {S L P A : Type 0} (steps : S → L → ℕ → S → Type 0) (answers 
           let answer : is.answer ≡ its.answer = determined.sight next.state.state is.answer its.answer (subst (λ (s : S). sees s is.answer) state is.seen) its.seen in
           (is.told ∙ ap (λ (a : A). waited order a) answer ∙ sym its.told, state, is.places ∙ ap (λ (p : List ℕ). places_after p order) places ∙ sym its.places)
 
-      so_alike : (one other : Met S) (sent : Sent P) (order : List Turn) (way : ℕ) (step next : Step (Met S) (Told A)) → one.state ≡ other.state → one.places.items ≡ other.places.items → IsToldSo steps answers sees tracks one sent order way step
+      pub so_alike : (one other : Met S) (sent : Sent P) (order : List Turn) (way : ℕ) (step next : Step (Met S) (Told A)) → one.state ≡ other.state → one.places.items ≡ other.places.items → IsToldSo steps answers sees tracks one sent order way step
           → IsToldSo steps answers sees tracks other sent order way next → AreSame step next
       so_alike one other (Sent.Meets line) order way step next states places is its = told_alike one other line order way step next states places is its
       so_alike one other (Sent.Alone line) order way step next states places is its = told_alike one other line order way step next states places is its
       so_alike one other Sent.Waits order way step next states places is its = seen_alike one other order step next states places is its
+      so_alike one other (Sent.Marks mark) order way step next states places (answer, told, seen, (state, stands)) (reply, tells, looks, (leads, at)) =
+          let same : step.state.state ≡ next.state.state = state ∙ states ∙ sym leads in
+          let alike : answer ≡ reply = determined.sight next.state.state answer reply (subst (λ (s : S). sees s answer) same seen) looks in
+          (told ∙ ap (λ (a : A). Told.Marked a) alike ∙ sym tells, same, stands ∙ places ∙ sym at)
 
       -- a run was tried that is alike
       pub record IsTriedAs (told : List (Told A)) (end : Met S) : Type 0 where

@@ -8,19 +8,21 @@ use Rattle.i3c_orders.specs.Runs.{state_after, told_by}
 use Rattle.i3c_every.specs.declared.met.Met.{Met}
 use Rattle.i3c_every.specs.declared.sent.Sent.{Sent}
 use Rattle.i3c_every.specs.declared.told.Told.{Told}
-use Rattle.i3c_every.specs.Meeting.{AreAwaited, IsSeenBehind, IsToldBehind}
+use Rattle.i3c_every.specs.Meeting.{AreAwaited, HasStayed, IsSeenBehind, IsToldBehind}
 
--- the tracks' lines that may run before what a program sends, the newest turn first: any before a line that meets them, none before another one, and while it waits a line at least, if one is left
+-- the tracks' lines that may run before what a program sends, the newest turn first: any before a line that meets them, none before another one or a mark, and while it waits a line at least, if one is left
 abbrev pub MayRun : {L P : Type 0} → List (Vec L) → List ℕ → Sent P → List Turn → Type 0
 MayRun tracks places (Sent.Meets line) order = AreTaken tracks places order
 MayRun tracks places (Sent.Alone line) order = order ≡ []
 MayRun tracks places Sent.Waits order = AreAwaited tracks places order
+MayRun tracks places (Sent.Marks mark) order = order ≡ []
 
 -- behind them, and where its line goes a way, a program is told so
 abbrev pub IsToldSo : {S L P A : Type 0} → (S → L → ℕ → S → Type 0) → (S → P → ℕ → A → S → Type 0) → (S → A → Type 0) → List (Vec L) → Met S → Sent P → List Turn → ℕ → Step (Met S) (Told A) → Type 0
 IsToldSo steps answers sees tracks old (Sent.Meets line) order way step = IsToldBehind steps answers tracks old order line way step
 IsToldSo steps answers sees tracks old (Sent.Alone line) order way step = IsToldBehind steps answers tracks old order line way step
 IsToldSo steps answers sees tracks old Sent.Waits order way step = IsSeenBehind steps sees tracks old order step
+IsToldSo steps answers sees tracks old (Sent.Marks mark) order way step = HasStayed sees old step
 
 mutual
   -- all that goes on from this run was tried: the program's run is over here, and was tried; or it sends a line, which meets each order of the tracks' lines in each way

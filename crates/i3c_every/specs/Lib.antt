@@ -1,5 +1,7 @@
 pub mod Answered
 pub mod Closing
 pub mod Every
+pub mod Marked
 pub mod Meeting
 pub mod Seen
+pub mod Taking

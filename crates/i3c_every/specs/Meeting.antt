@@ -47,6 +47,18 @@ abbrev pub IsNothingLeft : {S A : Type 0} → (S → A → Type 0) → Met S →
 IsNothingLeft {S} {A} sees old all =
     (step : Step (Met S) (Told A)) × (answer : A) × (all ≡ step ∷ []) × (step.answer ≡ Told.NothingLeft answer) × sees old.state answer × (step.state.state ≡ old.state) × (step.state.places.items ≡ old.places.items) × (step.state.turns.items ≡ [])
 
+-- two runs are in the same state, at the same places
+abbrev pub HasSameState : {S : Type 0} → Met S → Met S → Type 0
+HasSameState one other = (one.state ≡ other.state) × (one.places.items ≡ other.places.items)
+
+-- a step tells that a mark is taken, in the same state at the same places
+abbrev pub HasStayed : {S A : Type 0} → (S → A → Type 0) → Met S → Step (Met S) (Told A) → Type 0
+HasStayed {S} {A} sees old step = (answer : A) × (step.answer ≡ Told.Marked answer) × sees step.state.state answer × HasSameState step.state old
+
+-- the one thing that a mark is told: the run stays where it is, and no line of the tracks runs
+abbrev pub IsMarkTold : {S A : Type 0} → (S → A → Type 0) → Met S → List (Step (Met S) (Told A)) → Type 0
+IsMarkTold {S} {A} sees old all = (step : Step (Met S) (Told A)) × (all ≡ step ∷ []) × HasStayed sees old step × (step.state.turns.items ≡ [])
+
 -- no line of the tracks is left
 abbrev pub IsNoneLeft : {L : Type 0} → List (Vec L) → List ℕ → Type 0
 IsNoneLeft tracks places = (order : List Turn) → AreTaken tracks places order → order ≡ []
@@ -65,6 +77,7 @@ abbrev pub AreMet : {S L P A : Type 0} → (S → L → ℕ → S → Type 0) �
 AreMet steps answers sees tracks old (Sent.Meets line) all = AreTold steps answers tracks old (AreTaken tracks old.places.items) line all
 AreMet steps answers sees tracks old (Sent.Alone line) all = AreTold steps answers tracks old (λ order. order ≡ []) line all
 AreMet steps answers sees tracks old Sent.Waits all = AreSeenBehind steps sees tracks old all
+AreMet steps answers sees tracks old (Sent.Marks mark) all = IsMarkTold sees old all
 
 -- a node begins where a run is, with no turn
 pub record IsBegunAt {S : Type 0} (met : Met S) (start : Node S) : Type 0 where
@@ -76,8 +89,9 @@ pub record IsBegunAt {S : Type 0} (met : Met S) (start : Node S) : Type 0 where
 abbrev pub FailsAt : {S L : Type 0} → (S → L → ℕ → S → Type 0) → (S → L → ℕ) → (S → L → ℕ → Type 0) → List (Vec L) → Limits → Met S → Stop → Type 0
 FailsAt {S} steps last breaks tracks limits old stop = (stop ≡ Stop.Memory) ⊎ ((start : Node S) × IsBegunAt old start × Reaches steps last breaks tracks start limits (Err stop))
 
--- why nothing is told of what a program sends: a line that is sent alone fails for want of memory alone
+-- why nothing is told of what a program sends: a line that is sent alone, or a mark, fails for want of memory alone
 abbrev pub Fails : {S L P : Type 0} → (S → L → ℕ → S → Type 0) → (S → L → ℕ) → (S → L → ℕ → Type 0) → List (Vec L) → Limits → Met S → Sent P → Stop → Type 0
 Fails steps last breaks tracks limits old (Sent.Meets line) stop = FailsAt steps last breaks tracks limits old stop
 Fails steps last breaks tracks limits old (Sent.Alone line) stop = stop ≡ Stop.Memory
 Fails steps last breaks tracks limits old Sent.Waits stop = FailsAt steps last breaks tracks limits old stop
+Fails steps last breaks tracks limits old (Sent.Marks mark) stop = stop ≡ Stop.Memory

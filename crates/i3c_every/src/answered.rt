@@ -14,7 +14,7 @@ use std::alloc::{AllocError, Global};
 use std::hash::{FoldHasher, Hash, Hasher};
 
 /// The hash of places and of the state that a runner is in.
-fn hash_of<M: Answering>(places: &[usize], runner: &M::Runner) -> u64 {
+pub(crate) fn hash_of<M: Answering>(places: &[usize], runner: &M::Runner) -> u64 {
     let mut hasher = FoldHasher::default();
     places.hash(&mut hasher);
     hasher.write_u64(M::hash(runner));
@@ -148,22 +148,19 @@ fn add_answers<M: Answering>(
     Ok(())
 }
 
-/// What a line is answered at some nodes.
+/// What a line is answered at some nodes, on a runner that may be in any state.
 pub(crate) fn answers_at<M: Answering>(
     alloc: Global,
     nodes: &[Node<M>],
     rules: &M::Rules,
     line: &M::ProgramLine,
+    runner: &mut M::Runner,
 ) -> Result<Vec<Step<Met<M>, Told<M::Answer>>>, AllocError>
     ensures { IfOk result (λ steps. AreAnswered (M.answers rules.now) nodes.now line.now steps.items) }
 {
-    let Some(first) = nodes.first() else {
-        return Ok(Vec::new(alloc));
-    };
-    let mut runner = first.state.runner(alloc)?;
     let mut steps = Hashed::new(alloc);
     for index in 0..nodes.len() {
-        add_answers(alloc, &nodes[index], rules, line, &mut runner, &mut steps)?;
+        add_answers(alloc, &nodes[index], rules, line, runner, &mut steps)?;
     }
     let Hashed { values, .. } = steps;
     Ok(values)

@@ -1,4 +1,4 @@
-ghost use Rattle.std.specs.Prelude.{◌≡◌, ◌<◌, ◌≤◌, ◌^◌, ◌↔◌, ℕ, IfOk, IsTrue};
+ghost use Rattle.std.specs.Prelude.{◌≡◌, ◌<◌, ◌≤◌, ◌^◌, ◌↔◌, ℕ, IfOk, IsTrue, OnOk};
 
 use i3c_explore::Machine;
 use std::alloc::{AllocError, Global};
@@ -40,8 +40,13 @@ pub trait Answering: Machine {
     ) -> Result<Self::Answer, AllocError>
         ensures { IfOk result (λ answer. answers rules.now self.now line.now way answer (Self.shown runner.new)) };
 
-    /// What a program that waits is told in this state.
-    fn look(&self, alloc: Global) -> Result<Self::Answer, AllocError>
+    /// A runner comes to this state, whatever state it is in.
+    fn come(&self, alloc: Global, runner: &mut Self::Runner) -> Result<(), AllocError>
+        ensures { OnOk result (Self.shown runner.new ≡ self.now) };
+
+    /// What a program that waits is told in this state, in which a runner is.
+    fn look(&self, alloc: Global, runner: &Self::Runner) -> Result<Self::Answer, AllocError>
+        requires { Self.shown runner.now ≡ self.now }
         ensures { IfOk result (sees self.now) };
 
     /// Whether two answers are the same.

@@ -1,4 +1,4 @@
-ghost use Rattle.std.specs.Prelude.{◌≡◌, ◌++◌, Contains, IfErr, IfOk, MatchOption, false, slice_get, slice_index, true};
+ghost use Rattle.std.specs.Prelude.{◌≡◌, ◌++◌, ◌↔◌, [], Contains, IfErr, IfOk, IsTrue, MatchOption, false, slice_get, slice_index, true};
 ghost use Rattle.i3c_explore.specs.declared.node.Node.{Node as NodeValue};
 ghost use Rattle.i3c_every.specs.Closing.{AllLeadOn, AreDone, ClosesAll, IsBehind, StopsClosing, StopsThere};
 
@@ -19,15 +19,16 @@ pub fn close<M: Answering>(
     tracks: &Tracks<M>,
     rest: &[Vec<Vec<M::Line>>],
     met: &Met<M>,
+    runner: &mut M::Runner,
 ) -> Result<(), Stop>
     ensures closed { IfOk result (λ _. ClosesAll M.steps tracks.now.lines.items rest.now met.now) }
     ensures stopped { IfErr result (StopsClosing M.steps M.last M.breaks tracks.now.lines.items rest.now tracks.now.limits met.now) }
 {
-    let nodes = match reached_from(alloc, &tracks.lines, tracks.limits, met) {
+    let nodes = match reached_from(alloc, &tracks.lines, tracks.limits, met, runner) {
         Ok(nodes) => nodes,
         Err(stop) => return Err(stop),
     };
-    close_all(alloc, &tracks.lines, tracks.limits, rest, &nodes)
+    close_all(alloc, &tracks.lines, tracks.limits, rest, &nodes, runner)
 }
 
 /// Runs these blocks from each node at which no line is left in the tracks.
@@ -37,12 +38,13 @@ fn close_all<M: Answering>(
     limits: Limits,
     rest: &[Vec<Vec<M::Line>>],
     nodes: &[Node<M>],
+    runner: &mut M::Runner,
 ) -> Result<(), Stop>
     ensures closed { IfOk result (λ _. (node : NodeValue M) → Contains nodes.now node → AreDone tracks.now node.places.items → AllLeadOn M.steps rest.now node.state) }
     ensures stopped { IfErr result (λ stop. (node : NodeValue M) × Contains nodes.now node × StopsThere M.steps M.last M.breaks tracks.now rest.now limits node stop) }
 {
     for index in 0..nodes.len() {
-        match close_at(alloc, tracks, limits, rest, &nodes[index]) {
+        match close_at(alloc, tracks, limits, rest, &nodes[index], runner) {
             Ok(()) => {}
             Err(stop) => return Err(stop),
         }
@@ -57,18 +59,29 @@ fn close_at<M: Answering>(
     limits: Limits,
     rest: &[Vec<Vec<M::Line>>],
     node: &Node<M>,
+    runner: &mut M::Runner,
 ) -> Result<(), Stop>
     ensures closed { IfOk result (λ _. AreDone tracks.now node.now.places.items → AllLeadOn M.steps rest.now node.now.state) }
     ensures stopped { IfErr result (StopsThere M.steps M.last M.breaks tracks.now rest.now limits node.now) }
 {
+    if has_none(rest) {
+        return Ok(());
+    }
     if !are_done(tracks, &node.places) {
         return Ok(());
     }
-    let start = copied(alloc, &node.state)?;
+    let start = copied(alloc, &node.state, runner)?;
     match explore(alloc, start, rest, limits) {
         Ok(_) => Ok(()),
         Err(stop) => Err(behind(node, stop)),
     }
+}
+
+/// Whether there is no block.
+fn has_none<B>(blocks: &[B]) -> bool
+    ensures { IsTrue result ↔ (blocks.now ≡ []) }
+{
+    blocks.is_empty()
 }
 
 /// Why an exploration from a node stopped, told from where the node's own order begins.

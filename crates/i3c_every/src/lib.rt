@@ -6,8 +6,8 @@
 //!
 //! * `answering` is a machine whose lines are answered ([`Answering`]). The program's lines are of another type than those of
 //!   the tracks.
-//! * `sent` is what a program sends: a line before which lines of the tracks may run, a line before which none runs, or that
-//!   it waits until something happens. `told` is what it is told.
+//! * `sent` is what a program sends: a line before which lines of the tracks may run, a line before which none runs, that it
+//!   waits until something happens, or a mark, which says what it does next (`mark`). `told` is what it is told.
 //! * `met` is where a run is: a state, and the places in the tracks.
 //! * `answered` has the answers that a line is given in some states, and `seen` what a program that waited sees there.
 //!   `hashed` finds an answer that was given before.
@@ -26,6 +26,9 @@
 //! program may have, by the turns and the ways that its states keep ([`Met`]). If the machine is determined too, then of every
 //! run that the program may have one was tried with the same answers, the same state at its end, and the same places.
 //!
+//! [`marked_programs_meet_every_order`] is the same for a program that leaves a run where it sent its next line before, in the
+//! same state at the same places, and goes on as it did there. By a [`Mark`] it says what it does next.
+//!
 //! Not claimed: that steps are few, that there is memory enough, that the limits are enough, or how much time it takes. A
 //! program has to end each of its runs. If a machine isn't determined, only what it did and answered was tried. Nor does the
 //! theorem speak of expectations: a line whose orders break one has no answers, and says why (`Fails` in specs/Meeting.antt).
@@ -36,6 +39,8 @@ mod answering;
 mod closing;
 mod hashed;
 mod laws;
+mod mark;
+mod marks;
 mod met;
 mod seen;
 mod sent;
@@ -44,7 +49,9 @@ mod tracks;
 
 pub use answering::Answering;
 pub use closing::close;
-pub use laws::programs_meet_every_order;
+pub use laws::{marked_programs_meet_every_order, programs_meet_every_order};
+pub use mark::Mark;
+pub use marks::{Marks, Taken, Taking};
 pub use met::Met;
 pub use sent::Sent;
 pub use told::Told;

@@ -5,7 +5,6 @@ use crate::answered::met_at;
 use crate::answering::Answering;
 use crate::met::Met;
 use crate::told::Told;
-use crate::tracks::copied;
 use i3c_explore::Node;
 use i3c_orders::Step;
 use std::alloc::{AllocError, Global};
@@ -18,12 +17,13 @@ fn has_turns<M>(node: &Node<M>) -> bool
     !node.order.is_empty()
 }
 
-/// Adds what a program that waited sees at a node, if lines of the tracks ran before it.
+/// Adds what a program that waited sees at a node, if lines of the tracks ran before it, on a runner that may be in any state.
 ///
 /// Two nodes differ in their places or their states, so no steps are compared.
 fn add_seen<M: Answering>(
     alloc: Global,
     node: &Node<M>,
+    runner: &mut M::Runner,
     steps: &mut Vec<Step<Met<M>, Told<M::Answer>>>,
 ) -> Result<(), AllocError>
     ensures { OnOk result (IsSeenAdded M.sees node.now steps.old.items steps.new.items) }
@@ -31,8 +31,9 @@ fn add_seen<M: Answering>(
     if !has_turns(node) {
         return Ok(());
     }
-    let answer = node.state.look(alloc)?;
-    let state = copied(alloc, &node.state)?;
+    node.state.come(alloc, runner)?;
+    let answer = node.state.look(alloc, runner)?;
+    let state = M::kept(alloc, runner, None)?;
     let met = met_at(alloc, node, state, 0)?;
     steps.push(Step {
         answer: Told::Happened(answer),
@@ -41,16 +42,17 @@ fn add_seen<M: Answering>(
     Ok(())
 }
 
-/// What a program that waited sees at the nodes before which lines of the tracks ran.
+/// What a program that waited sees at the nodes before which lines of the tracks ran, on a runner that may be in any state.
 pub(crate) fn seen_at<M: Answering>(
     alloc: Global,
     nodes: &[Node<M>],
+    runner: &mut M::Runner,
 ) -> Result<Vec<Step<Met<M>, Told<M::Answer>>>, AllocError>
     ensures { IfOk result (λ steps. AreSeen M.sees nodes.now steps.items) }
 {
     let mut steps = Vec::new(alloc);
     for index in 0..nodes.len() {
-        add_seen(alloc, &nodes[index], &mut steps)?;
+        add_seen(alloc, &nodes[index], runner, &mut steps)?;
     }
     Ok(steps)
 }

@@ -1,3 +1,5 @@
+use crate::mark::Mark;
+
 /// What a program sends.
 #[derive(Drop)]
 pub enum Sent<L> {
@@ -7,4 +9,6 @@ pub enum Sent<L> {
     Alone(L),
     /// It waits: a line of the tracks runs at least, if one is left.
     Waits,
+    /// It says what it does next: no line runs, and the run stays where it is.
+    Marks(Mark),
 }

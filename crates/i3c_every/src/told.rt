@@ -7,4 +7,6 @@ pub enum Told<A> {
     Happened(A),
     /// No line of the tracks is left.
     NothingLeft(A),
+    /// Its mark is taken.
+    Marked(A),
 }

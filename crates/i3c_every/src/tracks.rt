@@ -2,7 +2,7 @@ ghost use Rattle.std.specs.Prelude.{◌≡◌, ◌<◌, ◌⊎◌, [], Err, IfEr
 ghost use Rattle.i3c_explore.specs.declared.node.Node.{Node as NodeValue};
 ghost use Rattle.i3c_explore.specs.declared.stop.Stop.{Stop as StopValue};
 ghost use Rattle.i3c_explore.specs.Reached.{AreTaken, Reaches};
-ghost use Rattle.i3c_every.specs.Meeting.{AreSeenBehind, AreTold, FailsAt, IsBegunAt, IsNothingLeft};
+ghost use Rattle.i3c_every.specs.Meeting.{AreSeenBehind, AreTold, FailsAt, IsBegunAt, IsMarkTold, IsNothingLeft};
 
 use crate::answered::answers_at;
 use crate::answering::Answering;
@@ -26,7 +26,7 @@ pub struct Tracks<M: Answering> {
 }
 
 impl<M: Answering> Responder for Tracks<M> {
-    ghost use Rattle.i3c_every.specs.Meeting.{AreMet, Fails};
+    ghost use Rattle.i3c_every.specs.Meeting.{AreMet, Fails, HasSameState};
 
     type State = Met<M>;
 
@@ -36,6 +36,10 @@ impl<M: Answering> Responder for Tracks<M> {
 
     type Fault = Stop;
 
+    type Room = M::Runner;
+
+    ghost alike = { HasSameState };
+
     ghost gives = { λ tracks. AreMet M.steps (M.answers tracks.rules) M.sees tracks.lines.items };
 
     ghost fails = { λ tracks. Fails M.steps M.last M.breaks tracks.lines.items tracks.limits };
@@ -43,17 +47,27 @@ impl<M: Answering> Responder for Tracks<M> {
     fn steps(
         &self,
         alloc: Global,
+        runner: &mut M::Runner,
         met: &Met<M>,
         sent: &Sent<M::ProgramLine>,
     ) -> Result<Vec<Step<Met<M>, Told<M::Answer>>>, Stop> {
         let line = match sent {
             Sent::Meets(line) => {
-                return meeting(alloc, &self.lines, self.limits, met, &self.rules, line);
+                return meeting(
+                    alloc,
+                    &self.lines,
+                    self.limits,
+                    met,
+                    &self.rules,
+                    line,
+                    runner,
+                );
             }
-            Sent::Waits => return waiting(alloc, &self.lines, self.limits, met),
+            Sent::Waits => return waiting(alloc, &self.lines, self.limits, met, runner),
+            Sent::Marks(_) => return marking(alloc, met, runner),
             Sent::Alone(line) => line,
         };
-        let steps = alone(alloc, &self.lines, met, &self.rules, line)?;
+        let steps = alone(alloc, &self.lines, met, &self.rules, line, runner)?;
         Ok(steps)
     }
 
@@ -62,24 +76,34 @@ impl<M: Answering> Responder for Tracks<M> {
             (Sent::Meets(one), Sent::Meets(other)) => M::is_same_line(one, other),
             (Sent::Alone(one), Sent::Alone(other)) => M::is_same_line(one, other),
             (Sent::Waits, Sent::Waits) => true,
+            (Sent::Marks(one), Sent::Marks(other)) => one.is_same(other),
             _ => false,
         }
     }
 }
 
-/// A copy of a state.
-pub(crate) fn copied<M: Answering>(alloc: Global, state: &M) -> Result<M, AllocError>
-    ensures { IfOk result (λ copy. copy ≡ state.now) }
+/// A copy of a state, by a runner that comes to it.
+pub(crate) fn copied<M: Answering>(
+    alloc: Global,
+    state: &M,
+    runner: &mut M::Runner,
+) -> Result<M, AllocError>
+    ensures state { IfOk result (λ copy. copy ≡ state.now) }
+    ensures runner { IfOk result (λ _. M.shown runner.new ≡ state.now) }
 {
-    let runner = state.runner(alloc)?;
-    M::kept(alloc, &runner, None)
+    state.come(alloc, runner)?;
+    M::kept(alloc, runner, None)
 }
 
-/// A node that begins where a run is, with no turn.
-fn start_of<M: Answering>(alloc: Global, met: &Met<M>) -> Result<Node<M>, AllocError>
+/// A node that begins where a run is, with no turn, by a runner that comes to it.
+fn start_of<M: Answering>(
+    alloc: Global,
+    met: &Met<M>,
+    runner: &mut M::Runner,
+) -> Result<Node<M>, AllocError>
     ensures { IfOk result (IsBegunAt met.now) }
 {
-    let state = copied(alloc, &met.state)?;
+    let state = copied(alloc, &met.state, runner)?;
     let places = met.places.clone()?;
     Ok(Node {
         state,
@@ -89,39 +113,42 @@ fn start_of<M: Answering>(alloc: Global, met: &Met<M>) -> Result<Node<M>, AllocE
     })
 }
 
-/// What a line is answered where a run is, behind no line of the tracks.
+/// What a line is answered where a run is, behind no line of the tracks, on a runner that may be in any state.
 pub(crate) fn alone<M: Answering>(
     alloc: Global,
     tracks: &[Vec<M::Line>],
     met: &Met<M>,
     rules: &M::Rules,
     line: &M::ProgramLine,
+    runner: &mut M::Runner,
 ) -> Result<Vec<Step<Met<M>, Told<M::Answer>>>, AllocError>
     ensures told { IfOk result (λ steps. AreTold M.steps (M.answers rules.now) tracks.now met.now (λ order. order ≡ []) line.now steps.items) }
     ensures some { IfOk result (λ steps. 0 < length steps.items) }
 {
     let mut nodes = Vec::new(alloc);
-    nodes.push(start_of(alloc, met)?)?;
-    answers_at(alloc, &nodes, rules, line)
+    nodes.push(start_of(alloc, met, runner)?)?;
+    answers_at(alloc, &nodes, rules, line, runner)
 }
 
-/// The nodes that are reached from where a run is. If the places are of other tracks, it says that there was no memory.
+/// The nodes that are reached from where a run is, on a runner that may be in any state. If the places are of other tracks, it
+/// says that there was no memory.
 pub(crate) fn reached_from<M: Answering>(
     alloc: Global,
     tracks: &[Vec<M::Line>],
     limits: Limits,
     met: &Met<M>,
+    runner: &mut M::Runner,
 ) -> Result<Vec<Node<M>>, Stop>
     ensures { (result ≡ Err StopValue.Memory) ⊎ ((start : NodeValue M) × IsBegunAt met.now start × (length start.places.items ≡ length tracks.now) × Reaches M.steps M.last M.breaks tracks.now start limits result) }
 {
-    let start = start_of(alloc, met)?;
+    let start = start_of(alloc, met, runner)?;
     if start.places.len() != tracks.len() {
         return Err(Stop::Memory);
     }
-    reach(alloc, start, tracks, limits)
+    reach(alloc, start, tracks, limits, runner)
 }
 
-/// What a line is answered behind each order of the tracks' lines.
+/// What a line is answered behind each order of the tracks' lines, on a runner that may be in any state.
 pub(crate) fn meeting<M: Answering>(
     alloc: Global,
     tracks: &[Vec<M::Line>],
@@ -129,39 +156,42 @@ pub(crate) fn meeting<M: Answering>(
     met: &Met<M>,
     rules: &M::Rules,
     line: &M::ProgramLine,
+    runner: &mut M::Runner,
 ) -> Result<Vec<Step<Met<M>, Told<M::Answer>>>, Stop>
     ensures told { IfOk result (λ steps. AreTold M.steps (M.answers rules.now) tracks.now met.now (AreTaken tracks.now met.now.places.items) line.now steps.items) }
     ensures some { IfOk result (λ steps. 0 < length steps.items) }
     ensures failed { IfErr result (FailsAt M.steps M.last M.breaks tracks.now limits met.now) }
 {
-    let nodes = match reached_from(alloc, tracks, limits, met) {
+    let nodes = match reached_from(alloc, tracks, limits, met, runner) {
         Ok(nodes) => nodes,
         Err(stop) => return Err(stop),
     };
-    let steps = answers_at(alloc, &nodes, rules, line)?;
+    let steps = answers_at(alloc, &nodes, rules, line, runner)?;
     Ok(steps)
 }
 
-/// What a program that waits is told: that something happened, by each order of a line at least; or that nothing is left.
+/// What a program that waits is told: that something happened, by each order of a line at least; or that nothing is left. The
+/// runner may be in any state.
 pub(crate) fn waiting<M: Answering>(
     alloc: Global,
     tracks: &[Vec<M::Line>],
     limits: Limits,
     met: &Met<M>,
+    runner: &mut M::Runner,
 ) -> Result<Vec<Step<Met<M>, Told<M::Answer>>>, Stop>
     ensures told { IfOk result (λ steps. AreSeenBehind M.steps M.sees tracks.now met.now steps.items) }
     ensures some { IfOk result (λ steps. 0 < length steps.items) }
     ensures failed { IfErr result (FailsAt M.steps M.last M.breaks tracks.now limits met.now) }
 {
-    let nodes = match reached_from(alloc, tracks, limits, met) {
+    let nodes = match reached_from(alloc, tracks, limits, met, runner) {
         Ok(nodes) => nodes,
         Err(stop) => return Err(stop),
     };
-    let steps = seen_at(alloc, &nodes)?;
+    let steps = seen_at(alloc, &nodes, runner)?;
     if has_some(&steps) {
         return Ok(steps);
     }
-    let none = nothing_left(alloc, met)?;
+    let none = nothing_left(alloc, met, runner)?;
     Ok(none)
 }
 
@@ -173,13 +203,18 @@ fn has_some<S, A>(steps: &Vec<Step<S, A>>) -> bool
     !steps.is_empty()
 }
 
-/// A run that is where another one is, with no turn.
-fn stayed<M: Answering>(alloc: Global, met: &Met<M>) -> Result<Met<M>, AllocError>
+/// A run that is where another one is, with no turn, by a runner that comes to it.
+fn stayed<M: Answering>(
+    alloc: Global,
+    met: &Met<M>,
+    runner: &mut M::Runner,
+) -> Result<Met<M>, AllocError>
+    ensures runner { IfOk result (λ _. M.shown runner.new ≡ met.now.state) }
     ensures state { IfOk result (λ stays. stays.state ≡ met.now.state) }
     ensures places { IfOk result (λ stays. stays.places.items ≡ met.now.places.items) }
     ensures turns { IfOk result (λ stays. stays.turns.items ≡ []) }
 {
-    let state = copied(alloc, &met.state)?;
+    let state = copied(alloc, &met.state, runner)?;
     let places = met.places.clone()?;
     Ok(Met {
         state,
@@ -193,14 +228,47 @@ fn stayed<M: Answering>(alloc: Global, met: &Met<M>) -> Result<Met<M>, AllocErro
 fn nothing_left<M: Answering>(
     alloc: Global,
     met: &Met<M>,
+    runner: &mut M::Runner,
 ) -> Result<Vec<Step<Met<M>, Told<M::Answer>>>, AllocError>
     ensures { IfOk result (λ steps. IsNothingLeft M.sees met.now steps.items) }
 {
-    let answer = met.state.look(alloc)?;
-    let state = stayed(alloc, met)?;
+    let state = stayed(alloc, met, runner)?;
+    let answer = met.state.look(alloc, runner)?;
     let mut steps = Vec::new(alloc);
     steps.push(Step {
         answer: Told::NothingLeft(answer),
+        state,
+    })?;
+    Ok(steps)
+}
+
+/// What a mark is told, on a runner that may be in any state.
+pub(crate) fn marking<M: Answering>(
+    alloc: Global,
+    met: &Met<M>,
+    runner: &mut M::Runner,
+) -> Result<Vec<Step<Met<M>, Told<M::Answer>>>, Stop>
+    ensures told { IfOk result (λ steps. IsMarkTold M.sees met.now steps.items) }
+    ensures some { IfOk result (λ steps. 0 < length steps.items) }
+    ensures failed { IfErr result (λ stop. stop ≡ StopValue.Memory) }
+{
+    let steps = marked(alloc, met, runner)?;
+    Ok(steps)
+}
+
+/// The one step of a mark: the run stays where it is.
+fn marked<M: Answering>(
+    alloc: Global,
+    met: &Met<M>,
+    runner: &mut M::Runner,
+) -> Result<Vec<Step<Met<M>, Told<M::Answer>>>, AllocError>
+    ensures { IfOk result (λ steps. IsMarkTold M.sees met.now steps.items) }
+{
+    let state = stayed(alloc, met, runner)?;
+    let answer = met.state.look(alloc, runner)?;
+    let mut steps = Vec::new(alloc);
+    steps.push(Step {
+        answer: Told::Marked(answer),
         state,
     })?;
     Ok(steps)

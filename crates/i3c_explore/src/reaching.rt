@@ -64,7 +64,8 @@ fn is_empty<M>(layer: &Layer<M>) -> bool
 }
 
 /// Runs the lines that are left in some tracks at a node's places, from its state, in every order and as many of them as
-/// there are, each in every way. Answers the nodes to which these orders and their beginnings lead: the node itself is one.
+/// there are, each in every way, on a runner that may be in any state. Answers the nodes to which these orders and their
+/// beginnings lead: the node itself is one.
 ///
 /// # Errors
 ///
@@ -74,15 +75,15 @@ pub fn reach<M: Machine>(
     start: Node<M>,
     tracks: &[Vec<M::Line>],
     limits: Limits,
+    runner: &mut M::Runner,
 ) -> Result<Vec<Node<M>>, Stop>
     requires { length start.places.items ≡ length tracks.now }
     ensures { Reaches M.steps M.last M.breaks tracks.now start limits result }
 {
-    let mut runner = start.state.runner(alloc)?;
     let mut layer = layer_of(alloc, start, limits)?;
     let mut found = Vec::new(alloc);
     for _ in 0..u64::MAX {
-        let next = match next_of(alloc, &layer, tracks, &mut runner) {
+        let next = match next_of(alloc, &layer, tracks, runner) {
             Ok(next) => next,
             Err(stop) => return Err(stop),
         };

@@ -196,6 +196,8 @@ aside_flat (Aside.All count) = (refl, omega arith)
 aside_flat (Aside.Tried count) = (refl, omega arith)
 aside_flat (Aside.Script lines) = (refl, omega arith)
 aside_flat (Aside.Choices numbers) = (refl, omega arith)
+aside_flat (Aside.Same count) = (refl, omega arith)
+aside_flat Aside.Known = (refl, omega arith)
 
 record_put : (added : Option (ℕ × Record)) (members : Members) → AreFlat members → AreFlat (put_record added members)
 record_put None members flat = flat

@@ -164,7 +164,7 @@ other_fields name (piece ∷ pieces) members far = other_field piece_keys name (
 
 -- the fields of what an answer says besides
 abbrev aside_keys : List (List ℕ)
-aside_keys = codes "happened" ∷ codes "due" ∷ codes "order" ∷ codes "all" ∷ codes "tried" ∷ codes "script" ∷ codes "choices" ∷ []
+aside_keys = codes "happened" ∷ codes "due" ∷ codes "order" ∷ codes "all" ∷ codes "tried" ∷ codes "script" ∷ codes "choices" ∷ codes "same" ∷ codes "known" ∷ []
 
 aside_key : (aside : Aside) → IsOf aside_keys (aside_field aside)
 aside_key Aside.Nothing = tt
@@ -175,6 +175,8 @@ aside_key (Aside.All count) = refl
 aside_key (Aside.Tried count) = refl
 aside_key (Aside.Script lines) = refl
 aside_key (Aside.Choices numbers) = refl
+aside_key (Aside.Same count) = refl
+aside_key Aside.Known = refl
 
 -- how a line ended
 abbrev verdict_keys : List (List ℕ)
@@ -305,6 +307,8 @@ asides_told told =
       tried = aside_found (codes "tried") told.number told.verdict pieces told.added asking told.aside refl;
       script = aside_found (codes "script") told.number told.verdict pieces told.added asking told.aside refl;
       choices = aside_found (codes "choices") told.number told.verdict pieces told.added asking told.aside refl;
+      same = aside_found (codes "same") told.number told.verdict pieces told.added asking told.aside refl;
+      known = aside_found (codes "known") told.number told.verdict pieces told.added asking told.aside refl;
     }
 
 -- a field that pieces fill by themselves has what the first says, where nothing was there

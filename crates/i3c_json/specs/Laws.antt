@@ -94,6 +94,8 @@ pub record TellsAside (aside : Aside) (answered : Data) : Type 0 where
   pub tried : get (codes "tried") answered ≡ aside_value (codes "tried") aside
   pub script : get (codes "script") answered ≡ aside_value (codes "script") aside
   pub choices : get (codes "choices") answered ≡ aside_value (codes "choices") aside
+  pub same : get (codes "same") answered ≡ aside_value (codes "same") aside
+  pub known : get (codes "known") answered ≡ aside_value (codes "known") aside
 
 -- The object of an answer to a program that meets every order tells how the line ended, whatever other fields it has.
 abbrev pub ToldObjectsTellVerdicts : Type 0

@@ -115,6 +115,8 @@ aside_field (Aside.All count) = Some (codes "all", number (unsigned count))
 aside_field (Aside.Tried count) = Some (codes "tried", number (unsigned count))
 aside_field (Aside.Script lines) = Some (codes "script", text_data lines.now)
 aside_field (Aside.Choices numbers) = Some (codes "choices", text_data numbers.now)
+aside_field (Aside.Same count) = Some (codes "same", number (unsigned count))
+aside_field Aside.Known = Some (codes "known", boolean true)
 
 -- what an answer says besides
 abbrev pub put_aside : Aside → Members → Members

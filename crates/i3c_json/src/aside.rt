@@ -24,6 +24,10 @@ pub enum Aside<'a> {
     Script(&'a [u8]),
     /// The numbers of the answers that they took.
     Choices(&'a [u8]),
+    /// So many of the next lines are answered as in the order before.
+    Same(u64),
+    /// The mark was taken before, where the run is now.
+    Known,
 }
 
 /// Puts what the answer says besides.
@@ -43,5 +47,7 @@ pub(crate) fn put_aside(
         Aside::Tried(count) => put_number(alloc, "tried", *count, fields),
         Aside::Script(lines) => put_text(alloc, "script", lines, fields),
         Aside::Choices(numbers) => put_text(alloc, "choices", numbers, fields),
+        Aside::Same(count) => put_number(alloc, "same", *count, fields),
+        Aside::Known => put_flag(alloc, "known", true, fields),
     }
 }

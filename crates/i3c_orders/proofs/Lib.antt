@@ -1,5 +1,7 @@
 mod Calling
 mod Ending
+pub mod Marking
+pub mod Matching
 mod Numbering
 mod Trying
 mod Turning

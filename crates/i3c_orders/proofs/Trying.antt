@@ -15,24 +15,24 @@ only_one : {X : Type 0} (y x : X) → Contains (y ∷ []) x → x ≡ y
 only_one y x (zero, few, is) = sym is
 only_one y x (suc k, few, is) = absurd (omega (arith, few))
 
-here : {X : Type 0} (y : X) (ys : List X) → Contains (y ∷ ys) y
+pub here : {X : Type 0} (y : X) (ys : List X) → Contains (y ∷ ys) y
 here y ys = (0, omega (arith), refl)
 
-there : {X : Type 0} (y : X) (ys : List X) (x : X) → Contains ys x → Contains (y ∷ ys) x
+pub there : {X : Type 0} (y : X) (ys : List X) (x : X) → Contains ys x → Contains (y ∷ ys) x
 there y ys x h = Contains-append_right (y ∷ []) ys x h
 
-first_or : {X : Type 0} (y : X) (ys : List X) (x : X) → Contains (y ∷ ys) x → (x ≡ y) ⊎ Contains ys x
+pub first_or : {X : Type 0} (y : X) (ys : List X) (x : X) → Contains (y ∷ ys) x → (x ≡ y) ⊎ Contains ys x
 first_or y ys x h = go (Contains-append_cases (y ∷ []) ys x h)
   where
     go : Contains (y ∷ []) x ⊎ Contains ys x → (x ≡ y) ⊎ Contains ys x
     go (inl one) = inl (only_one y x one)
     go (inr more) = inr more
 
-none_in : {X : Type 0} (x : X) → Contains [] x → ⊥
+pub none_in : {X : Type 0} (x : X) → Contains [] x → ⊥
 none_in x (k, few, is) = omega (arith, few)
 
 -- the last element, or one of those before it
-last_or : {X : Type 0} (ys : List X) (y x : X) → Contains (ys ++ y ∷ []) x → (x ≡ y) ⊎ Contains ys x
+pub last_or : {X : Type 0} (ys : List X) (y x : X) → Contains (ys ++ y ∷ []) x → (x ≡ y) ⊎ Contains ys x
 last_or ys y x h = go (Contains-append_cases ys (y ∷ []) x h)
   where
     go : Contains ys x ⊎ Contains (y ∷ []) x → (x ≡ y) ⊎ Contains ys x
@@ -55,7 +55,7 @@ told_same [] = refl
 told_same (choice ∷ path) = ap (λ answers. choice.taken.answer ∷ answers) (told_same path)
 
 -- the state behind a run and one step more
-state_more : {S A : Type 0} (start : S) (run : List (Step S A)) (step : Step S A) → state_after start (run ++ step ∷ []) ≡ step.state
+pub state_more : {S A : Type 0} (start : S) (run : List (Step S A)) (step : Step S A) → state_after start (run ++ step ∷ []) ≡ step.state
 state_more start [] step = refl
 state_more start (first ∷ run) step = state_more first.state run step
 

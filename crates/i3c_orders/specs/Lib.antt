@@ -1,3 +1,4 @@
+pub mod Marks
 pub mod Numbers
 pub mod Paths
 pub mod Portions

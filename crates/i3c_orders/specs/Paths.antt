@@ -55,6 +55,16 @@ Retreats (choice ∷ path) [] = ⊥
 Retreats {L} {S} {A} (choice ∷ path) (other ∷ new) =
     ((other ≡ choice) × Retreats path new) ⊎ (IsOver path × (new ≡ []) × (other.line ≡ choice.line) × (choice.left.items ≡ other.left.items ++ other.taken ∷ []))
 
+-- two paths begin alike: up to a line that gets another answer, which is the last one of the second
+pub record BeginAlike {L S A : Type 0} (one other : List (Choice L S A)) : Type 0 where
+  pub same : List (Choice L S A)
+  pub first : Choice L S A
+  pub behind : List (Choice L S A)
+  pub next : Choice L S A
+  pub old : one ≡ same ++ first ∷ behind
+  pub new : other ≡ same ++ next ∷ []
+  pub line : next.line ≡ first.line
+
 -- a line of a run that came to the end of its path is answered there
 pub record IsSent {S L A : Type 0} (gives : S → L → List (Step S A) → Type 0) (old : Tree L S A) (line : L) (new : Tree L S A) : Type 0 where
   pub start : new.start ≡ old.start

@@ -1,11 +1,12 @@
-ghost use Rattle.std.specs.Prelude.{◌≡◌, ◌<◌, ◌+◌, ◌*◌, ◌%◌, ◌^◌, [], ◌∷◌, ℕ, All, List, None, Some, Ok, Err, false, Option, Contains, ◌↔◌};
+ghost use Rattle.std.specs.Prelude.{◌≡◌, ◌⊎◌, ◌<◌, ◌+◌, ◌*◌, ◌%◌, ◌^◌, [], ◌∷◌, ℕ, All, List, None, Some, Ok, Err, false, Option, Contains, ◌↔◌};
 ghost use Rattle.i3c_orders.specs.declared.choice.Choice.{Choice as ChoiceValue};
 ghost use Rattle.i3c_orders.specs.declared.choice.Step.{Step as StepValue};
 ghost use Rattle.i3c_orders.specs.declared.orders.SendFault.{SendFault as FaultValue};
 ghost use Rattle.i3c_orders.specs.declared.orders.Unfinished.{Unfinished as UnfinishedValue};
+ghost use Rattle.i3c_orders.specs.Marks.{AreCovered, AreFollowed, AreMarked, IsKnown, IsMatched, IsPreorder, Turn};
 ghost use Rattle.i3c_orders.specs.Numbers.{NamesNumbers, numbers_text};
-ghost use Rattle.i3c_orders.specs.Runs.{AreTried, CanLead, IsRun, IsSettled};
-ghost use Rattle.i3c_orders.specs.Paths.{Answers, Ends, IsOver, Tree, steps_of, told_on};
+ghost use Rattle.i3c_orders.specs.Runs.{AreTried, CanLead, IsRun, IsSettled, told_by};
+ghost use Rattle.i3c_orders.specs.Paths.{Answers, BeginAlike, Ends, IsOver, Retreats, Tree, steps_of, told_on};
 ghost use Rattle.i3c_orders.specs.Portions.{Portion};
 ghost use Rattle.i3c_orders.specs.Sessions.{Call, IsSession, IsTried, Move, told_now};
 ghost use Rattle.i3c_orders.specs.Shares.{begin_of, behind_of};
@@ -29,6 +30,11 @@ pub fn calls_try_all_runs<M: Responder>()
         → IsSession (M.gives machine) program start calls tried old → program (told_now old) ≡ None → Ends old (Ok false) new → (run : List (StepValue M.State M.Answer)) → Contains (steps_of old.path ∷ tried) run → IsRun (CanLead (M.gives machine)) program start run }
 {}
 
+/// Where the next run begins, its path begins as that of the run before: up to its last line, which gets another answer.
+pub fn next_runs_begin_alike<M: Responder>()
+    ensures { (old new : List (ChoiceValue M.Line M.State M.Answer)) → Retreats old new → BeginAlike old new }
+{}
+
 /// A machine may always give a line the same answers in a state, each with the same state behind it. Where `again` says that
 /// no run is left, those that were tried are then all runs of the program, and nothing else was tried.
 pub fn settled_machines_try_all_runs<M: Responder>()
@@ -45,6 +51,26 @@ pub fn determined_programs_are_served<M: Responder>()
         → IsSession (M.gives machine) program start calls tried old → program (told_now old) ≡ Some line → Answers (M.gives machine) (M.fails machine) old line (Err FaultValue.Differs) new → ⊥ }
     ensures ends { (machine : M) (program : List M.Answer → Option M.Line) (start : M.State) (calls : List Call) (tried : List (List (StepValue M.State M.Answer))) (old new : Tree M.Line M.State M.Answer) (unfinished : UnfinishedValue)
         → IsSession (M.gives machine) program start calls tried old → program (told_now old) ≡ None → Ends old (Err unfinished) new → ⊥ }
+{}
+
+/// For a program that leaves a run where its next line is one that it sent before, in a state alike. Let the newest run be over or
+/// left, and no choice on its path have anything left. Then behind the beginning of each run that was tried the program's run is
+/// over, or each answer that its line is given was tried, there or where it was sent before.
+pub fn marked_runs_are_covered<M: Responder>()
+    ensures { (machine : M) (program : List M.Answer → Option M.Line) (start : M.State) (turns : List Turn) (tried : List (List (StepValue M.State M.Answer))) (path : List (ChoiceValue M.Line M.State M.Answer))
+        → AreMarked (M.gives machine) M.alike program start turns tried path → IsOver path
+        → (program (told_by (steps_of path)) ≡ None) ⊎ IsKnown M.alike program start (steps_of path ∷ tried) (steps_of path) → AreCovered (M.gives machine) M.alike program start (steps_of path ∷ tried) }
+{}
+
+/// For the same program, where what a line may be answered in a state it may be answered in each state alike: each run that the
+/// program may have is matched by those that were tried. One of them is over, in a state alike; and each answer of the run was told
+/// in one of them.
+pub fn marked_programs_meet_all_runs<M: Responder>()
+    ensures { (machine : M) → IsPreorder M.alike → AreFollowed (M.gives machine) M.alike (CanLead (M.gives machine))
+        → (program : List M.Answer → Option M.Line) (start : M.State) (turns : List Turn) (tried : List (List (StepValue M.State M.Answer))) (path : List (ChoiceValue M.Line M.State M.Answer))
+        → AreMarked (M.gives machine) M.alike program start turns tried path → IsOver path
+        → (program (told_by (steps_of path)) ≡ None) ⊎ IsKnown M.alike program start (steps_of path ∷ tried) (steps_of path)
+        → (run : List (StepValue M.State M.Answer)) → IsRun (CanLead (M.gives machine)) program start run → IsMatched M.alike program start (steps_of path ∷ tried) run }
 {}
 
 /// Numbers of 64 bits that are written are read as these.

@@ -29,6 +29,7 @@ mod which;
 pub use choice::{Choice, Step};
 pub use laws::{
     all_runs_are_tried, calls_try_all_runs, determined_programs_are_served,
+    marked_programs_meet_all_runs, marked_runs_are_covered, next_runs_begin_alike,
     parts_share_out_answers, settled_machines_try_all_runs, written_numbers_are_read,
 };
 pub use orders::{Orders, SendFault, Unfinished, send};

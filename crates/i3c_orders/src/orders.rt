@@ -191,6 +191,7 @@ fn other<L: Drop, S: Drop, A: Drop>(choice: Choice<L, S, A>) -> Option<Choice<L,
 pub fn send<M: Responder>(
     alloc: Global,
     machine: &M,
+    room: &mut M::Room,
     orders: &mut Orders<M::Line, M::State, M::Answer>,
     line: M::Line,
 ) -> Result<(), SendFault<M::Fault>>
@@ -203,7 +204,7 @@ pub fn send<M: Responder>(
         orders.at += 1;
         return Ok(());
     }
-    match extend(alloc, machine, &orders.start, &mut orders.path, line) {
+    match extend(alloc, machine, room, &orders.start, &mut orders.path, line) {
         Ok(()) => {
             orders.at = orders.path.len();
             Ok(())
@@ -216,6 +217,7 @@ pub fn send<M: Responder>(
 fn extend<M: Responder>(
     alloc: Global,
     machine: &M,
+    room: &mut M::Room,
     start: &M::State,
     path: &mut Vec<Choice<M::Line, M::State, M::Answer>>,
     line: M::Line,
@@ -224,7 +226,7 @@ fn extend<M: Responder>(
     ensures unsent { IfErr result (IsUnsent (M.fails machine.now) (state_behind start.now path.old.items) line) }
     ensures kept { OnErr result (path.new.items ≡ path.old.items) }
 {
-    let mut left = match steps_behind(alloc, machine, start, path, &line) {
+    let mut left = match steps_behind(alloc, machine, room, start, path, &line) {
         Ok(steps) => steps,
         Err(fault) => return Err(SendFault::Failed(fault)),
     };
@@ -254,6 +256,7 @@ fn keep<L: Drop, S: Drop, A: Drop>(
 fn steps_behind<M: Responder>(
     alloc: Global,
     machine: &M,
+    room: &mut M::Room,
     start: &M::State,
     path: &Vec<Choice<M::Line, M::State, M::Answer>>,
     line: &M::Line,
@@ -262,7 +265,7 @@ fn steps_behind<M: Responder>(
     ensures some { IfOk result (λ steps. 0 < length steps.items) }
     ensures failed { IfErr result (M.fails machine.now (state_behind start.now path.now.items) line.now) }
 {
-    machine.steps(alloc, last_state(start, path), line)
+    machine.steps(alloc, room, last_state(start, path), line)
 }
 
 /// The state behind a path.

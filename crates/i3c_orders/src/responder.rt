@@ -18,8 +18,14 @@ pub trait Responder: Sized {
     /// Why a line has no answers.
     type Fault: Drop;
 
+    /// What the machine works on: whatever is left of one line may be used for the next, and decides nothing.
+    type Room: Drop;
+
     /// These are answers that a line is given in a state, each with where it leads: enough of them for all that may happen.
     ghost gives: { Self → Self.State → Self.Line → List (StepValue Self.State Self.Answer) → Type 0 };
+
+    /// Two states are alike: what differs in them decides nothing of what lines are answered.
+    ghost alike: { Self.State → Self.State → Type 0 };
 
     /// A line has no answers in a state, for this reason.
     ghost fails: { Self → Self.State → Self.Line → Self.Fault → Type 0 };
@@ -29,6 +35,7 @@ pub trait Responder: Sized {
     fn steps(
         &self,
         alloc: Global,
+        room: &mut Self::Room,
         state: &Self::State,
         line: &Self::Line,
     ) -> Result<Vec<Step<Self::State, Self::Answer>>, Self::Fault>

@@ -1,4 +1,5 @@
 pub mod Coming
+mod Leaving
 mod Newest
 pub mod Parting
 pub mod Playing

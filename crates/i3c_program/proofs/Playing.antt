@@ -6,6 +6,7 @@ use Rattle.std.proofs.lemmas.Option.{same_Some, slice_get_cases}
 use Rattle.std.specs.List.{slice_get}
 use Rattle.i3c_every.specs.declared.met.Met.{Met}
 use Rattle.i3c_every.specs.declared.sent.Sent.{Sent}
+use Rattle.i3c_every.specs.declared.marks.Taking.{Taking}
 use Rattle.i3c_every.specs.declared.told.Told.{Told}
 use Rattle.i3c_every.specs.Closing.{ClosesAll}
 use Rattle.i3c_every.specs.Meeting.{AreMet}
@@ -30,31 +31,31 @@ use Rattle.i3c_program.specs.declared.trial.Trial.{Trial}
 use Rattle.i3c_program.specs.declared.word.Word.{Word}
 use Rattle.i3c_program.specs.Answers.{reply_in}
 use Rattle.i3c_program.specs.Choosing.{GoesTo, Selects}
-use Rattle.i3c_program.specs.Laws.{Follows, HasMetAll, Holds, IsPlayed}
-use Rattle.i3c_program.specs.Sessions.{Begins, Comes, EndsBy, EndsRun, GoesOn, HasBegun, Hears, IsChosen, IsClosed, IsHeard, IsStart, IsStopped, IsTaken, IsTurned, Sends, StandsAt, Stays, is_new, place_of}
+use Rattle.i3c_program.specs.Laws.{Follows, HasMetAll, HasNoMarks, Holds, IsPlayed}
+use Rattle.i3c_program.specs.Sessions.{Begins, Comes, EndsBy, EndsRun, GoesBy, GoesOn, HasBegun, Hears, HearsChosen, IsClosed, IsHeard, IsSameBut, IsStart, IsStopped, IsTaken, IsTurned, Sends, StandsAt, Stays, TakesMark, is_new, place_of}
 
 -- a line of a run whose reply breaks no expectation
-abbrev IsMet : Choice (Sent (List ℕ)) (Met Seen) (Told Replied) → Type 0
+abbrev pub IsMet : Choice (Sent (List ℕ)) (Met Seen) (Told Replied) → Type 0
 IsMet choice = (reply_in choice.taken.answer).unmet ≡ None
 
 -- no line of a path breaks one
-abbrev AreAllMet : List (Choice (Sent (List ℕ)) (Met Seen) (Told Replied)) → Type 0
+abbrev pub AreAllMet : List (Choice (Sent (List ℕ)) (Met Seen) (Told Replied)) → Type 0
 AreAllMet [] = Unit {0}
 AreAllMet (choice ∷ path) = IsMet choice × AreAllMet path
 
-all_more : (path : List (Choice (Sent (List ℕ)) (Met Seen) (Told Replied))) (choice : Choice (Sent (List ℕ)) (Met Seen) (Told Replied)) → AreAllMet path → IsMet choice → AreAllMet (path ++ choice ∷ [])
+pub all_more : (path : List (Choice (Sent (List ℕ)) (Met Seen) (Told Replied))) (choice : Choice (Sent (List ℕ)) (Met Seen) (Told Replied)) → AreAllMet path → IsMet choice → AreAllMet (path ++ choice ∷ [])
 all_more [] choice all one = (one, tt)
 all_more (first ∷ path) choice (is, all) one = (is, all_more path choice all one)
 
-steps_met : (path : List (Choice (Sent (List ℕ)) (Met Seen) (Told Replied))) → AreAllMet path → All (λ (step : Step (Met Seen) (Told Replied)). (reply_in step.answer).unmet ≡ None) (steps_of path)
+pub steps_met : (path : List (Choice (Sent (List ℕ)) (Met Seen) (Told Replied))) → AreAllMet path → All (λ (step : Step (Met Seen) (Told Replied)). (reply_in step.answer).unmet ≡ None) (steps_of path)
 steps_met [] all = λ k d few. absurd (omega (arith, few))
 steps_met (first ∷ path) (is, all) = All-cons (λ (step : Step (Met Seen) (Told Replied)). (reply_in step.answer).unmet ≡ None) first.taken (steps_of path) is (steps_met path all)
 
-behind_steps : (start : Met Seen) (path : List (Choice (Sent (List ℕ)) (Met Seen) (Told Replied))) → state_behind start path ≡ state_after start (steps_of path)
+pub behind_steps : (start : Met Seen) (path : List (Choice (Sent (List ℕ)) (Met Seen) (Told Replied))) → state_behind start path ≡ state_after start (steps_of path)
 behind_steps start [] = refl
 behind_steps start (choice ∷ path) = behind_steps choice.taken.state path
 
-last_more : (path : List (Choice (Sent (List ℕ)) (Met Seen) (Told Replied))) (choice : Choice (Sent (List ℕ)) (Met Seen) (Told Replied)) → last_step (path ++ choice ∷ []) ≡ Some choice.taken
+pub last_more : (path : List (Choice (Sent (List ℕ)) (Met Seen) (Told Replied))) (choice : Choice (Sent (List ℕ)) (Met Seen) (Told Replied)) → last_step (path ++ choice ∷ []) ≡ Some choice.taken
 last_more [] choice = refl
 last_more (first ∷ []) choice = refl
 last_more (first ∷ second ∷ path) choice = last_more (second ∷ path) choice
@@ -75,7 +76,7 @@ session_start gives program start (Call.Send ∷ before) tried new (old, sent, i
 session_start gives program start (Call.Again ∷ before) tried new (old, done, is, ends, (last, back, at, begins), more) = begins ∙ session_start gives program start before done old is
 
 -- a line that is answered is the run's next
-next_called : (gives : Met Seen → Sent (List ℕ) → List (Step (Met Seen) (Told Replied)) → Type 0) (old : Tree (Sent (List ℕ)) (Met Seen) (Told Replied)) (sent : Sent (List ℕ)) (new : Tree (Sent (List ℕ)) (Met Seen) (Told Replied)) → IsCalled gives old sent new
+pub next_called : (gives : Met Seen → Sent (List ℕ) → List (Step (Met Seen) (Told Replied)) → Type 0) (old : Tree (Sent (List ℕ)) (Met Seen) (Told Replied)) (sent : Sent (List ℕ)) (new : Tree (Sent (List ℕ)) (Met Seen) (Told Replied)) → IsCalled gives old sent new
     → (choice : Choice (Sent (List ℕ)) (Met Seen) (Told Replied)) × (take new.at new.path ≡ take old.at old.path ++ choice ∷ [])
 next_called gives old sent new called = go ((slice_get_cases old.path old.at).1)
   where
@@ -94,17 +95,19 @@ next_called gives old sent new called = go ((slice_get_cases old.path old.at).1)
         (choice, ap (λ n. take n new.path) is.at ∙ take_all (length new.path) new.path (omega (arith)) ∙ put ∙ ap (λ p. p ++ choice ∷ []) (sym (take_all old.at old.path past)))
 
 -- a line that is heard is told
-is_heard : (old : Trial) (came : Came) (new : Trial) → IsHeard old came new → (changed : Bool) × Hears old changed new × (new.orders ≡ old.orders)
+pub is_heard : (old : Trial) (came : Came) (new : Trial) → IsHeard old came new → (changed : Bool) × Hears old changed new × (new.orders ≡ old.orders)
 is_heard old Came.Nothing new none = absurd none
 is_heard old (Came.Refused reason) new none = absurd none
 is_heard old Came.Differs new none = absurd none
 is_heard old (Came.Told changed) new (hears, run) = (changed, hears, run)
+is_heard old Came.Known new none = absurd none
 is_heard old Came.Breaks new none = absurd none
 is_heard old Came.Begins new none = absurd none
 is_heard old Came.All new none = absurd none
 is_heard old Came.Tried new none = absurd none
 is_heard old Came.Script new none = absurd none
 is_heard old Came.Choices new none = absurd none
+is_heard old Came.Same new none = absurd none
 
 -- that all was tried where no run is left, by a law of the orders
 abbrev pub IsEvery : Scenario → (List (Told Replied) → Option (Sent (List ℕ))) → Met Seen → Type 0
@@ -112,7 +115,7 @@ IsEvery scenario program start =
     (calls : List Call) (tried : List (List (Step (Met Seen) (Told Replied)))) (old new : Tree (Sent (List ℕ)) (Met Seen) (Told Replied)) → IsSession (AreMet LineSteps (LineReplies scenario.tracks.rules) IsSight scenario.tracks.lines.items) program start calls tried old
     → program (told_now old) ≡ None → Ends old (Ok false) new → MeetsEvery LineSteps (LineReplies scenario.tracks.rules) IsSight scenario.tracks.lines.items program start (steps_of old.path ∷ tried) []
 
-module _ (scenario : Scenario) (program : List (Told Replied) → Option (Sent (List ℕ))) (start : Met Seen) (is_start : IsStart scenario start) (law : IsEvery scenario program start) where
+module _ (scenario : Scenario) (program : List (Told Replied) → Option (Sent (List ℕ))) (start : Met Seen) (is_start : IsStart scenario start) (unmarked : HasNoMarks program) (law : IsEvery scenario program start) where
   abbrev Gives : Met Seen → Sent (List ℕ) → List (Step (Met Seen) (Told Replied)) → Type 0
   Gives = AreMet LineSteps (LineReplies scenario.tracks.rules) IsSight scenario.tracks.lines.items
 
@@ -127,6 +130,7 @@ module _ (scenario : Scenario) (program : List (Told Replied) → Option (Sent (
   -- what holds after each line
   abbrev Stands : Standing → Tree (Sent (List ℕ)) (Met Seen) (Told Replied) → Type 0
   Stands Standing.Going orders = IsGoing orders
+  Stands Standing.Left orders = ⊥
   Stands Standing.Tried orders = HasMetAll scenario program
   Stands Standing.Stopped orders = Unit {0}
   Stands (Standing.Broken broken) orders = Unit {0}
@@ -194,13 +198,35 @@ module _ (scenario : Scenario) (program : List (Told Replied) → Option (Sent (
           heard old sent mid changed new was going asks
           (subst (λ t. IsCalled (AreMet LineSteps (LineReplies old.scenario.tracks.rules) IsSight old.scenario.tracks.lines.items) old.orders sent t) (sym run) called) same all hears kept
 
-      taken : (first : Bool) → IsChosen first answered came new → Is new
+      taken : (first : Bool) → HearsChosen first answered came new → Is new
       taken true (found, mid, selects, like, is) =
           let (there, all, run) = subst (λ s. Selects s answered.orders found mid.selection mid.orders) (selection ∙ was.all) selects in
           told mid run (like.0 ∙ alike.0) all (subst (λ b. IsTaken b mid came new) there is)
       taken false is = told answered refl alike.0 (selection ∙ was.all) is
   sends old sent came new was going asks (inr (inl (differs, is, stop))) = stopped old new was stop
   sends old sent came new was going asks (inr (inr (stop, failed, ends))) = ended old stop came new was ends
+
+  going_not_left : (standing : Standing) → standing ≡ Standing.Going → standing ≡ Standing.Left → ⊥
+  going_not_left standing going left = cc
+
+  -- what a mark changes leaves it so
+  kept : (old mid : Trial) → Is old → IsSameBut old mid → Is mid
+  kept old mid was (scenario_is, orders, order, most, states, selection, asked, standing) = record {
+    same = scenario_is ∙ was.same;
+    all = selection ∙ was.all;
+    stands = subst (λ o. Stands mid.standing o) (sym orders) (subst (λ s. Stands s old.orders) (sym standing) was.stands);
+  }
+
+  -- of a program that sends no mark none is known
+  taken_new : (old : Trial) (sent : Sent (List ℕ)) (taking : Taking) (mid : Trial) → program (told_now old.orders) ≡ Some sent → TakesMark old sent taking mid → taking ≡ Taking.New
+  taken_new old (Sent.Meets line) taking mid asks takes = takes.0
+  taken_new old (Sent.Alone line) taking mid asks takes = takes.0
+  taken_new old Sent.Waits taking mid asks takes = takes.0
+  taken_new old (Sent.Marks mark) taking mid asks takes = absurd (unmarked (told_now old.orders) mark asks)
+
+  goes_by : (old : Trial) (sent : Sent (List ℕ)) (taking : Taking) (mid : Trial) (came : Came) (new : Trial) → Is old → old.standing ≡ Standing.Going → program (told_now old.orders) ≡ Some sent → TakesMark old sent taking mid → IsSameBut old mid → GoesBy taking mid sent came new → Is new
+  goes_by old sent taking mid came new was going asks takes same goes =
+      sends mid sent came new (kept old mid was same) (same.7 ∙ going) (subst (λ (t : Tree (Sent (List ℕ)) (Met Seen) (Told Replied)). program (told_now t) ≡ Some sent) (sym same.1) asks) (subst (λ t. GoesBy t mid sent came new) (taken_new old sent taking mid asks takes) goes)
 
   -- the newest run held, and those before it
   held : (old : Trial) → Is old → (here : IsGoing old.orders) → old.orders.at ≡ length old.orders.path → IsClosed old → (run : List (Step (Met Seen) (Told Replied))) → Contains (steps_of old.orders.path ∷ here.tried) run → Holds scenario start run
@@ -275,27 +301,33 @@ module _ (scenario : Scenario) (program : List (Told Replied) → Option (Sent (
   comes old (Word.Refused reason) came new was (is, stay) follows = stays old new was stay
   comes old Word.Script came new was (is, stay) follows = stays old new was stay
   comes old Word.Choices came new was (is, stay) follows = stays old new was stay
+  comes old Word.Same came new was (is, stay) follows = stays old new was stay
   comes old (Word.Sends sent) came new was (inl (over, is, stay)) follows = stays old new was stay
-  comes old (Word.Sends sent) came new was (inr (going, does)) follows = sends old sent came new was going follows does
-  comes old Word.Again came new was (inl (over, is, stay)) follows = stays old new was stay
-  comes old Word.Again came new was (inr (going, does)) follows = ends_run old came new was going follows does
+  comes old (Word.Sends sent) came new was (inr (going, (taking, mid, takes, same, goes))) follows = goes_by old sent taking mid came new was going follows takes same goes
+  comes old Word.Again came new was (inl ((over, is, stay), other)) follows = stays old new was stay
+  comes old Word.Again came new was (inr (inl (going, does))) follows = ends_run old came new was going (asked follows) does
+    where
+      asked : (old.standing ≡ Standing.Left) ⊎ (program (told_now old.orders) ≡ None) → program (told_now old.orders) ≡ None
+      asked (inl left) = absurd (going_not_left old.standing going left)
+      asked (inr over) = over
+  comes old Word.Again came new was (inr (inr (left, leaves))) follows = absurd (subst (λ s. Stands s old.orders) left was.stands)
 
   played : (number : ℕ) (old : Session) (lines : List (List ℕ)) (new : Session) → Is old.trial → IsPlayed program number old lines new → Is new.trial
   played number old [] new was same = subst (λ (s : Session). Is s.trial) (sym same) was
   played number old (line ∷ lines) new was (mid, text, answered, follows, rest) = played (suc number) mid lines new (comes old.trial answered.word answered.came mid.trial was answered.comes (follows answered.word answered.is)) rest
 
-pub met_all : ((scenario : Scenario) (program : List (Told Replied) → Option (Sent (List ℕ))) (start : Met Seen) → IsEvery scenario program start) → (scenario : Scenario) (most : ℕ) (program : List (Told Replied) → Option (Sent (List ℕ))) (old new : Session) (lines : List (List ℕ))
-    → HasBegun scenario most Which.All old.trial → IsPlayed program 1 old lines new → new.trial.standing ≡ Standing.Tried → HasMetAll scenario program
-met_all law scenario most program old new lines first_line play over = subst (λ s. Stands scenario program first_line.start first_line.is_start every s new.trial.orders) over (played scenario program first_line.start first_line.is_start every 1 old lines new first play).stands
+pub met_all : ((scenario : Scenario) (program : List (Told Replied) → Option (Sent (List ℕ))) (start : Met Seen) → IsEvery scenario program start) → (scenario : Scenario) (most states : ℕ) (program : List (Told Replied) → Option (Sent (List ℕ))) (old new : Session) (lines : List (List ℕ)) → HasNoMarks program
+    → HasBegun scenario most states Which.All old.trial → IsPlayed program 1 old lines new → new.trial.standing ≡ Standing.Tried → HasMetAll scenario program
+met_all law scenario most states program old new lines unmarked first_line play over = subst (λ s. Stands scenario program first_line.start first_line.is_start unmarked every s new.trial.orders) over (played scenario program first_line.start first_line.is_start unmarked every 1 old lines new first play).stands
   where
     every : IsEvery scenario program first_line.start
     every = law scenario program first_line.start
 
-    first : Is scenario program first_line.start first_line.is_start every old.trial
+    first : Is scenario program first_line.start first_line.is_start unmarked every old.trial
     first = record {
       same = first_line.scenario_is;
       all = first_line.selects;
-      stands = subst (λ s. Stands scenario program first_line.start first_line.is_start every s old.trial.orders) (sym first_line.stands) (record {
+      stands = subst (λ s. Stands scenario program first_line.start first_line.is_start unmarked every s old.trial.orders) (sym first_line.stands) (record {
         calls = [];
         tried = [];
         session = (refl, first_line.orders);

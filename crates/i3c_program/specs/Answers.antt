@@ -29,6 +29,7 @@ abbrev pub reply_in : Told Replied → Replied
 reply_in (Told.Answered reply) = reply
 reply_in (Told.Happened reply) = reply
 reply_in (Told.NothingLeft reply) = reply
+reply_in (Told.Marked reply) = reply
 
 -- the last line of an answer to a line that isn't done
 abbrev pub refused_line : ℕ → Reason → List ℕ
@@ -59,6 +60,7 @@ abbrev pub waited_text : Told Replied → List ℕ
 waited_text (Told.Answered reply) = []
 waited_text (Told.Happened reply) = codes "happened" ++ 10 ∷ []
 waited_text (Told.NothingLeft reply) = codes "nothing left" ++ 10 ∷ []
+waited_text (Told.Marked reply) = []
 
 -- how an answer ends: as a driven line's, unless the line breaks an expectation
 abbrev pub ends_so : ℕ → Replied → Option ℕ → List ℕ
@@ -99,6 +101,7 @@ abbrev pub waited_field : Told Replied → Option (List ℕ × Data)
 waited_field (Told.Answered reply) = None
 waited_field (Told.Happened reply) = Some (codes "happened", boolean true)
 waited_field (Told.NothingLeft reply) = Some (codes "happened", boolean false)
+waited_field (Told.Marked reply) = None
 
 -- what a program is told, as an object
 abbrev pub told_object : ℕ → Told Replied → Option (List Name) → Data

@@ -60,6 +60,13 @@ abbrev pub Draws : {L S A : Type 0} → Drawing → Tree L S A → Bool → Draw
 Draws old orders found new chosen =
     (new.left ≡ old.left) × (((run_in orders ≡ []) × (found ≡ true) × (chosen ≡ orders)) ⊎ ((number : ℕ) × (number < ways_in (run_in orders)) × Chooses orders number found chosen))
 
+-- whatever is behind an order that is tried is tried too, by this part at least
+abbrev pub TriesWhole : Selection → Type 0
+TriesWhole Selection.All = Unit {0}
+TriesWhole (Selection.Part sharing) = Unit {0}
+TriesWhole (Selection.One numbers) = ⊥
+TriesWhole (Selection.Drawn drawing) = ⊥
+
 -- the answer to a run's newest line is chosen, which no run before has sent; or there is none of the number that is named
 abbrev pub Selects : {L S A : Type 0} → Selection → Tree L S A → Bool → Selection → Tree L S A → Type 0
 Selects Selection.All orders found new chosen = (found ≡ true) × (new ≡ Selection.All) × (chosen ≡ orders)

@@ -18,7 +18,7 @@ pub record Opens (terms : Terms) (scene : Option (List ℕ)) (session : Session)
   pub lines : AreLines scene file
   pub scenario : Scenario
   pub is : IsScenario file terms.limits scenario
-  pub begun : HasBegun scenario terms.most terms.which session.trial
+  pub begun : HasBegun scenario terms.most terms.states terms.which session.trial
   pub form_is : session.form ≡ terms.form
   pub right : session.wrong ≡ false
 

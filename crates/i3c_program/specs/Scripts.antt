@@ -31,6 +31,7 @@ abbrev pub sent_text : Risk → Sent (List ℕ) → ℕ → List ℕ
 sent_text risk (Sent.Meets line) way = cuts_before risk (ways_of risk way) (10 ∷ []) ++ (line ++ 10 ∷ [])
 sent_text risk (Sent.Alone line) way = cuts_before risk (ways_of risk way) (10 ∷ []) ++ (line ++ 10 ∷ [])
 sent_text risk Sent.Waits way = []
+sent_text risk (Sent.Marks mark) way = []
 
 -- the lines of the tracks and those of the program, each behind the turns that ran before it
 abbrev pub woven : List (Vec ℕ) → Risk → List Run → List (Choice (Sent (List ℕ)) (Met Seen) (Told Replied)) → List ℕ

@@ -1,11 +1,13 @@
 -- What the lines of a program come to, one after another, while it meets every order.
-use Rattle.std.specs.Prelude.{◌≡◌, ◌≢◌, ◌⊎◌, ◌++◌, ◌||◌, ◌≤◌, ◌<◌, ◌∷◌, ℕ, suc, Bool, true, false, List, [], Option, None, Some, Result, Ok, Err, codes, drop, length, replicate, slice_get, take}
+use Rattle.std.specs.Prelude.{◌≡◌, ◌≢◌, ◌⊎◌, ◌++◌, ◌||◌, ◌≤◌, ◌<◌, ◌-◌, ◌∷◌, ℕ, suc, Bool, true, false, List, [], Option, None, Some, Result, Ok, Err, codes, drop, length, replicate, slice_get, take}
 use Rattle.std.specs.Fmt.{decimal}
 use Rattle.std.specs.Global.{Vec}
-use Rattle.serde_json.specs.Data.{Data, number as numeral, unsigned}
+use Rattle.serde_json.specs.Data.{Data, boolean, number as numeral, unsigned}
 use Rattle.i3c_every.specs.declared.met.Met.{Met}
 use Rattle.i3c_every.specs.declared.sent.Sent.{Sent}
+use Rattle.i3c_every.specs.declared.marks.Taking.{Taking}
 use Rattle.i3c_every.specs.declared.told.Told.{Told}
+use Rattle.i3c_every.specs.Taking.{Takes}
 use Rattle.i3c_every.specs.Closing.{ClosesAll, StopsClosing}
 use Rattle.i3c_every.specs.Meeting.{AreMet, Fails}
 use Rattle.i3c_explore.specs.declared.stop.Stop.{Stop}
@@ -40,7 +42,7 @@ use Rattle.i3c_program.specs.declared.standing.Standing.{Standing}
 use Rattle.i3c_program.specs.declared.trial.Trial.{Trial}
 use Rattle.i3c_program.specs.declared.word.Word.{Word}
 use Rattle.i3c_program.specs.Answers.{WritesLine, all_text, bare_object, choices_text, due_text, put_reason, refused_line, reply_in, told_object, told_text, tried_text, unmet_text}
-use Rattle.i3c_program.specs.Choosing.{GoesTo, Selects, StartsAs}
+use Rattle.i3c_program.specs.Choosing.{GoesTo, Selects, StartsAs, TriesWhole}
 use Rattle.i3c_program.specs.Scripts.{AreRunsIn, IsScript, turns_in}
 use Rattle.i3c_program.specs.Words.{IsWord}
 
@@ -67,20 +69,26 @@ pub record IsStart (scenario : Scenario) (met : Met Seen) : Type 0 where
   pub turns : met.turns.items ≡ []
 
 -- a program before its first line, with these orders to try
-pub record HasBegun (scenario : Scenario) (most : ℕ) (which : Which) (trial : Trial) : Type 0 where
+pub record HasBegun (scenario : Scenario) (most states : ℕ) (which : Which) (trial : Trial) : Type 0 where
   pub start : Met Seen
   pub is_start : IsStart scenario start
   pub orders : trial.orders ≡ tree start [] 0
   pub scenario_is : trial.scenario ≡ scenario
   pub first : trial.order ≡ 1
   pub most_is : trial.most ≡ most
+  pub states_is : trial.states ≡ states
+  pub unmarked : trial.marks ≡ []
   pub selects : StartsAs which trial.selection
   pub asked : trial.asked.items ≡ []
   pub stands : trial.standing ≡ Standing.Going
 
+-- what stays where no mark is taken
+abbrev pub HasMarksOf : Trial → Trial → Type 0
+HasMarksOf old new = (new.marks ≡ old.marks) × (new.states ≡ old.states)
+
 -- what stays where no answer is chosen, and no order
 abbrev pub IsOfOne : Trial → Trial → Type 0
-IsOfOne old new = (new.scenario ≡ old.scenario) × (new.most ≡ old.most) × (new.selection ≡ old.selection)
+IsOfOne old new = (new.scenario ≡ old.scenario) × (new.most ≡ old.most) × (new.selection ≡ old.selection) × HasMarksOf old new
 
 -- what stays within an order, where the program hears nothing
 abbrev pub IsOfOrder : Trial → Trial → Type 0
@@ -88,7 +96,7 @@ IsOfOrder old new = IsOfOne old new × (new.order ≡ old.order) × (new.asked �
 
 -- what stays where one is chosen: all but the program's runs, and what is left to be chosen
 abbrev pub IsAlike : Trial → Trial → Type 0
-IsAlike old new = (new.scenario ≡ old.scenario) × (new.most ≡ old.most) × (new.order ≡ old.order) × (new.asked ≡ old.asked) × (new.standing ≡ old.standing)
+IsAlike old new = (new.scenario ≡ old.scenario) × (new.most ≡ old.most) × (new.order ≡ old.order) × (new.asked ≡ old.asked) × (new.standing ≡ old.standing) × HasMarksOf old new
 
 -- nothing changes
 abbrev pub Stays : Trial → Trial → Type 0
@@ -128,10 +136,10 @@ IsTaken true old came new = IsHeard old came new
 IsTaken false old came new = (came ≡ Came.Refused Reason.NoOrder) × IsStopped old new
 
 -- an answer is chosen to a line that no run before has sent; another one is answered as there
-abbrev pub IsChosen : Bool → Trial → Came → Trial → Type 0
-IsChosen true old came new =
+abbrev pub HearsChosen : Bool → Trial → Came → Trial → Type 0
+HearsChosen true old came new =
     (found : Bool) × (chosen : Trial) × Selects old.selection old.orders found chosen.selection chosen.orders × IsAlike old chosen × IsTaken found chosen came new
-IsChosen false old came new = IsHeard old came new
+HearsChosen false old came new = IsHeard old came new
 
 -- whether no run before has sent a line here
 abbrev pub is_new : Option (Sent (List ℕ)) → Bool
@@ -163,7 +171,7 @@ EndsBy old (Stop.Breaks order) came new = (came ≡ Came.Breaks) × IsBroken old
 abbrev pub Sends : Trial → Sent (List ℕ) → Came → Trial → Type 0
 Sends old sent came new =
     ((answered : Trial) × SendsSo (gives old) (fails old) old.orders sent (Ok tt) answered.orders × (answered.selection ≡ old.selection) × IsAlike old answered
-    × IsChosen (is_new (due_of (slice_get old.orders.path old.orders.at))) answered came new)
+    × HearsChosen (is_new (due_of (slice_get old.orders.path old.orders.at))) answered came new)
     ⊎ (SendsSo (gives old) (fails old) old.orders sent (Err SendFault.Differs) old.orders × (came ≡ Came.Differs) × IsStopped old new)
     ⊎ ((stop : Stop) × SendsSo (gives old) (fails old) old.orders sent (Err (SendFault.Failed stop)) old.orders × EndsBy old stop came new)
 
@@ -215,6 +223,33 @@ EndsRun old came new =
     ⊎ (IsClosed old × GoesOn old came new)
     ⊎ ((stop : Stop) × StopsClosed old stop × EndsBy old stop came new)
 
+-- a mark is looked up where all orders are tried, or those of a part, and where no run before has sent a line here
+abbrev pub LooksUp : Trial → Type 0
+LooksUp trial = TriesWhole trial.selection × (due_of (slice_get trial.orders.path trial.orders.at) ≡ None)
+
+-- what comes of a line's mark, if it is one that is looked up; nothing else changes
+abbrev pub TakesMark : Trial → Sent (List ℕ) → Taking → Trial → Type 0
+TakesMark old (Sent.Marks mark) taking new = (LooksUp old × Takes old.states mark (place_of old) old.marks taking new.marks) ⊎ ((LooksUp old → ⊥) × (taking ≡ Taking.New) × (new.marks ≡ old.marks))
+TakesMark old sent taking new = (taking ≡ Taking.New) × (new.marks ≡ old.marks)
+
+-- all but the marks and the bus on which lines run
+abbrev pub IsSameBut : Trial → Trial → Type 0
+IsSameBut old new = (new.scenario ≡ old.scenario) × (new.orders ≡ old.orders) × (new.order ≡ old.order) × (new.most ≡ old.most) × (new.states ≡ old.states) × (new.selection ≡ old.selection) × (new.asked ≡ old.asked) × (new.standing ≡ old.standing)
+
+-- the run is left
+abbrev pub IsLeft : Trial → Trial → Type 0
+IsLeft old new = (new.standing ≡ Standing.Left) × (new.orders ≡ old.orders) × IsOfOrder old new
+
+-- what a line comes to whose mark is taken, or is known, or can't be taken
+abbrev pub GoesBy : Taking → Trial → Sent (List ℕ) → Came → Trial → Type 0
+GoesBy Taking.New old sent came new = Sends old sent came new
+GoesBy Taking.Known old sent came new = (came ≡ Came.Known) × IsLeft old new
+GoesBy Taking.Full old sent came new = (came ≡ Came.Refused Reason.Most) × IsStopped old new
+
+-- where a run was left, the next order begins from there on
+abbrev pub Leaves : Trial → Came → Trial → Type 0
+Leaves old came new = (mid : Trial) × (mid.standing ≡ Standing.Going) × (mid.orders ≡ old.orders) × IsOfOrder old mid × GoesOn mid came new
+
 -- a line is refused where no orders are tried any more
 abbrev pub IsOver : Trial → Came → Trial → Type 0
 IsOver old came new = (old.standing ≢ Standing.Going) × (came ≡ Came.Refused Reason.Over) × Stays old new
@@ -225,14 +260,16 @@ Comes old Word.Nothing came new = (came ≡ Came.Nothing) × Stays old new
 Comes old (Word.Refused reason) came new = (came ≡ Came.Refused reason) × Stays old new
 Comes old Word.Script came new = (came ≡ Came.Script) × Stays old new
 Comes old Word.Choices came new = (came ≡ Came.Choices) × Stays old new
-Comes old (Word.Sends sent) came new = IsOver old came new ⊎ ((old.standing ≡ Standing.Going) × Sends old sent came new)
-Comes old Word.Again came new = IsOver old came new ⊎ ((old.standing ≡ Standing.Going) × EndsRun old came new)
+Comes old Word.Same came new = (came ≡ Came.Same) × Stays old new
+Comes old (Word.Sends sent) came new = IsOver old came new ⊎ ((old.standing ≡ Standing.Going) × ((taking : Taking) × (mid : Trial) × TakesMark old sent taking mid × IsSameBut old mid × GoesBy taking mid sent came new))
+Comes old Word.Again came new = (IsOver old came new × (old.standing ≢ Standing.Left)) ⊎ ((old.standing ≡ Standing.Going) × EndsRun old came new) ⊎ ((old.standing ≡ Standing.Left) × Leaves old came new)
 
 -- what a program sends, as it is written
 abbrev pub written : Sent (List ℕ) → List ℕ
 written (Sent.Meets line) = line
 written (Sent.Alone line) = line
 written Sent.Waits = codes "wait"
+written (Sent.Marks line) = line
 
 -- the line that was due, or nothing
 abbrev pub due_written : Option (Sent (List ℕ)) → List ℕ
@@ -241,6 +278,10 @@ due_written (Some sent) = written sent
 
 abbrev pub due_line : Trial → List ℕ
 due_line trial = due_written (due_of (slice_get trial.orders.path trial.orders.at))
+
+-- how many of the next lines are answered as in the run before: those that it sent here, but for the last one, which gets another answer
+abbrev pub same_in : Trial → ℕ
+same_in trial = length trial.orders.path - length (run_of trial) - 1
 
 -- the answer in lines to a line that came to this, where the program is so now
 abbrev pub HasLines : ℕ → Came → Trial → List ℕ → Type 0
@@ -253,6 +294,8 @@ HasLines number Came.Begins trial said = said ≡ (codes "order " ++ (decimal tr
 HasLines number Came.All trial said = said ≡ all_text trial.order ++ last_line number None
 HasLines number Came.Tried trial said = said ≡ tried_text trial.order ++ last_line number None
 HasLines number Came.Choices trial said = said ≡ choices_text (run_of trial) ++ last_line number None
+HasLines number Came.Same trial said = said ≡ (codes "same " ++ (decimal (same_in trial) ++ 10 ∷ [])) ++ last_line number None
+HasLines number Came.Known trial said = said ≡ codes "known" ++ (10 ∷ last_line number None)
 HasLines number Came.Script trial said = (script : List ℕ) × IsScript trial.scenario (run_of trial) trial.standing script × (said ≡ script ++ last_line number None)
 
 -- the same answer as an object
@@ -266,6 +309,8 @@ HasObject count Came.Begins trial value = value ≡ bare_object count (put_outco
 HasObject count Came.All trial value = value ≡ bare_object count (put_outcome None) (Some (codes "all", numeral (unsigned trial.order)))
 HasObject count Came.Tried trial value = value ≡ bare_object count (put_outcome None) (Some (codes "tried", numeral (unsigned trial.order)))
 HasObject count Came.Choices trial value = value ≡ bare_object count (put_outcome None) (Some (codes "choices", text_data (numbers_text (numbers_of (run_of trial)))))
+HasObject count Came.Same trial value = value ≡ bare_object count (put_outcome None) (Some (codes "same", numeral (unsigned (same_in trial))))
+HasObject count Came.Known trial value = value ≡ bare_object count (put_outcome None) (Some (codes "known", boolean true))
 HasObject count Came.Script trial value = (script : List ℕ) × IsScript trial.scenario (run_of trial) trial.standing script × (value ≡ bare_object count (put_outcome None) (Some (codes "script", text_data script)))
 
 -- the answer to a line that came to this is appended to a text, in its form

@@ -24,7 +24,7 @@ impl Trial {
     ghost use Rattle.i3c_program.specs.declared.came.Came.{Came as CameValue};
     ghost use Rattle.i3c_program.specs.Answers.{WritesLine};
     ghost use Rattle.i3c_program.specs.Scripts.{IsScript};
-    ghost use Rattle.i3c_program.specs.Sessions.{Answers, HasLines, HasObject, due_line, run_of};
+    ghost use Rattle.i3c_program.specs.Sessions.{Answers, HasLines, HasObject, due_line, run_of, same_in};
 
     /// Appends the answer to a line of this number that came to this.
     pub(crate) fn push(
@@ -54,6 +54,10 @@ impl Trial {
                 push_refused(number, Reason::Differs, text)
             }
             Came::Told(changed) => self.push_newest(number, changed, text),
+            Came::Known => {
+                text.push(b"known\n")?;
+                push_last(number, &None, text)
+            }
             Came::Breaks => self.push_broken(number, text),
             Came::Begins => {
                 text.push_numbered(b"order ", self.order)?;
@@ -73,6 +77,10 @@ impl Trial {
             }
             Came::Choices => {
                 push_choices(self.orders.choices(), text)?;
+                push_last(number, &None, text)
+            }
+            Came::Same => {
+                text.push_numbered(b"same ", self.same())?;
                 push_last(number, &None, text)
             }
         }
@@ -96,7 +104,9 @@ impl Trial {
             Standing::Broken(broken) => {
                 push_unmet(number, broken.number, broken.there.as_bytes(), text)
             }
-            Standing::Going | Standing::Tried | Standing::Stopped => Err(AllocError),
+            Standing::Going | Standing::Left | Standing::Tried | Standing::Stopped => {
+                Err(AllocError)
+            },
         }
     }
 
@@ -110,12 +120,14 @@ impl Trial {
             Came::Refused(reason) => push_reason(alloc, number, reason, text),
             Came::Differs => push_differs(alloc, number, self.due_line(), text),
             Came::Told(changed) => self.push_newest_object(number, changed, text),
+            Came::Known => push_aside(alloc, number, Aside::Known, text),
             Came::Breaks => self.push_broken_object(number, text),
             Came::Begins => push_aside(alloc, number, Aside::Order(self.order), text),
             Came::All => push_aside(alloc, number, Aside::All(self.order), text),
             Came::Tried => push_aside(alloc, number, Aside::Tried(self.order), text),
             Came::Script => self.push_script_object(number, text),
             Came::Choices => self.push_choices_object(number, text),
+            Came::Same => push_aside(alloc, number, Aside::Same(self.same()), text),
         }
     }
 
@@ -143,7 +155,9 @@ impl Trial {
                 let there = broken.there.as_bytes();
                 push_unmet_object(self.alloc, number, broken.number, there, text)
             }
-            Standing::Going | Standing::Tried | Standing::Stopped => Err(AllocError),
+            Standing::Going | Standing::Left | Standing::Tried | Standing::Stopped => {
+                Err(AllocError)
+            },
         }
     }
 
@@ -178,6 +192,15 @@ impl Trial {
         )
     }
 
+    /// How many of the next lines are answered as in the run before: those that it sent here, but for the last one, which gets
+    /// another answer.
+    fn same(&self) -> u64
+        ensures { result ≡ same_in self.now }
+    {
+        let ahead = self.orders.path().len() - self.orders.choices().len();
+        ahead.saturating_sub(1) as u64
+    }
+
     /// The line that was due, or nothing.
     fn due_line(&self) -> &[u8]
         ensures { result.now ≡ due_line self.now }
@@ -196,5 +219,6 @@ fn written(sent: &Sent<ProgramLine>) -> &[u8]
     match sent {
         Sent::Meets(line) | Sent::Alone(line) => line.text(),
         Sent::Waits => b"wait",
+        Sent::Marks(mark) => mark.as_bytes(),
     }
 }

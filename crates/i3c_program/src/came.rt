@@ -11,6 +11,8 @@ pub enum Came {
     Differs,
     /// The program is told something; the devices that ask have changed, or not.
     Told(bool),
+    /// Its mark was taken before, where the run is now: so the run is left.
+    Known,
     /// Lines that the tracks or the scene run break an expectation.
     Breaks,
     /// The run is over, and another order begins.
@@ -23,4 +25,6 @@ pub enum Came {
     Script,
     /// It is told the numbers of the answers that these took.
     Choices,
+    /// It is told how many of its next lines are answered as in the run before.
+    Same,
 }

@@ -28,7 +28,7 @@ mod telling;
 mod trial;
 mod word;
 
-pub use laws::programs_meet_every_order_of_a_scene;
+pub use laws::{marked_programs_meet_every_order_of_a_scene, programs_meet_every_order_of_a_scene};
 pub use meeting::{MeetFault, meet_every};
 pub use reason::Reason;
 pub use scenario::{NoScenario, Scenario, read_scenario};

@@ -100,7 +100,7 @@ fn push_head(
         Standing::Broken(broken) => {
             push_heading(alloc, lines, broken.number, broken.there.as_bytes(), text)
         }
-        Standing::Going | Standing::Tried | Standing::Stopped => Ok(()),
+        Standing::Going | Standing::Left | Standing::Tried | Standing::Stopped => Ok(()),
     }
 }
 
@@ -110,7 +110,7 @@ fn push_foot(lines: &[Vec<u8>], standing: &Standing, text: &mut Text) -> Result<
 {
     match standing {
         Standing::Broken(broken) => push_expectation(lines, broken.number, text),
-        Standing::Going | Standing::Tried | Standing::Stopped => Ok(()),
+        Standing::Going | Standing::Left | Standing::Tried | Standing::Stopped => Ok(()),
     }
 }
 
@@ -148,7 +148,7 @@ fn turns_behind(standing: &Standing) -> &[Turn]
 {
     match standing {
         Standing::Broken(broken) => broken.behind.as_slice(),
-        Standing::Going | Standing::Tried | Standing::Stopped => &[],
+        Standing::Going | Standing::Left | Standing::Tried | Standing::Stopped => &[],
     }
 }
 
@@ -202,6 +202,6 @@ fn push_sent(
             text.push(line.text())?;
             text.end()
         }
-        Sent::Waits => Ok(()),
+        Sent::Waits | Sent::Marks(_) => Ok(()),
     }
 }

@@ -47,7 +47,7 @@ pub struct Drawing {
 impl Selection {
     ghost use Rattle.std.specs.Prelude.{◌≡◌, ◌↔◌, IsTrue};
     ghost use Rattle.i3c_program.specs.declared.selection.Selection.{Selection as SelectionValue};
-    ghost use Rattle.i3c_program.specs.Choosing.{GoesTo, Selects, StartsAs};
+    ghost use Rattle.i3c_program.specs.Choosing.{GoesTo, Selects, StartsAs, TriesWhole};
 
     /// Before the first line of the first order.
     pub(crate) fn new(which: Which) -> Selection
@@ -71,6 +71,16 @@ impl Selection {
         match self {
             Selection::All => true,
             Selection::Part(_) | Selection::One(_) | Selection::Drawn(_) => false,
+        }
+    }
+
+    /// Whether whatever is behind an order that is tried is tried too.
+    pub(crate) fn tries_whole(&self) -> bool
+        ensures { IsTrue result ↔ TriesWhole self.now }
+    {
+        match self {
+            Selection::All | Selection::Part(_) => true,
+            Selection::One(_) | Selection::Drawn(_) => false,
         }
     }
 

@@ -22,6 +22,8 @@ pub struct Terms {
     pub which: Which,
     /// The most orders that are tried.
     pub most: u64,
+    /// The most marks that are kept, each with the state and the places where the program sent it.
+    pub states: u64,
 }
 
 /// How the session of a program ended.
@@ -54,11 +56,11 @@ impl Session {
     ///
     /// There is no memory for it.
     pub fn new(alloc: Global, scenario: Scenario, terms: Terms) -> Result<Session, AllocError>
-        ensures begun { IfOk result (λ session. HasBegun scenario terms.most terms.which session.trial) }
+        ensures begun { IfOk result (λ session. HasBegun scenario terms.most terms.states terms.which session.trial) }
         ensures form { IfOk result (λ session. session.form ≡ terms.form) }
         ensures wrong { IfOk result (λ session. session.wrong ≡ false) }
     {
-        let trial = Trial::new(alloc, scenario, terms.most, terms.which)?;
+        let trial = Trial::new(alloc, scenario, terms.most, terms.states, terms.which)?;
         Ok(Session {
             trial,
             form: terms.form,
@@ -73,7 +75,9 @@ impl Session {
         match &self.trial.standing {
             Standing::Broken(_) => Ending::Unmet,
             Standing::Tried if !self.wrong => Ending::Tried,
-            Standing::Tried | Standing::Going | Standing::Stopped => Ending::Wanting,
+            Standing::Tried | Standing::Going | Standing::Left | Standing::Stopped => {
+                Ending::Wanting
+            }
         }
     }
 }
@@ -98,11 +102,13 @@ fn is_wrong(came: Came) -> bool
         Came::Refused(_) | Came::Differs => true,
         Came::Nothing
         | Came::Told(_)
+        | Came::Known
         | Came::Breaks
         | Came::Begins
         | Came::All
         | Came::Tried
         | Came::Script
-        | Came::Choices => false,
+        | Came::Choices
+        | Came::Same => false,
     }
 }

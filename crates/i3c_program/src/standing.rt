@@ -6,6 +6,8 @@ use i3c_text::Text;
 pub enum Standing {
     /// Orders are tried.
     Going,
+    /// The run is left behind a mark that was taken before: the next order is.
+    Left,
     /// Every order was tried.
     Tried,
     /// No other order is tried: a limit is exceeded, or the program isn't determined by its answers.
@@ -24,7 +26,7 @@ impl Standing {
     {
         match self {
             Standing::Going => true,
-            Standing::Tried | Standing::Stopped | Standing::Broken(_) => false,
+            Standing::Left | Standing::Tried | Standing::Stopped | Standing::Broken(_) => false,
         }
     }
 }

@@ -21,7 +21,10 @@ pub(crate) fn reply_in(told: &Told<Reply>) -> &Reply
     ensures { result.now ≡ reply_in told.now }
 {
     match told {
-        Told::Answered(reply) | Told::Happened(reply) | Told::NothingLeft(reply) => reply,
+        Told::Answered(reply)
+        | Told::Happened(reply)
+        | Told::NothingLeft(reply)
+        | Told::Marked(reply) => reply,
     }
 }
 
@@ -57,7 +60,7 @@ fn push_waited(told: &Told<Reply>, text: &mut Text) -> Result<(), AllocError>
     ensures { OnOk result (text.new ≡ text.old ++ waited_text told.now) }
 {
     match told {
-        Told::Answered(_) => Ok(()),
+        Told::Answered(_) | Told::Marked(_) => Ok(()),
         Told::Happened(_) => text.push(b"happened\n"),
         Told::NothingLeft(_) => text.push(b"nothing left\n"),
     }
@@ -168,7 +171,7 @@ fn aside_of<'a>(told: &Told<Reply>) -> Aside<'a>
     ensures { aside_field result ≡ waited_field told.now }
 {
     match told {
-        Told::Answered(_) => Aside::Nothing,
+        Told::Answered(_) | Told::Marked(_) => Aside::Nothing,
         Told::Happened(_) => Aside::Happened(true),
         Told::NothingLeft(_) => Aside::Happened(false),
     }

@@ -10,11 +10,11 @@ use crate::standing::{Broken, Standing};
 use crate::telling::reply_in;
 use crate::word::{Word, read_word};
 use i3c_drive::are_same;
-use i3c_every::{Met, Sent, Told, close};
-use i3c_explore::{Stop, Turn};
+use i3c_every::{Marks, Met, Sent, Taking, Told, close};
+use i3c_explore::{Machine as _, Stop, Turn};
 use i3c_lines::Name;
 use i3c_orders::{Orders, SendFault, Unfinished, Which, send};
-use i3c_scene::{ProgramLine, Reply, Scene};
+use i3c_scene::{ProgramLine, Reply, Runner, Scene};
 use i3c_text::Text;
 use i3c_tracks::unmet_number;
 use std::alloc::{AllocError, Global};
@@ -24,7 +24,12 @@ use std::alloc::{AllocError, Global};
 pub struct Trial {
     pub(crate) alloc: Global,
     pub(crate) scenario: Scenario,
+    // the bus on which lines run, in whatever state
+    runner: Runner,
     pub(crate) orders: Orders<Sent<ProgramLine>, Met<Scene>, Told<Reply>>,
+    // the marks that the program sent, each with where it was; and how many are kept at most
+    pub(crate) marks: Marks<Scene>,
+    pub(crate) states: u64,
     // the number of the order, from 1, and how many are tried at most
     pub(crate) order: u64,
     pub(crate) most: u64,
@@ -40,10 +45,10 @@ impl Trial {
     ghost use Rattle.i3c_orders.specs.Paths.{due_of};
     ghost use Rattle.i3c_program.specs.declared.came.Came.{Came as CameValue};
     ghost use Rattle.i3c_program.specs.declared.word.Word.{Word as WordValue};
-    ghost use Rattle.i3c_program.specs.Sessions.{Begins, Comes, EndsBy, Finds, GoesOn, HasBegun, IsBroken, IsChosen, IsDone, IsHeard, IsStopped, is_new};
+    ghost use Rattle.i3c_program.specs.Sessions.{Begins, Comes, EndsBy, EndsRun, Finds, GoesOn, HasBegun, IsBroken, HearsChosen, IsDone, IsHeard, IsLeft, IsSameBut, IsStopped, Sends, TakesMark, is_new};
     ghost use Rattle.i3c_program.specs.Words.{IsWord};
 
-    /// A program before its first line. At most so many of these orders are tried.
+    /// A program before its first line. At most so many of these orders are tried, and so many marks kept.
     ///
     /// # Errors
     ///
@@ -52,15 +57,20 @@ impl Trial {
         alloc: Global,
         scenario: Scenario,
         most: u64,
+        states: u64,
         which: Which,
     ) -> Result<Trial, AllocError>
-        ensures { IfOk result (HasBegun scenario most which) }
+        ensures { IfOk result (HasBegun scenario most states which) }
     {
         let start = start_of(alloc, &scenario)?;
+        let runner = scenario.start.runner(alloc)?;
         Ok(Trial {
             alloc,
             scenario,
+            runner,
             orders: Orders::new(alloc, start),
+            marks: Marks::new(alloc),
+            states,
             order: 1,
             most,
             selection: Selection::new(which),
@@ -78,20 +88,69 @@ impl Trial {
             Word::Refused(reason) => Ok(Came::Refused(reason)),
             Word::Script => Ok(Came::Script),
             Word::Choices => Ok(Came::Choices),
+            Word::Same => Ok(Came::Same),
             Word::Sends(sent) => self.send(sent),
             Word::Again => self.again(),
         }
     }
 
-    /// Sends a line of the program, or lets it wait.
+    /// Sends a line of the program, or lets it wait, or takes its mark.
     fn send(&mut self, sent: Sent<ProgramLine>) -> Result<Came, AllocError>
         ensures { IfOk result (λ came. Comes self.old (WordValue.Sends sent) came self.new) }
     {
         if !self.standing.is_going() {
             return Ok(Came::Refused(Reason::Over));
         }
+        match self.take_mark(&sent)? {
+            Taking::New => self.meet(sent),
+            Taking::Known => Ok(self.leave()),
+            Taking::Full => Ok(self.stop(Came::Refused(Reason::Most))),
+        }
+    }
+
+    /// What comes of a line's mark, if it is one that no run before has sent here. Of one order, and of those that are drawn,
+    /// none is known, as what is behind it needn't be tried.
+    fn take_mark(&mut self, sent: &Sent<ProgramLine>) -> Result<Taking, AllocError>
+        ensures { IfOk result (λ taking. TakesMark self.old sent.now taking self.new × IsSameBut self.old self.new) }
+    {
+        let Sent::Marks(mark) = sent else {
+            return Ok(Taking::New);
+        };
+        if !self.selection.tries_whole() || !self.is_new() {
+            return Ok(Taking::New);
+        }
+        let Trial {
+            alloc,
+            orders,
+            marks,
+            states,
+            runner,
+            ..
+        } = self;
+        marks.take(*alloc, mark, orders.state(), *states, runner)
+    }
+
+    /// The run is left, since what is behind it is tried elsewhere.
+    fn leave(&mut self) -> Came
+        ensures came { result ≡ CameValue.Known }
+        ensures left { IsLeft self.old self.new }
+    {
+        self.standing = Standing::Left;
+        Came::Known
+    }
+
+    /// What the program's line meets.
+    fn meet(&mut self, sent: Sent<ProgramLine>) -> Result<Came, AllocError>
+        ensures { IfOk result (λ came. Sends self.old sent came self.new) }
+    {
         let is_new = self.is_new();
-        match send(self.alloc, &self.scenario.tracks, &mut self.orders, sent) {
+        match send(
+            self.alloc,
+            &self.scenario.tracks,
+            &mut self.runner,
+            &mut self.orders,
+            sent,
+        ) {
             Ok(()) => self.choose(is_new),
             Err(SendFault::Memory) => Err(AllocError),
             Err(SendFault::Differs) => Ok(self.stop(Came::Differs)),
@@ -111,7 +170,7 @@ impl Trial {
 
     /// An answer to the line is chosen, if no run before has sent it, and the program hears it.
     fn choose(&mut self, is_new: bool) -> Result<Came, AllocError>
-        ensures { IfOk result (λ came. IsChosen is_new self.old came self.new) }
+        ensures { IfOk result (λ came. HearsChosen is_new self.old came self.new) }
     {
         if !is_new {
             return self.hear();
@@ -181,13 +240,26 @@ impl Trial {
         unmet_number(self.alloc, &self.orders.state().state, &runs, there)
     }
 
-    /// Ends a run.
+    /// Ends a run, or goes on behind one that was left.
     fn again(&mut self) -> Result<Came, AllocError>
         ensures { IfOk result (λ came. Comes self.old WordValue.Again came self.new) }
     {
-        if !self.standing.is_going() {
-            return Ok(Came::Refused(Reason::Over));
+        match &self.standing {
+            Standing::Going => self.end_run(),
+            Standing::Left => {
+                self.standing = Standing::Going;
+                Ok(self.go_on())
+            }
+            Standing::Tried | Standing::Stopped | Standing::Broken(_) => {
+                Ok(Came::Refused(Reason::Over))
+            }
         }
+    }
+
+    /// Ends a run.
+    fn end_run(&mut self) -> Result<Came, AllocError>
+        ensures { IfOk result (λ came. EndsRun self.old came self.new) }
+    {
         if self.orders.due().is_some() {
             return Ok(self.stop(Came::Differs));
         }
@@ -196,6 +268,7 @@ impl Trial {
             &self.scenario.tracks,
             &self.scenario.rest,
             self.orders.state(),
+            &mut self.runner,
         ) {
             Ok(()) => Ok(self.go_on()),
             Err(stop) => self.end(stop),

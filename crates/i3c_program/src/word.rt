@@ -1,20 +1,25 @@
-ghost use Rattle.std.specs.Prelude.{◌≡◌, ◌≤◌, IfOk, length};
+ghost use Rattle.std.specs.Char.{is_ascii_hexdigit};
+ghost use Rattle.std.specs.List.{list_all};
+ghost use Rattle.std.specs.Prelude.{◌≡◌, ◌≤◌, IfOk, IsTrue, length};
 ghost use Rattle.i3c_lines.specs.Forms.{HasNoForm, IsCommand};
-ghost use Rattle.i3c_program.specs.Words.{IsSaid, IsWord};
+ghost use Rattle.i3c_program.specs.Words.{AreDigits, IsMark, IsSaid, IsWord};
 
 use crate::reason::Reason;
-use i3c_every::Sent;
+use i3c_every::{Mark, Sent};
 use i3c_lines::{Command, is_skipped, push_capitals};
 use i3c_scene::{ProgramLine, sends_many};
 use i3c_text::Text;
 use std::alloc::{AllocError, Global};
+
+// how many digits a mark has at most
+const MARK_LENGTH: usize = 64;
 
 /// What a line says that a program sends.
 #[derive(Drop)]
 pub enum Word {
     /// Nothing: it is empty, or a comment.
     Nothing,
-    /// The program sends a line to the bus, or waits.
+    /// The program sends a line to the bus, waits, or says by a mark what it does next.
     Sends(Sent<ProgramLine>),
     /// Its run is over.
     Again,
@@ -22,6 +27,8 @@ pub enum Word {
     Script,
     /// It asks which answers these took.
     Choices,
+    /// It asks how many of its next lines are answered as in the run before.
+    Same,
     /// It says nothing that can be done.
     Refused(Reason),
 }
@@ -51,10 +58,49 @@ pub fn read_word(alloc: Global, line: &[u8]) -> Result<Word, AllocError>
     if line == b"choices".as_slice() {
         return Ok(Word::Choices);
     }
+    if line == b"same".as_slice() {
+        return Ok(Word::Same);
+    }
+    if is_mark(line) {
+        return Ok(Word::Sends(Sent::Marks(mark_of(alloc, line)?)));
+    }
     match Command::parse(line) {
         Some(command) => read_command(alloc, line, &command),
         None => read_in_capitals(alloc, line),
     }
+}
+
+/// Whether a line is a mark.
+fn is_mark(line: &[u8]) -> bool
+    ensures { IsTrue result → IsMark line.now }
+{
+    match line.strip_prefix(b"mark ".as_slice()) {
+        Some(digits) => are_digits(digits),
+        None => false,
+    }
+}
+
+/// Whether these are 1 to 64 hexadecimal digits.
+fn are_digits(digits: &[u8]) -> bool
+    ensures { IsTrue result → AreDigits digits.now }
+{
+    !digits.is_empty() && digits.len() <= MARK_LENGTH && are_hexadecimal(digits)
+}
+
+/// Whether each digit is hexadecimal.
+fn are_hexadecimal(digits: &[u8]) -> bool
+    ensures { result ≡ list_all is_ascii_hexdigit digits.now }
+{
+    digits.iter().all(|digit| digit.is_ascii_hexdigit())
+}
+
+/// A line as a mark.
+fn mark_of(alloc: Global, line: &[u8]) -> Result<Mark, AllocError>
+    ensures { IfOk result (λ mark. mark ≡ line.now) }
+{
+    let mut bytes = Vec::new(alloc);
+    bytes.extend_from_slice(line)?;
+    Ok(Mark::new(bytes))
 }
 
 /// What a line without a form says by its form in capitals.

@@ -39,9 +39,12 @@ impl Answering for Scene {
         live.reply(alloc, rules, command, tried)
     }
 
-    fn look(&self, alloc: Global) -> Result<Reply, AllocError> {
-        let live = self.wake(alloc)?;
-        live.sight(alloc)
+    fn come(&self, alloc: Global, runner: &mut Runner) -> Result<(), AllocError> {
+        runner.wake_to(alloc, self, false)
+    }
+
+    fn look(&self, alloc: Global, runner: &Runner) -> Result<Reply, AllocError> {
+        runner.live.sight(alloc)
     }
 
     fn is_same_answer(one: &Reply, other: &Reply) -> bool {

@@ -4,7 +4,7 @@ use Rattle.clap.specs.Words.{App, Rule, Shape, Text, new_rule}
 use Rattle.clap.specs.Simple.{new_shape}
 use Rattle.clap.specs.declared.builder.action.ArgAction.TheVariants.{Append, SetTrue}
 use Rattle.clap.specs.declared.builder.value_parser.ValueParser.TheVariants.{Signed, Unsigned}
-use Rattle.i3c_task.specs.Options.{NumberOption, devices, jobs, most_lines, most_orders, posts, random, seed}
+use Rattle.i3c_task.specs.Options.{NumberOption, devices, jobs, most_lines, most_marks, most_orders, posts, random, seed}
 use Rattle.i3c_task.specs.declared.verb.Verb.{Verb}
 
 -- the file, which has to be given
@@ -45,7 +45,7 @@ name_of Verb.Stress = codes "stress"
 -- the arguments of a command
 abbrev pub arguments_of : Verb → List Rule
 arguments_of Verb.Run = file ∷ flag (codes "strict") ∷ flag (codes "numbers") ∷ flag (codes "echo") ∷ flag (codes "explain") ∷ flag (codes "test") ∷ []
-arguments_of Verb.Drive = flag (codes "json") ∷ text (codes "every") ∷ number most_orders ∷ text (codes "part") ∷ text (codes "order") ∷ number random ∷ number seed ∷ []
+arguments_of Verb.Drive = flag (codes "json") ∷ text (codes "every") ∷ number most_orders ∷ text (codes "part") ∷ text (codes "order") ∷ number random ∷ number seed ∷ number most_marks ∷ []
 arguments_of Verb.Check = file ∷ []
 arguments_of Verb.Draw = file ∷ []
 arguments_of Verb.Explore = number most_lines ∷ text (codes "part") ∷ number jobs ∷ texts (codes "by") ∷ flag (codes "quiet") ∷ file ∷ []

@@ -30,6 +30,10 @@ pub record NumberOption : Type 0 where
 abbrev pub most_lines : NumberOption
 most_lines = record { name = codes "most"; least = 0; most = 18446744073709551615; without = 10000000 }
 
+-- how many marks of a program are kept
+abbrev pub most_marks : NumberOption
+most_marks = record { name = codes "states"; least = 1; most = 18446744073709551615; without = 18446744073709551615 }
+
 abbrev pub most_orders : NumberOption
 most_orders = record { name = codes "most"; least = 1; most = 18446744073709551615; without = 18446744073709551615 }
 

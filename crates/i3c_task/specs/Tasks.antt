@@ -16,7 +16,7 @@ use Rattle.i3c_task.specs.declared.task.Waveform.{Waveform}
 use Rattle.i3c_task.specs.declared.task.Work.{Work}
 use Rattle.i3c_task.specs.declared.verb.Verb.{Verb}
 use Rattle.i3c_task.specs.Commands.{name_of, program}
-use Rattle.i3c_task.specs.Options.{AreLegacies, IsFlag, IsNumberOf, IsPartOf, IsWhich, devices, jobs, legacy_texts, most_lines, most_orders, posts, text_or, texts_of}
+use Rattle.i3c_task.specs.Options.{AreLegacies, IsFlag, IsNumberOf, IsPartOf, IsWhich, devices, jobs, legacy_texts, most_lines, most_marks, most_orders, posts, text_or, texts_of}
 use Rattle.i3c_task.specs.Words.{RunsInput}
 
 -- the file of a command: standard input without one
@@ -48,7 +48,7 @@ limits_between = record { steps = 10000000; states = 16384 }
 abbrev pub IsDrive : Found → Task → Type 0
 IsDrive found (Task.File (Work.Drive form) file) = IsForm found form × (file.now ≡ codes "-") × (first_value found (codes "every") ≡ None)
 IsDrive found (Task.Meet meeting scene) =
-    IsForm found meeting.form × (meeting.limits ≡ limits_between) × IsNumberOf most_orders found meeting.most × IsWhich found meeting.which × (first_value found (codes "every") ≡ Some scene.now)
+    IsForm found meeting.form × (meeting.limits ≡ limits_between) × IsNumberOf most_orders found meeting.most × IsNumberOf most_marks found meeting.states × IsWhich found meeting.which × (first_value found (codes "every") ≡ Some scene.now)
 IsDrive found task = ⊥
 
 -- the codes that a trace knows by name

@@ -63,12 +63,14 @@ With --json the answer to each is one object on one line, with fields for the li
   {\"line\":7,\"ok\":true,\"served\":\"turned down\"}
 
 With --every the lines of the scene's tracks run between the program's, in another order in each run of the program, until it
-has met every order. The program has four more lines:
+has met every order. The program has six more lines:
 
-  wait     it has nothing to do until something happens: 'happened', or 'nothing left'
-  again    its run is over: 'order 2' begins, or 'all 12 orders' were tried
-  script   the lines of its run so far, as a script
-  choices  the answers that they took, as 'choices 0.13.1', by which --order tries this order alone
+  wait       it has nothing to do until something happens: 'happened', or 'nothing left'
+  again      its run is over: 'order 2' begins, or 'all 12 orders' were tried
+  script     the lines of its run so far, as a script
+  choices    the answers that they took, as 'choices 0.13.1', by which --order tries this order alone
+  same       how many of its next lines are answered as in the order before
+  mark TEXT  TEXT decides what it does next: 'known' where it said so before on such a bus, and its run is left
 
 Where something doesn't hold that the scene expects, the answer is 'unmet', the line's number, and what is there instead.
 

@@ -1,7 +1,7 @@
 ghost use Rattle.std.specs.Prelude.{◌≡◌, ◌∷◌, ◌↔◌, [], IfOk, IsOkAnd, IsTrue, MatchOption, codes, length, map};
 ghost use Rattle.std.specs.String.{string_bytes};
 ghost use Rattle.clap.specs.Words.{found_of};
-ghost use Rattle.i3c_task.specs.Options.{IsNumberOf, IsWhich, most_orders};
+ghost use Rattle.i3c_task.specs.Options.{IsNumberOf, IsWhich, most_marks, most_orders};
 ghost use Rattle.i3c_task.specs.Tasks.{HasCodes, IsAskedFor, IsCapturing, IsDrive, IsExplore, IsForm, IsNamed, IsRun, IsStress, IsTaskOf, IsTelling, IsTrace, IsWave, IsWaveform, file_of, limits_between};
 ghost use Rattle.i3c_task.specs.Parsed.{IsGiven, IsReadFrom, NamesNone};
 ghost use Rattle.i3c_task.specs.Words.{RunsInput};
@@ -12,8 +12,8 @@ use crate::options::{
 };
 use crate::verb::{
     ALL, BY, DEVICES, ECHO, EVERY, EXPLAIN, FILE, FROM_TRACE, JOBS, JSON, LEGACY, LINT, MOST,
-    MOST_DEVICES, MOST_JOBS, MOST_POSTS, NUMBERS, PART, PLAIN, POSTS, QUIET, SCL, SDA, STRICT,
-    TEST, TOTALS, VCD, Verb, parser, usages,
+    MOST_DEVICES, MOST_JOBS, MOST_POSTS, NUMBERS, PART, PLAIN, POSTS, QUIET, SCL, SDA, STATES,
+    STRICT, TEST, TOTALS, VCD, Verb, parser, usages,
 };
 use crate::words_fault::WordsFault;
 use clap::ArgMatches;
@@ -132,6 +132,8 @@ pub struct Meeting {
     pub which: Which,
     /// The most orders that are tried.
     pub most: u64,
+    /// The most marks that are kept, each with the state and the places where it was sent.
+    pub states: u64,
 }
 
 /// How many devices post, and how often each tries to.
@@ -286,6 +288,7 @@ fn meeting_given(alloc: Global, given: &ArgMatches<'_>, form: Form) -> Result<Me
     ensures limits { IfOk result (λ meeting. meeting.limits ≡ limits_between) }
     ensures which { IfOk result (λ meeting. IsWhich (found_of given.now) meeting.which) }
     ensures most { IfOk result (λ meeting. IsNumberOf most_orders (found_of given.now) meeting.most) }
+    ensures states { IfOk result (λ meeting. IsNumberOf most_marks (found_of given.now) meeting.states) }
 {
     Ok(Meeting {
         form,
@@ -295,6 +298,7 @@ fn meeting_given(alloc: Global, given: &ArgMatches<'_>, form: Form) -> Result<Me
         },
         which: which_given(alloc, given)?,
         most: number_given(given, MOST, 1, u64::MAX, u64::MAX)?,
+        states: number_given(given, STATES, 1, u64::MAX, u64::MAX)?,
     })
 }
 

@@ -36,6 +36,8 @@ pub(crate) const EVERY: &str = "every";
 
 /// The option for how many orders `drive` tries, and for how many lines `explore` runs.
 pub(crate) const MOST: &str = "most";
+/// The option of `drive` that bounds how many marks are kept.
+pub(crate) const STATES: &str = "states";
 
 /// The option for the part of all orders that `drive` or `explore` tries.
 pub(crate) const PART: &str = "part";
@@ -234,6 +236,12 @@ const OF_DRIVE: &[Argument] = &[
         takes: Takes::Number("S", ValueParser::Unsigned(0, u64::MAX)),
         bond: Bond::Needs(RANDOM),
         help: "Draws them from the seed S, 0 without this",
+    },
+    Argument {
+        name: STATES,
+        takes: Takes::Number("N", ValueParser::Unsigned(1, u64::MAX)),
+        bond: Bond::Needs(EVERY),
+        help: "Gives up where more than N marks would be kept, each with the state of the bus",
     },
 ];
 

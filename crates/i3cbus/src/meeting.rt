@@ -35,12 +35,14 @@ where
         limits,
         which,
         most,
+        states,
     } = meeting;
     let terms = Terms {
         form,
         limits,
         which,
         most,
+        states,
     };
     let outcome = meet_every(rt.alloc(), terms, &mut file, &mut rt.reader(), &mut printed);
     match outcome {

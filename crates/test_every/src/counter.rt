@@ -174,7 +174,12 @@ impl Answering for Counter {
         Ok(Reply::Count(count))
     }
 
-    fn look(&self, _alloc: Global) -> Result<Reply, AllocError> {
+    fn come(&self, _alloc: Global, runner: &mut Counter) -> Result<(), AllocError> {
+        *runner = *self;
+        Ok(())
+    }
+
+    fn look(&self, _alloc: Global, _runner: &Counter) -> Result<Reply, AllocError> {
         Ok(Reply::Count(self.count))
     }
 

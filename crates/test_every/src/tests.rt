@@ -1,5 +1,5 @@
 use crate::counter::{Ask, Counter, Line, Reply, Rules};
-use i3c_every::{Met, Sent, Told, Tracks, programs_meet_every_order};
+use i3c_every::{Mark, Marks, Met, Sent, Taking, Told, Tracks, programs_meet_every_order};
 use i3c_explore::{Limits, Stop};
 use i3c_orders::{Orders, Responder, SendFault, Step, send};
 use std::alloc::{AllocError, Global};
@@ -20,6 +20,7 @@ enum Heard {
     Answered(Reply),
     Happened(Reply),
     NothingLeft(Reply),
+    Marked(Reply),
 }
 
 /// Where a step leads: what is told, the count, and the places in the tracks.
@@ -31,12 +32,18 @@ fn heard_of(told: &Told<Reply>) -> Heard {
         Told::Answered(reply) => Heard::Answered(*reply),
         Told::Happened(reply) => Heard::Happened(*reply),
         Told::NothingLeft(reply) => Heard::NothingLeft(*reply),
+        Told::Marked(reply) => Heard::Marked(*reply),
     }
 }
 
 /// A line that isn't lost is answered with this count.
 fn answered(count: u64) -> Heard {
     Heard::Answered(Reply::Count(count))
+}
+
+/// A mark is taken where this is the count.
+fn marked(count: u64) -> Heard {
+    Heard::Marked(Reply::Count(count))
 }
 
 /// Something happened while the program waited, and it sees this count.
@@ -47,6 +54,18 @@ fn happened(count: u64) -> Heard {
 /// Nothing is left, and the program sees this count.
 fn nothing_left(count: u64) -> Heard {
     Heard::NothingLeft(Reply::Count(count))
+}
+
+/// A mark of these bytes, as a program sends it.
+fn mark(alloc: Global, bytes: &[u8]) -> Result<Sent<Ask>, AllocError> {
+    Ok(Sent::Marks(mark_of(alloc, bytes)?))
+}
+
+/// A mark of these bytes.
+fn mark_of(alloc: Global, bytes: &[u8]) -> Result<Mark, AllocError> {
+    let mut copy = Vec::new(alloc);
+    copy.extend_from_slice(bytes)?;
+    Ok(Mark::new(copy))
 }
 
 /// Tracks of lines.
@@ -133,7 +152,12 @@ fn leads_by(
 fn a_line_meets_each_order_of_two_tracks(rt: HostRuntime) -> Result<(), Fail> {
     let alloc = rt.alloc();
     let tracks = tracks(alloc, &TWO, WIDE, false)?;
-    let steps = tracks.steps(alloc, &met(alloc, 1, &[0, 0])?, &Sent::Meets(Ask::Read))?;
+    let steps = tracks.steps(
+        alloc,
+        &mut runner(),
+        &met(alloc, 1, &[0, 0])?,
+        &Sent::Meets(Ask::Read),
+    )?;
     assert!(rt;
         are(
             &steps,
@@ -157,7 +181,12 @@ fn a_line_meets_each_order_of_two_tracks(rt: HostRuntime) -> Result<(), Fail> {
 fn equal_answers_states_and_places_are_one_step(rt: HostRuntime) -> Result<(), Fail> {
     let alloc = rt.alloc();
     let tracks = tracks(alloc, &TWO, WIDE, false)?;
-    let steps = tracks.steps(alloc, &met(alloc, 1, &[0, 0])?, &Sent::Meets(Ask::Clear))?;
+    let steps = tracks.steps(
+        alloc,
+        &mut runner(),
+        &met(alloc, 1, &[0, 0])?,
+        &Sent::Meets(Ask::Clear),
+    )?;
     assert!(rt;
         are(
             &steps,
@@ -176,7 +205,12 @@ fn equal_answers_states_and_places_are_one_step(rt: HostRuntime) -> Result<(), F
 fn a_line_alone_meets_no_line(rt: HostRuntime) -> Result<(), Fail> {
     let alloc = rt.alloc();
     let tracks = tracks(alloc, &TWO, WIDE, false)?;
-    let steps = tracks.steps(alloc, &met(alloc, 1, &[0, 0])?, &Sent::Alone(Ask::Read))?;
+    let steps = tracks.steps(
+        alloc,
+        &mut runner(),
+        &met(alloc, 1, &[0, 0])?,
+        &Sent::Alone(Ask::Read),
+    )?;
     assert!(rt; are(&steps, &[(answered(1), 1, &[0, 0])]));
     Ok(())
 }
@@ -186,7 +220,12 @@ fn a_line_alone_meets_no_line(rt: HostRuntime) -> Result<(), Fail> {
 fn a_line_goes_each_of_its_ways(rt: HostRuntime) -> Result<(), Fail> {
     let alloc = rt.alloc();
     let tracks = tracks(alloc, &TWO, WIDE, true)?;
-    let steps = tracks.steps(alloc, &met(alloc, 7, &[1, 0])?, &Sent::Alone(Ask::Clear))?;
+    let steps = tracks.steps(
+        alloc,
+        &mut runner(),
+        &met(alloc, 7, &[1, 0])?,
+        &Sent::Alone(Ask::Clear),
+    )?;
     assert!(rt;
         are(
             &steps,
@@ -206,7 +245,12 @@ fn a_line_goes_each_of_its_ways(rt: HostRuntime) -> Result<(), Fail> {
 fn a_line_goes_each_way_behind_each_order(rt: HostRuntime) -> Result<(), Fail> {
     let alloc = rt.alloc();
     let tracks = tracks(alloc, &TWO, WIDE, true)?;
-    let steps = tracks.steps(alloc, &met(alloc, 1, &[0, 0])?, &Sent::Meets(Ask::Read))?;
+    let steps = tracks.steps(
+        alloc,
+        &mut runner(),
+        &met(alloc, 1, &[0, 0])?,
+        &Sent::Meets(Ask::Read),
+    )?;
     let lost = Heard::Answered(Reply::Lost);
     assert!(rt;
         are(
@@ -232,7 +276,7 @@ fn a_line_goes_each_way_behind_each_order(rt: HostRuntime) -> Result<(), Fail> {
 fn in_a_wait_a_line_runs_at_least(rt: HostRuntime) -> Result<(), Fail> {
     let alloc = rt.alloc();
     let tracks = tracks(alloc, &TWO, WIDE, false)?;
-    let steps = tracks.steps(alloc, &met(alloc, 1, &[0, 0])?, &Sent::Waits)?;
+    let steps = tracks.steps(alloc, &mut runner(), &met(alloc, 1, &[0, 0])?, &Sent::Waits)?;
     assert!(rt;
         are(
             &steps,
@@ -244,7 +288,7 @@ fn in_a_wait_a_line_runs_at_least(rt: HostRuntime) -> Result<(), Fail> {
             ]
         )
     );
-    let last = tracks.steps(alloc, &met(alloc, 2, &[1, 0])?, &Sent::Waits)?;
+    let last = tracks.steps(alloc, &mut runner(), &met(alloc, 2, &[1, 0])?, &Sent::Waits)?;
     assert!(rt; are(&last, &[(happened(4), 4, &[1, 1])]));
     Ok(())
 }
@@ -253,10 +297,10 @@ fn in_a_wait_a_line_runs_at_least(rt: HostRuntime) -> Result<(), Fail> {
 fn a_wait_says_that_nothing_is_left_only_where_nothing_is(rt: HostRuntime) -> Result<(), Fail> {
     let alloc = rt.alloc();
     let some = tracks(alloc, &TWO, WIDE, false)?;
-    let steps = some.steps(alloc, &met(alloc, 4, &[1, 1])?, &Sent::Waits)?;
+    let steps = some.steps(alloc, &mut runner(), &met(alloc, 4, &[1, 1])?, &Sent::Waits)?;
     assert!(rt; are(&steps, &[(nothing_left(4), 4, &[1, 1])]));
     let none = tracks(alloc, &[], WIDE, false)?;
-    let steps = none.steps(alloc, &met(alloc, 5, &[])?, &Sent::Waits)?;
+    let steps = none.steps(alloc, &mut runner(), &met(alloc, 5, &[])?, &Sent::Waits)?;
     assert!(rt; are(&steps, &[(nothing_left(5), 5, &[])]));
     Ok(())
 }
@@ -268,13 +312,17 @@ fn a_limit_is_exceeded(rt: HostRuntime) -> Result<(), Fail> {
     let start = met(alloc, 1, &[0, 0])?;
     for (steps, states, enough) in [(4, 2, true), (3, 2, false), (4, 1, false)] {
         let tracks = tracks(alloc, &TWO, Limits { steps, states }, false)?;
-        let found = tracks.steps(alloc, &start, &Sent::Meets(Ask::Read));
+        let found = tracks.steps(alloc, &mut runner(), &start, &Sent::Meets(Ask::Read));
         assert!(rt; found.is_ok() == enough);
         assert!(rt; enough || matches!(found, Err(Stop::Most)));
-        let seen = tracks.steps(alloc, &start, &Sent::Waits);
+        let seen = tracks.steps(alloc, &mut runner(), &start, &Sent::Waits);
         assert!(rt; seen.is_ok() == enough);
         assert!(rt; enough || matches!(seen, Err(Stop::Most)));
-        assert!(rt; tracks.steps(alloc, &start, &Sent::Alone(Ask::Read)).is_ok());
+        assert!(rt;
+            tracks
+                .steps(alloc, &mut runner(), &start, &Sent::Alone(Ask::Read))
+                .is_ok()
+        );
     }
     Ok(())
 }
@@ -296,10 +344,19 @@ fn an_order_that_breaks_an_expectation_is_told(rt: HostRuntime) -> Result<(), Fa
     let alloc = rt.alloc();
     let tracks = tracks(alloc, &TWO, WIDE, false)?;
     let start = met(alloc, 500, &[0, 0])?;
-    let found = tracks.steps(alloc, &start, &Sent::Meets(Ask::Read));
+    let found = tracks.steps(alloc, &mut runner(), &start, &Sent::Meets(Ask::Read));
     assert!(rt; breaks_by(&found, &[1]));
-    assert!(rt; breaks_by(&tracks.steps(alloc, &start, &Sent::Waits), &[1]));
-    assert!(rt; tracks.steps(alloc, &start, &Sent::Alone(Ask::Read)).is_ok());
+    assert!(rt;
+        breaks_by(
+            &tracks.steps(alloc, &mut runner(), &start, &Sent::Waits),
+            &[1]
+        )
+    );
+    assert!(rt;
+        tracks
+            .steps(alloc, &mut runner(), &start, &Sent::Alone(Ask::Read))
+            .is_ok()
+    );
     Ok(())
 }
 
@@ -324,11 +381,11 @@ fn many_counts_are_steps_of_their_own(rt: HostRuntime) -> Result<(), Fail> {
     let alloc = rt.alloc();
     let counts = (ADDS + 1) + (ADDS + 1) * (ADDS + 2) / 2;
     let start = met(alloc, 1, &[0, 0])?;
-    let read = adding(alloc, false)?.steps(alloc, &start, &Sent::Meets(Ask::Read))?;
+    let read = adding(alloc, false)?.steps(alloc, &mut runner(), &start, &Sent::Meets(Ask::Read))?;
     assert!(rt; read.len() == counts);
-    let risky = adding(alloc, true)?.steps(alloc, &start, &Sent::Meets(Ask::Read))?;
+    let risky = adding(alloc, true)?.steps(alloc, &mut runner(), &start, &Sent::Meets(Ask::Read))?;
     assert!(rt; risky.len() == 2 * counts);
-    let seen = adding(alloc, false)?.steps(alloc, &start, &Sent::Waits)?;
+    let seen = adding(alloc, false)?.steps(alloc, &mut runner(), &start, &Sent::Waits)?;
     assert!(rt; seen.len() == counts - 1);
     Ok(())
 }
@@ -340,10 +397,15 @@ fn many_alike_steps_are_one(rt: HostRuntime) -> Result<(), Fail> {
     let alloc = rt.alloc();
     let counts = (ADDS + 1) + (ADDS + 1) * (ADDS + 2) / 2;
     let start = met(alloc, 1, &[0, 0])?;
-    let cleared = adding(alloc, false)?.steps(alloc, &start, &Sent::Meets(Ask::Clear))?;
+    let cleared = adding(alloc, false)?.steps(
+        alloc,
+        &mut runner(),
+        &start,
+        &Sent::Meets(Ask::Clear),
+    )?;
     assert!(rt; cleared.len() == 2 * (ADDS + 1));
     assert!(rt; leads_by(&cleared, 0, &[2, 1], &[0, 0, 1]));
-    let risky = adding(alloc, true)?.steps(alloc, &start, &Sent::Meets(Ask::Clear))?;
+    let risky = adding(alloc, true)?.steps(alloc, &mut runner(), &start, &Sent::Meets(Ask::Clear))?;
     assert!(rt; risky.len() == 2 * (ADDS + 1) + counts);
     Ok(())
 }
@@ -352,9 +414,14 @@ fn many_alike_steps_are_one(rt: HostRuntime) -> Result<(), Fail> {
 fn places_in_other_tracks_are_refused(rt: HostRuntime) -> Result<(), Fail> {
     let alloc = rt.alloc();
     let tracks = tracks(alloc, &TWO, WIDE, false)?;
-    let found = tracks.steps(alloc, &met(alloc, 1, &[0])?, &Sent::Waits);
+    let found = tracks.steps(alloc, &mut runner(), &met(alloc, 1, &[0])?, &Sent::Waits);
     assert!(rt; matches!(found, Err(Stop::Memory)));
     Ok(())
+}
+
+/// A runner in some state.
+fn runner() -> Counter {
+    Counter { count: 77 }
 }
 
 /// What a program is told of what it sends, if it is.
@@ -364,7 +431,7 @@ fn told(
     orders: &mut Orders<Sent<Ask>, Met<Counter>, Told<Reply>>,
     sent: Sent<Ask>,
 ) -> Option<Heard> {
-    if send(alloc, tracks, orders, sent).is_err() {
+    if send(alloc, tracks, &mut runner(), orders, sent).is_err() {
         return None;
     }
     match orders.newest() {
@@ -422,6 +489,78 @@ fn a_program_that_reads_and_waits_has_eight_runs(rt: HostRuntime) -> Result<(), 
     Ok(())
 }
 
+#[test]
+fn at_a_mark_the_run_stays_where_it_is(rt: HostRuntime) -> Result<(), Fail> {
+    let alloc = rt.alloc();
+    let tracks = tracks(alloc, &TWO, WIDE, false)?;
+    let steps = tracks.steps(
+        alloc,
+        &mut runner(),
+        &met(alloc, 2, &[1, 0])?,
+        &mark(alloc, b"idle")?,
+    )?;
+    assert!(rt; are(&steps, &[(marked(2), 2, &[1, 0])]));
+    Ok(())
+}
+
+#[test]
+fn another_mark_is_another_line(rt: HostRuntime) -> Result<(), Fail> {
+    let alloc = rt.alloc();
+    let tracks = tracks(alloc, &TWO, WIDE, false)?;
+    let mut orders = Orders::new(alloc, met(alloc, 1, &[0, 0])?);
+    assert!(rt; told(alloc, &tracks, &mut orders, mark(alloc, b"idle")?) == Some(marked(1)));
+    assert!(rt; told(alloc, &tracks, &mut orders, Sent::Meets(Ask::Read)).is_some());
+    assert!(rt; orders.again() == Ok(true));
+    assert!(rt;
+        matches!(
+            send(
+                alloc,
+                &tracks,
+                &mut runner(),
+                &mut orders,
+                mark(alloc, b"busy")?
+            ),
+            Err(SendFault::Differs)
+        )
+    );
+    assert!(rt; told(alloc, &tracks, &mut orders, mark(alloc, b"idle")?) == Some(marked(1)));
+    Ok(())
+}
+
+#[test]
+fn a_mark_is_known_in_the_same_state_at_the_same_places(rt: HostRuntime) -> Result<(), Fail> {
+    let alloc = rt.alloc();
+    let mut marks: Marks<Counter> = Marks::new(alloc);
+    let idle = mark_of(alloc, b"idle")?;
+    let busy = mark_of(alloc, b"busy")?;
+    let mut room = runner();
+    let here = met(alloc, 1, &[0, 0])?;
+    assert!(rt; matches!(marks.take(alloc, &idle, &here, 3, &mut room)?, Taking::New));
+    assert!(rt;
+        matches!(
+            marks.take(alloc, &idle, &here, 3, &mut room)?,
+            Taking::Known
+        )
+    );
+    assert!(rt; matches!(marks.take(alloc, &busy, &here, 3, &mut room)?, Taking::New));
+    let later = met(alloc, 1, &[1, 0])?;
+    assert!(rt; matches!(marks.take(alloc, &idle, &later, 3, &mut room)?, Taking::New));
+    let other = met(alloc, 2, &[0, 0])?;
+    assert!(rt;
+        matches!(
+            marks.take(alloc, &idle, &other, 3, &mut room)?,
+            Taking::Full
+        )
+    );
+    assert!(rt;
+        matches!(
+            marks.take(alloc, &idle, &later, 3, &mut room)?,
+            Taking::Known
+        )
+    );
+    Ok(())
+}
+
 // what is read alone isn't what meets, nor what clears, nor a wait
 #[test]
 fn a_program_that_is_not_determined_is_found(rt: HostRuntime) -> Result<(), Fail> {
@@ -433,7 +572,7 @@ fn a_program_that_is_not_determined_is_found(rt: HostRuntime) -> Result<(), Fail
     for other in [Sent::Alone(Ask::Read), Sent::Meets(Ask::Clear), Sent::Waits] {
         assert!(rt;
             matches!(
-                send(alloc, &tracks, &mut orders, other),
+                send(alloc, &tracks, &mut runner(), &mut orders, other),
                 Err(SendFault::Differs)
             )
         );
@@ -453,7 +592,7 @@ fn a_limit_that_is_exceeded_is_a_fault_of_the_line(rt: HostRuntime) -> Result<()
     let mut orders = Orders::new(alloc, met(alloc, 1, &[0, 0])?);
     assert!(rt;
         matches!(
-            send(alloc, &tracks, &mut orders, Sent::Waits),
+            send(alloc, &tracks, &mut runner(), &mut orders, Sent::Waits),
             Err(SendFault::Failed(Stop::Most))
         )
     );

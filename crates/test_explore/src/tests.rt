@@ -922,7 +922,8 @@ fn reached(
 ) -> Result<Vec<Node<Counter>>, Stop> {
     let tracks = block(alloc, tracks)?;
     let node = node_at(alloc, count, places, &tracks)?;
-    reach(alloc, node, &tracks, limits)
+    let mut runner = node.state.runner(alloc)?;
+    reach(alloc, node, &tracks, limits, &mut runner)
 }
 
 /// Whether nodes are at these counts and places, in this order, each behind as many turns as it has lines more.

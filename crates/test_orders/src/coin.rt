@@ -37,6 +37,10 @@ impl Responder for Table {
 
     type Fault = AllocError;
 
+    type Room = ();
+
+    ghost alike = { λ one other. one ≡ other };
+
     ghost gives = { λ table. AreAll Falls };
 
     ghost fails = { λ table coin line fault. ⊤ };
@@ -44,6 +48,7 @@ impl Responder for Table {
     fn steps(
         &self,
         alloc: Global,
+        _room: &mut (),
         coin: &Coin,
         line: &Line,
     ) -> Result<Vec<Step<Coin, bool>>, AllocError> {

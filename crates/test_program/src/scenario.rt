@@ -1,7 +1,7 @@
 use i3c_every::{Met, Sent, Told, Tracks, close};
-use i3c_explore::{Limits, Stop};
+use i3c_explore::{Limits, Machine as _, Stop};
 use i3c_orders::{Orders, SendFault, Step, send};
-use i3c_scene::{Line, ProgramLine, Reply, Scene};
+use i3c_scene::{Line, ProgramLine, Reply, Runner, Scene};
 use i3c_tracks::{Plan, read_plan};
 use std::alloc::{AllocError, Global};
 
@@ -18,6 +18,8 @@ pub(crate) type Answered = Step<Met<Scene>, Told<Reply>>;
 #[derive(Drop)]
 pub(crate) struct Scenario {
     alloc: Global,
+    // the bus on which lines run
+    runner: Runner,
     // the tracks of the block, and the blocks behind it
     tracks: Tracks<Scene>,
     rest: Vec<Vec<Vec<Line>>>,
@@ -143,9 +145,11 @@ pub(crate) fn read_scenario(alloc: Global, file: &[&str]) -> Result<Option<Scena
         return Ok(None);
     };
     let Parts { block, rest, .. } = parts;
+    let runner = scene.runner(alloc)?;
     let met = begun(alloc, scene, block.len())?;
     Ok(Some(Scenario {
         alloc,
+        runner,
         tracks: Tracks {
             lines: block,
             rules,
@@ -171,7 +175,13 @@ impl Scenario {
     }
 
     fn send(&mut self, sent: Sent<ProgramLine>) -> Result<(), SendFault<Stop>> {
-        send(self.alloc, &self.tracks, &mut self.orders, sent)
+        send(
+            self.alloc,
+            &self.tracks,
+            &mut self.runner,
+            &mut self.orders,
+            sent,
+        )
     }
 
     /// What the program was told last, with the state behind it.
@@ -193,8 +203,9 @@ impl Scenario {
     }
 
     /// Runs what is left in the scene: how many lines of it lead to a broken expectation, or none if all leads on.
-    pub(crate) fn closes(&self) -> Option<usize> {
-        match close(self.alloc, &self.tracks, &self.rest, self.orders.state()) {
+    pub(crate) fn closes(&mut self) -> Option<usize> {
+        let met = self.orders.state();
+        match close(self.alloc, &self.tracks, &self.rest, met, &mut self.runner) {
             Ok(()) => None,
             Err(Stop::Breaks(order)) => Some(order.len()),
             Err(_) => Some(99),

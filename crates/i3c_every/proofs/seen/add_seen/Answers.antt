@@ -13,7 +13,7 @@ returns g c =
       answer = answer;
       told = refl;
       seen = c.in_ok-answer.ensures;
-      state = c.in_ok-met.ensures.state ∙ c.in_ok-state.ensures;
+      state = c.in_ok-met.ensures.state ∙ c.in_ok-state.ensures ∙ c.in_ok-come.ensures;
       places = c.in_ok-met.ensures.places;
       ran = c.has_turns.ensures.some c.if-not-has_turns.false;
     }) c.in_ok-met.ensures.turns c.in_ok-push.ensures.items

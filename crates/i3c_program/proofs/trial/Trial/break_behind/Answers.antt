@@ -13,6 +13,6 @@ returns c =
         turns = refl;
         found = subst (λ t. Finds c.args.self.now c.args.behind.items c.in_ok-number.number t) (sym there) (subst (λ turns. Finds c.args.self.now turns c.in_ok-number.number found) c.deref.ensures.value finds);
         run = refl;
-        kept = ((refl, refl, refl), refl, refl);
+        kept = ((refl, refl, refl, (refl, refl)), refl, refl);
       },
     )

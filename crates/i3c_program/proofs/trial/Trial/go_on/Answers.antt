@@ -9,7 +9,7 @@ returns-in-Ok-true c =
       Ok true,
       record old { selection = next.self; orders = next.orders },
       subst (λ b. GoesTo old.selection old.orders (Ok b) next.self next.orders) c.in-Ok-true.field-0-test c.in-Ok-true.ensures,
-      (refl, refl, refl, refl, refl),
+      (refl, refl, refl, refl, refl, (refl, refl)),
       c.begin.ensures,
     )
 
@@ -20,7 +20,7 @@ returns-in-Ok-false c =
       Ok false,
       record old { selection = next.self; orders = next.orders },
       subst (λ b. GoesTo old.selection old.orders (Ok b) next.self next.orders) c.in-Ok-false.field-0-test c.in-Ok-false.ensures,
-      (refl, refl, refl, refl, refl),
+      (refl, refl, refl, refl, refl, (refl, refl)),
       c.end_all.ensures,
     )
 
@@ -31,6 +31,6 @@ returns-in-Err c =
       Err _,
       record old { selection = next.self; orders = next.orders },
       c.in-Err.ensures,
-      (refl, refl, refl, refl, refl),
+      (refl, refl, refl, refl, refl, (refl, refl)),
       (c.stop.ensures.came, c.stop.ensures.stopped),
     )

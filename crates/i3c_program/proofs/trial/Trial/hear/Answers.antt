@@ -13,7 +13,7 @@ returns c =
         change = subst (λ names. HasChanged c.args.self.now.asked.items names c.in_ok-changed.changed) asking c.in_ok-changed.ensures.changed;
         stands = subst (λ r. StandsAt r.unmet r.there c.in_ok-self.field-0) reply c.in_ok-self.ensures;
         order = refl;
-        kept = (refl, refl, refl);
+        kept = (refl, refl, refl, (refl, refl));
       },
       refl,
     )

@@ -1,24 +1,21 @@
-use Rattle.std.proofs.Common.{Err, refl, subst}
-use Rattle.i3c_orders.specs.Paths.{Answers as SendsSo}
-use Rattle.std.specs.Result.{IfOk}
-use Rattle.i3c_program.specs.Sessions.{IsChosen, fails, gives}
-use Rattle.i3c_program.proofs.Coming.{chosen_comes, differs_comes, failed_comes}
+use Rattle.std.proofs.Common.{inr, refl, subst}
+use Rattle.i3c_every.specs.declared.marks.Taking.{Taking}
+use Rattle.i3c_program.specs.Sessions.{TakesMark}
 use Rattle.i3c_program.proofs.Written.{if_ok}
 use Rattle.i3c_program.proofs.trial.Trial.send.Goals as goal
 
-pub returns-in-Ok : goal.returns-in-Ok
-returns-in-Ok c =
-    let old = c.args.self.now in
-    let chosen = subst (λ b. IfOk c.choose.result (λ came. IsChosen b (record old { orders = c.send.new.orders }) came c.choose.new.self)) c.is_new-is_new.ensures c.choose.ensures in
-    if_ok _ _ c.choose.result (λ came is. chosen_comes old c.args.sent c.send.new.orders (c.if-not-is_going.ensures.0 refl) came _ c.in-Ok.ensures is) chosen
+pub returns-in-New : goal.returns-in-New
+returns-in-New c =
+    let (takes, same) = c.in_ok-take_mark.ensures in
+    let is_new = subst (λ t. TakesMark c.args.self.now c.args.sent t c.take_mark.new.self) c.in-New.is takes in
+    if_ok _ _ c.meet.result (λ came goes. inr (c.if-not-is_going.ensures.0 refl, (Taking.New, c.take_mark.new.self, is_new, same, goes))) c.meet.ensures
 
-pub returns-in-Err-Differs : goal.returns-in-Err-Differs
-returns-in-Err-Differs c =
-    differs_comes c.args.self.now c.args.sent c.send.new.orders (c.if-not-is_going.ensures.0 refl) c.stop.result c.stop.new.self
-    (subst (λ f. SendsSo (gives c.args.self.now) (fails c.args.self.now) c.args.self.now.orders c.args.sent (Err f) c.send.new.orders) c.in-Err-Differs.field-0-is c.in-Err-Differs.ensures) c.stop.ensures.came c.stop.ensures.stopped
+pub returns-in-Known : goal.returns-in-Known
+returns-in-Known c =
+    let (takes, same) = c.in_ok-take_mark.ensures in
+    inr (c.if-not-is_going.ensures.0 refl, (Taking.Known, c.take_mark.new.self, subst (λ t. TakesMark c.args.self.now c.args.sent t c.take_mark.new.self) c.in-Known.is takes, same, (c.leave.ensures.came, c.leave.ensures.left)))
 
-pub returns-in-Err-Failed : goal.returns-in-Err-Failed
-returns-in-Err-Failed c =
-    if_ok _ _ c.end.result
-    (λ came by. failed_comes c.args.self.now c.args.sent c.send.new.orders (c.if-not-is_going.ensures.0 refl) c.in-Err-Failed.stop came _
-    (subst (λ f. SendsSo (gives c.args.self.now) (fails c.args.self.now) c.args.self.now.orders c.args.sent (Err f) c.send.new.orders) c.in-Err-Failed.field-0-is c.in-Err-Failed.ensures) by) c.end.ensures
+pub returns-in-Full : goal.returns-in-Full
+returns-in-Full c =
+    let (takes, same) = c.in_ok-take_mark.ensures in
+    inr (c.if-not-is_going.ensures.0 refl, (Taking.Full, c.take_mark.new.self, subst (λ t. TakesMark c.args.self.now c.args.sent t c.take_mark.new.self) c.in-Full.is takes, same, (c.stop.ensures.came, c.stop.ensures.stopped)))

@@ -1,0 +1,15 @@
+use Rattle.std.proofs.Common.{◌∙◌, ◌++◌, ◌∷◌, [], List, ap, refl, subst, sym}
+use Rattle.i3c_orders.specs.declared.choice.Step.{Step}
+use Rattle.i3c_every.specs.declared.met.Met.{Met}
+use Rattle.i3c_every.specs.declared.told.Told.{Told}
+use Rattle.i3c_every.proofs.tracks.marked.Goals as goal
+
+pub returns : goal.returns
+returns g c =
+    let answer = c.in_ok-answer.answer in
+    let step : Step (Met g.row.M.Denot) (Told g.row.M-Answer.Denot) = record { answer = Told.Marked answer; state = c.in_ok-state.state } in (
+      step,
+      c.in_ok-push.ensures.items ∙ ap (λ (l : List (Step (Met g.row.M.Denot) (Told g.row.M-Answer.Denot))). l ++ step ∷ []) c.new-steps.ensures.items,
+      (answer, refl, subst (λ (s : g.row.M.Denot). g.M.Answering.sees s answer) (sym c.in_ok-state.ensures.state) c.in_ok-answer.ensures, (c.in_ok-state.ensures.state, c.in_ok-state.ensures.places)),
+      c.in_ok-state.ensures.turns,
+    )
