@@ -20,7 +20,6 @@ enum {
     FIRST_ROOM = 4096,
     ASKING_ROOM = 64 * (DASKREYF_NAME + 1) + 1,
     AS_ROOM = LINE_ROOM,
-    END_ROOM = 48, /* the begin of an answer's last line, with its number */
     QUEUE_ROOM = 4096, /* a pipe takes as much at once */
     FIRST_TURNS = 16,
     FIRST_FREE_DESCRIPTOR = 3,
@@ -328,16 +327,35 @@ static bool receive_piece(struct daskreyf *bus)
     return true;
 }
 
+static bool begins(const char *text, const char *word)
+{
+    return !strncmp(text, word, strlen(word));
+}
+
+/* What is behind this number, if the text begins with it. */
+static const char *behind_number(const char *text, uint64_t number)
+{
+    uint64_t found = 0;
+    const char *end = text;
+
+    for (; isdigit((unsigned char)*end); end++)
+        found = 10 * found + (uint64_t)(*end - '0');
+    return end > text && found == number ? end : NULL;
+}
+
 /* Whether the line ends the answer to the line with this number. No other line looks so, whatever devices are called. */
 static bool is_last(uint64_t number, const char *line)
 {
-    char done[END_ROOM], refused[END_ROOM];
-    int length, ends;
+    const char *end;
 
-    ends = snprintf(done, sizeof done, "ok %" PRIu64 "\n", number);
-    length = snprintf(refused, sizeof refused, "refused %" PRIu64 " ", number);
-    return !strncmp(line, done, (size_t)ends)
-        || (!strncmp(line, refused, (size_t)length) && isupper((unsigned char)line[length]));
+    if (begins(line, "ok ")) {
+        end = behind_number(line + strlen("ok "), number);
+        return end && *end == '\n';
+    }
+    if (!begins(line, "refused "))
+        return false;
+    end = behind_number(line + strlen("refused "), number);
+    return end && *end == ' ' && isupper((unsigned char)end[1]);
 }
 
 /* Whether the answer is whole: nothing comes behind its last line before another one is sent. */
@@ -397,11 +415,6 @@ static void cut_line(struct daskreyf *bus, const char *line)
         bus->answer[line - bus->answer - 1] = '\0';
 }
 
-static bool begins(const char *text, const char *word)
-{
-    return !strncmp(text, word, strlen(word));
-}
-
 /* The line `asking`. What looks so behind a line that prints a name is a device of this name. */
 static void take_asking(struct daskreyf *bus, const char *sent)
 {
@@ -424,7 +437,7 @@ static bool take_record(struct daskreyf *bus, const char *sent)
     unsigned byte;
     int end = 0;
 
-    if (begins(sent, "show")
+    if (begins(sent, "show") || !begins(line, "record ")
         || sscanf(line, "record %lu slot %u raise %lu at %2" SCNx8 " byte %n", &record->number, &record->slot,
                &record->raised, &record->address, &end) != 4
         || !end)
@@ -453,7 +466,7 @@ static void take_served(struct daskreyf *bus, const char *sent)
         served->request = DASKREYF_TORN;
     else if (is_first(bus->text, "joining"))
         served->request = DASKREYF_JOINING;
-    else if (sscanf(bus->text, "wants role %2" SCNx8, &served->address) == 1)
+    else if (begins(bus->text, "wants role ") && sscanf(bus->text, "wants role %2" SCNx8, &served->address) == 1)
         served->request = DASKREYF_WANTS_ROLE;
 }
 
@@ -893,6 +906,26 @@ enum daskreyf_result daskreyf_list(struct daskreyf *bus)
     return daskreyf_line(bus, "list");
 }
 
+/* The value of a hexadecimal digit, or -1. */
+static int value_of(char digit)
+{
+    static const char digits[] = "0123456789ABCDEF";
+    const char *found = digit ? strchr(digits, digit) : NULL;
+
+    return found ? (int)(found - digits) : -1;
+}
+
+/* A byte of two digits. */
+static bool read_byte(const char *digits, uint8_t *byte)
+{
+    int high = value_of(digits[0]), low = high < 0 ? -1 : value_of(digits[1]);
+
+    if (low < 0)
+        return false;
+    *byte = (uint8_t)(16 * high + low);
+    return true;
+}
+
 /* Takes the bytes of the answer: behind this word from `least` to `most` of them, which are stored: `count` of them. */
 static enum daskreyf_result told_bytes(
     struct daskreyf *bus, const char *told, uint8_t *bytes, size_t least, size_t most, size_t *count)
@@ -906,7 +939,7 @@ static enum daskreyf_result told_bytes(
     if (*count < least || *count > most)
         return broken(bus);
     for (size_t i = 0; i < *count; i++)
-        if (sscanf(digits + 2 * i, "%2" SCNx8, &bytes[i]) != 1)
+        if (!read_byte(digits + 2 * i, &bytes[i]))
             return broken(bus);
     return DASKREYF_OK;
 }

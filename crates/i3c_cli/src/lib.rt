@@ -20,7 +20,7 @@ mod waving;
 pub use drawing::draw_script;
 pub use ending::{BREAKS, DONE, FAULT, REFUSED, tally_status};
 pub use fault::Fault;
-pub use output::{Output, print_fault};
+pub use output::{Output, gathered_output, print_fault};
 pub use run::{owned_text, reading_fault, run_capture, run_file};
 pub use stressing::run_stress;
 pub use telling::{print_capture, print_trace};

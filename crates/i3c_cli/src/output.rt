@@ -1,7 +1,7 @@
 use crate::fault::Fault;
 use crate::run::reading_fault;
 use std::fmt::Write as _;
-use std::io::{self, ErrorKind, Write};
+use std::io::{self, BufWriter, ErrorKind, Write};
 use std::rt::Files;
 use std::{fmt, fs};
 
@@ -64,6 +64,20 @@ impl<'a, R: Files + Print + AllocGlobal> Output<'a, R> {
             rt,
             room: room_left(rt, Stream::Output)?,
         })
+    }
+}
+
+/// Standard output in which what is printed waits until it is flushed, or is much.
+///
+/// # Errors
+///
+/// There is no memory for it.
+pub fn gathered_output<R: Files + Print + AllocGlobal>(
+    rt: &R,
+) -> Result<BufWriter<Output<'_, R>>, Fault> {
+    match BufWriter::new(rt.alloc(), Output::new(rt)?) {
+        Ok(printed) => Ok(printed),
+        Err(_) => Err(Fault::Memory),
     }
 }
 

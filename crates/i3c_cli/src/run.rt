@@ -1,7 +1,7 @@
 use crate::drawing::draw_script;
 use crate::ending::{flushed_tally, tally_of, wave_ending};
 use crate::fault::Fault;
-use crate::output::Output;
+use crate::output::{Output, gathered_output};
 use crate::standard_error::StandardError;
 use crate::telling::{print_capture, print_trace};
 use crate::waving::{content_of, wave_script};
@@ -97,13 +97,13 @@ fn script_from<R: Files + Print + AllocGlobal, S: Read>(
     tally_of(outcome, flushed)
 }
 
-/// Answers the lines of a reader, each before the next is read.
+/// Answers the lines of a reader one after another.
 fn drive_from<R: Files + Print + AllocGlobal, S: Read>(
     rt: &R,
     form: Form,
     input: &mut S,
 ) -> Result<Tally, Fault> {
-    let mut printed = Output::new(rt)?;
+    let mut printed = gathered_output(rt)?;
     let outcome = run_driven(rt.alloc(), form, input, &mut printed);
     let flushed = printed.flush().is_ok();
     tally_of(outcome, flushed)

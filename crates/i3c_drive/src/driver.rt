@@ -19,7 +19,8 @@ use std::alloc::{AllocError, Global};
 use std::io::{Read, Write};
 use std::mem;
 
-/// Runs the lines that another program sends, and answers each before it reads the next, until the input ends.
+/// Runs the lines that another program sends, and answers one after another, until the input ends. The writer is flushed before
+/// more of the input is read.
 ///
 /// As lines an answer begins with what the line prints in a script. Then comes each record that the line added to the log, as
 /// `show` prints it. Where those have changed whose requests the next frame would meet, `asking` and their names follow. The

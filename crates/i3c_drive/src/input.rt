@@ -59,6 +59,11 @@ impl Input {
         self.line.as_slice()
     }
 
+    /// Whether the line behind the one in hand was read whole.
+    pub(crate) fn has_more(&self) -> bool {
+        position_of_feed(&self.piece[self.next..self.end]).is_some()
+    }
+
     /// Takes the next line in hand, for which the input is read as far as need be.
     pub(crate) fn advance<R: Read>(&mut self, reader: &mut R) -> Result<Next, ScriptFault>
         ensures given { MatchResult result (Gives (R.remaining reader.old) (R.remaining reader.new) self.old self.new)

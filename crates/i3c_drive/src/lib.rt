@@ -1,4 +1,4 @@
-//! The lines of another program, each answered before the next is read; and a bus that is driven by them.
+//! The lines of another program, answered one after another; and a bus that is driven by them.
 //!
 //! `input` reads one line after another and keeps no more than a piece of the input. `serving` hands each line to an
 //! [`Answerer`], and writes the answer out ([`answer_lines`]).

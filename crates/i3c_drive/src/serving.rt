@@ -1,6 +1,7 @@
 ghost use Rattle.std.specs.Prelude.{OnOk};
 ghost use Rattle.std.specs.Io.KnownBytes.{IsAtEnd};
 ghost use Rattle.i3c_drive.specs.Serving.{Serves, ServesLine};
+ghost use Rattle.i3c_lines.specs.Gathering.{gathered};
 
 use crate::answerer::Answerer;
 use crate::input::{Input, Next};
@@ -9,10 +10,11 @@ use i3c_text::Text;
 use std::alloc::Global;
 use std::io::{Read, Write};
 
-/// Answers each line of an input before it reads the next, until the input ends. The lines are counted from 1.
+/// Answers the lines of an input one after another, until the input ends. The lines are counted from 1.
 ///
-/// The input may have any length, and its last line may lack the line feed. Before a fault all answers went out, but to a
-/// writer that fails only a part of them.
+/// The writer is flushed before more of the input is read, so that nobody waits for the answer to a line that came. The input
+/// may have any length, and its last line may lack the line feed. Before a fault all answers were written, but to a writer that
+/// fails only a part of them; if the writer keeps bytes back, flush it then.
 ///
 /// # Errors
 ///
@@ -40,8 +42,8 @@ pub fn answer_lines<A: Answerer, R: Read, W: Write>(
         };
         match next {
             Next::End => return Ok(()),
-            Next::Last => return answer_line(answerer, number, input.line(), &mut text, writer),
-            Next::Line => match answer_line(answerer, number, input.line(), &mut text, writer) {
+            Next::Last => return answer_line(answerer, number, &input, &mut text, writer),
+            Next::Line => match answer_line(answerer, number, &input, &mut text, writer) {
                 Ok(()) => {}
                 Err(fault) => return Err(fault),
             },
@@ -51,24 +53,27 @@ pub fn answer_lines<A: Answerer, R: Read, W: Write>(
     Err(ScriptFault::TooLarge)
 }
 
-/// Answers a line, and writes the answer out.
+/// Answers the line in hand, and writes the answer out. The writer is flushed if no further line was read.
 fn answer_line<A: Answerer, W: Write>(
     answerer: &mut A,
     number: u64,
-    line: &[u8],
+    input: &Input,
     text: &mut Text,
     out: &mut W,
 ) -> Result<(), ScriptFault>
-    ensures { ServesLine A.answers number line.now (W.contents out.old) (W.contents out.new) answerer.old answerer.new result }
+    ensures { ServesLine A.answers number (gathered input.now.line) (W.contents out.old) (W.contents out.new) answerer.old answerer.new result }
 {
     text.clear();
-    match answerer.answer(number, line, text) {
+    match answerer.answer(number, input.line(), text) {
         Ok(()) => {}
         Err(_) => return Err(ScriptFault::Memory),
     }
     match write_out(text.as_bytes(), out) {
         Ok(()) => {}
         Err(fault) => return Err(fault),
+    }
+    if input.has_more() {
+        return Ok(());
     }
     match out.flush() {
         Ok(()) => Ok(()),

@@ -9,7 +9,7 @@ use Rattle.i3c_every.specs.Answered.{Adds, AreAdded, AreAnswered, IsAlike, IsAns
 use Rattle.i3c_every.specs.declared.met.Met.{Met}
 use Rattle.i3c_every.specs.declared.told.Told.{Told}
 
-only_one : {X : Type 0} (y x : X) → Contains (y ∷ []) x → x ≡ y
+pub only_one : {X : Type 0} (y x : X) → Contains (y ∷ []) x → x ≡ y
 only_one y x (zero, few, is) = sym is
 only_one y x (suc k, few, is) = absurd (omega (arith, few))
 

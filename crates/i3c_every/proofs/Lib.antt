@@ -1,4 +1,5 @@
 mod Adding
+mod Again
 mod Between
 mod Closed
 mod Covering

@@ -9,7 +9,7 @@ use crate::hashed::Hashed;
 use crate::met::Met;
 use crate::told::Told;
 use i3c_explore::Node;
-use i3c_orders::Step;
+use i3c_orders::{Shared, Step};
 use std::alloc::{AllocError, Global};
 use std::hash::{FoldHasher, Hash, Hasher};
 
@@ -47,7 +47,7 @@ fn is_alike<M: Answering>(
 
 /// Whether the step at an index is alike.
 fn is_alike_at<M: Answering>(
-    steps: &[Step<Met<M>, Told<M::Answer>>],
+    steps: &[Shared<Step<Met<M>, Told<M::Answer>>>],
     index: usize,
     answer: &M::Answer,
     places: &[usize],
@@ -56,14 +56,14 @@ fn is_alike_at<M: Answering>(
     ensures { IsTrue result → (step : StepValue (MetValue M) (ToldValue M.Answer)) × Contains steps.now step × Tells answer.now places.now (M.shown runner.now) step }
 {
     match steps.get(index) {
-        Some(step) => is_alike::<M>(step, answer, places, runner),
+        Some(step) => is_alike::<M>(step.get(), answer, places, runner),
         None => false,
     }
 }
 
 /// Whether one of the steps that have a hash is alike.
 fn has_alike<M: Answering>(
-    steps: &Hashed<Step<Met<M>, Told<M::Answer>>>,
+    steps: &Hashed<Shared<Step<Met<M>, Told<M::Answer>>>>,
     hash: u64,
     answer: &M::Answer,
     places: &[usize],
@@ -109,7 +109,7 @@ fn add_answer<M: Answering>(
     line: &M::ProgramLine,
     way: usize,
     runner: &mut M::Runner,
-    steps: &mut Hashed<Step<Met<M>, Told<M::Answer>>>,
+    steps: &mut Hashed<Shared<Step<Met<M>, Told<M::Answer>>>>,
 ) -> Result<(), AllocError>
     ensures { OnOk result ((step : StepValue (MetValue M) (ToldValue M.Answer)) × IsAnsweredAt (M.answers rules.now) node.now line.now way step × IsKeptAt node.now way step × Adds step steps.old.values.items steps.new.values.items) }
 {
@@ -120,14 +120,14 @@ fn add_answer<M: Answering>(
     }
     let state = M::kept(alloc, runner, None)?;
     let met = met_at(alloc, node, state, way)?;
-    steps.push(
+    let step = Shared::new(
         alloc,
-        hash,
         Step {
             answer: Told::Answered(answer),
             state: met,
         },
-    )
+    )?;
+    steps.push(alloc, hash, step)
 }
 
 /// Adds what a line is answered at a node, on a runner.
@@ -137,7 +137,7 @@ fn add_answers<M: Answering>(
     rules: &M::Rules,
     line: &M::ProgramLine,
     runner: &mut M::Runner,
-    steps: &mut Hashed<Step<Met<M>, Told<M::Answer>>>,
+    steps: &mut Hashed<Shared<Step<Met<M>, Told<M::Answer>>>>,
 ) -> Result<(), AllocError>
     ensures { OnOk result (AreAdded (M.answers rules.now) node.now line.now steps.old.values.items steps.new.values.items) }
 {
@@ -155,7 +155,7 @@ pub(crate) fn answers_at<M: Answering>(
     rules: &M::Rules,
     line: &M::ProgramLine,
     runner: &mut M::Runner,
-) -> Result<Vec<Step<Met<M>, Told<M::Answer>>>, AllocError>
+) -> Result<Vec<Shared<Step<Met<M>, Told<M::Answer>>>>, AllocError>
     ensures { IfOk result (λ steps. AreAnswered (M.answers rules.now) nodes.now line.now steps.items) }
 {
     let mut steps = Hashed::new(alloc);

@@ -53,6 +53,13 @@ pub trait Answering: Machine {
     fn is_same_answer(one: &Self::Answer, other: &Self::Answer) -> bool
         ensures { IsTrue result → one.now ≡ other.now };
 
+    /// A hash of a line.
+    fn hash_line(line: &Self::ProgramLine) -> u64;
+
+    /// The same line once more.
+    fn copied_line(alloc: Global, line: &Self::ProgramLine) -> Result<Self::ProgramLine, AllocError>
+        ensures { IfOk result (λ copy. copy ≡ line.now) };
+
     /// Whether two lines are the same.
     fn is_same_line(one: &Self::ProgramLine, other: &Self::ProgramLine) -> bool
         ensures { IsTrue result ↔ (one.now ≡ other.now) };

@@ -1,4 +1,4 @@
-ghost use Rattle.std.specs.Prelude.{◌≡◌, ◌++◌, ◌∷◌, [], OnOk};
+ghost use Rattle.std.specs.Prelude.{◌≡◌, ◌++◌, ◌∷◌, [], OnErr, OnOk};
 
 use std::alloc::{AllocError, Global};
 use std::collections::HashMap;
@@ -35,7 +35,8 @@ impl<T: Drop> Hashed<T> {
 
     /// Adds a value, with its hash.
     pub(crate) fn push(&mut self, alloc: Global, hash: u64, value: T) -> Result<(), AllocError>
-        ensures { OnOk result (self.new.values.items ≡ self.old.values.items ++ value ∷ []) }
+        ensures added { OnOk result (self.new.values.items ≡ self.old.values.items ++ value ∷ []) }
+        ensures same { OnErr result (self.new.values.items ≡ self.old.values.items) }
     {
         let indices = self.indices.entry(hash)?.or_insert(Vec::new(alloc));
         indices.push(self.values.len())?;

@@ -14,7 +14,7 @@ ghost use Rattle.i3c_every.specs.Marked.{AllMeet};
 ghost use Rattle.i3c_every.specs.Meeting.{HasSameState};
 
 use crate::answering::Answering;
-use crate::tracks::Tracks;
+use crate::recalling::Recalling;
 use i3c_orders::{Responder, calls_try_all_runs, marked_runs_are_covered};
 
 /// For a program that is determined by its answers, where `again` says that no run is left: each of its lines met every order
@@ -24,18 +24,18 @@ use i3c_orders::{Responder, calls_try_all_runs, marked_runs_are_covered};
 /// in the same state at the same places.
 pub fn programs_meet_every_order<M: Answering>()
     ensures all { (tracks : TracksValue M M.Rules M.ProgramLine M.Answer M.Line M.Runner) (program : List (ToldValue M.Answer) → Option (SentValue M.ProgramLine)) (start : MetValue M) (calls : List Call) (tried : List (List (StepValue (MetValue M) (ToldValue M.Answer)))) (old new : Tree (SentValue M.ProgramLine) (MetValue M) (ToldValue M.Answer))
-        → IsSession (⟦<Tracks<M> as Responder>⟧.gives tracks) program start calls tried old → program (told_now old) ≡ None → Ends old (Ok false) new
+        → IsSession (⟦<Recalling<M> as Responder>⟧.gives tracks) program start calls tried old → program (told_now old) ≡ None → Ends old (Ok false) new
         → MeetsEvery M.steps (M.answers tracks.rules) M.sees tracks.lines.items program start (steps_of old.path ∷ tried) [] }
     ensures only { (tracks : TracksValue M M.Rules M.ProgramLine M.Answer M.Line M.Runner) (program : List (ToldValue M.Answer) → Option (SentValue M.ProgramLine)) (start : MetValue M) (calls : List Call) (tried : List (List (StepValue (MetValue M) (ToldValue M.Answer)))) (old new : Tree (SentValue M.ProgramLine) (MetValue M) (ToldValue M.Answer))
-        → IsSession (⟦<Tracks<M> as Responder>⟧.gives tracks) program start calls tried old → program (told_now old) ≡ None → Ends old (Ok false) new
+        → IsSession (⟦<Recalling<M> as Responder>⟧.gives tracks) program start calls tried old → program (told_now old) ≡ None → Ends old (Ok false) new
         → (run : List (StepValue (MetValue M) (ToldValue M.Answer))) → Contains (steps_of old.path ∷ tried) run → IsRun (HasMet M.steps (M.answers tracks.rules) M.sees tracks.lines.items) program start run }
     ensures determined { (tracks : TracksValue M M.Rules M.ProgramLine M.Answer M.Line M.Runner) → IsDetermined M.steps (M.answers tracks.rules) M.sees
         → (program : List (ToldValue M.Answer) → Option (SentValue M.ProgramLine)) (start : MetValue M) (calls : List Call) (tried : List (List (StepValue (MetValue M) (ToldValue M.Answer)))) (old new : Tree (SentValue M.ProgramLine) (MetValue M) (ToldValue M.Answer))
-        → IsSession (⟦<Tracks<M> as Responder>⟧.gives tracks) program start calls tried old → program (told_now old) ≡ None → Ends old (Ok false) new
+        → IsSession (⟦<Recalling<M> as Responder>⟧.gives tracks) program start calls tried old → program (told_now old) ≡ None → Ends old (Ok false) new
         → (run : List (StepValue (MetValue M) (ToldValue M.Answer))) → IsRun (MayMeet M.steps (M.answers tracks.rules) M.sees tracks.lines.items) program start run
         → (other : List (StepValue (MetValue M) (ToldValue M.Answer))) × Contains (steps_of old.path ∷ tried) other × AreAlike start other run }
 {
-    calls_try_all_runs::<Tracks<M>>()
+    calls_try_all_runs::<Recalling<M>>()
 }
 
 /// For a program that leaves a run where its next line is known: it sent the line before, in the same state at the same places,
@@ -46,14 +46,14 @@ pub fn programs_meet_every_order<M: Answering>()
 /// told in one of them.
 pub fn marked_programs_meet_every_order<M: Answering>()
     ensures covered { (tracks : TracksValue M M.Rules M.ProgramLine M.Answer M.Line M.Runner) (program : List (ToldValue M.Answer) → Option (SentValue M.ProgramLine)) (start : MetValue M) (turns : List Turn) (tried : List (List (StepValue (MetValue M) (ToldValue M.Answer)))) (path : List (ChoiceValue (SentValue M.ProgramLine) (MetValue M) (ToldValue M.Answer)))
-        → AreMarked (⟦<Tracks<M> as Responder>⟧.gives tracks) HasSameState program start turns tried path → IsOver path
+        → AreMarked (⟦<Recalling<M> as Responder>⟧.gives tracks) HasSameState program start turns tried path → IsOver path
         → (program (told_by (steps_of path)) ≡ None) ⊎ IsKnown HasSameState program start (steps_of path ∷ tried) (steps_of path)
         → AllMeet M.steps (M.answers tracks.rules) M.sees tracks.lines.items program start (steps_of path ∷ tried) }
     ensures determined { (tracks : TracksValue M M.Rules M.ProgramLine M.Answer M.Line M.Runner) → IsDetermined M.steps (M.answers tracks.rules) M.sees
         → (program : List (ToldValue M.Answer) → Option (SentValue M.ProgramLine)) (start : MetValue M) (turns : List Turn) (tried : List (List (StepValue (MetValue M) (ToldValue M.Answer)))) (path : List (ChoiceValue (SentValue M.ProgramLine) (MetValue M) (ToldValue M.Answer)))
-        → AreMarked (⟦<Tracks<M> as Responder>⟧.gives tracks) HasSameState program start turns tried path → IsOver path
+        → AreMarked (⟦<Recalling<M> as Responder>⟧.gives tracks) HasSameState program start turns tried path → IsOver path
         → (program (told_by (steps_of path)) ≡ None) ⊎ IsKnown HasSameState program start (steps_of path ∷ tried) (steps_of path)
         → (run : List (StepValue (MetValue M) (ToldValue M.Answer))) → IsRun (MayMeet M.steps (M.answers tracks.rules) M.sees tracks.lines.items) program start run → IsMatched HasSameState program start (steps_of path ∷ tried) run }
 {
-    marked_runs_are_covered::<Tracks<M>>()
+    marked_runs_are_covered::<Recalling<M>>()
 }

@@ -1,7 +1,7 @@
 //! A machine that answers a program while lines of tracks run on it, in every order.
 //!
 //! A program sends lines to a machine and reads the answers. Meanwhile lines of tracks run on the machine: each track's lines
-//! keep their order, and the tracks interleave. [`Tracks`] is such a machine for `i3c_orders`, which lets the program run
+//! keep their order, and the tracks interleave. [`Recalling`] is such a machine for `i3c_orders`, which lets the program run
 //! again and again until it has met every order.
 //!
 //! * `answering` is a machine whose lines are answered ([`Answering`]). The program's lines are of another type than those of
@@ -11,7 +11,7 @@
 //! * `met` is where a run is: a state, and the places in the tracks.
 //! * `answered` has the answers that a line is given in some states, and `seen` what a program that waited sees there.
 //!   `hashed` finds an answer that was given before.
-//! * `tracks` answers what a program sends.
+//! * `tracks` answers what a program sends, and `recalling` keeps that: in the same state at the same places it is told again.
 //! * `closing` runs what is left where a program's run is over: the lines that are left in the tracks, and blocks behind them.
 //! * `laws` says what was tried where no run is left.
 //!
@@ -42,6 +42,7 @@ mod laws;
 mod mark;
 mod marks;
 mod met;
+mod recalling;
 mod seen;
 mod sent;
 mod told;
@@ -53,6 +54,7 @@ pub use laws::{marked_programs_meet_every_order, programs_meet_every_order};
 pub use mark::Mark;
 pub use marks::{Marks, Taken, Taking};
 pub use met::Met;
+pub use recalling::Recalling;
 pub use sent::Sent;
 pub use told::Told;
 pub use tracks::Tracks;

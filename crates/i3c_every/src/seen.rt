@@ -6,7 +6,7 @@ use crate::answering::Answering;
 use crate::met::Met;
 use crate::told::Told;
 use i3c_explore::Node;
-use i3c_orders::Step;
+use i3c_orders::{Shared, Step};
 use std::alloc::{AllocError, Global};
 
 /// Whether lines of the tracks ran before a node.
@@ -24,7 +24,7 @@ fn add_seen<M: Answering>(
     alloc: Global,
     node: &Node<M>,
     runner: &mut M::Runner,
-    steps: &mut Vec<Step<Met<M>, Told<M::Answer>>>,
+    steps: &mut Vec<Shared<Step<Met<M>, Told<M::Answer>>>>,
 ) -> Result<(), AllocError>
     ensures { OnOk result (IsSeenAdded M.sees node.now steps.old.items steps.new.items) }
 {
@@ -35,10 +35,14 @@ fn add_seen<M: Answering>(
     let answer = node.state.look(alloc, runner)?;
     let state = M::kept(alloc, runner, None)?;
     let met = met_at(alloc, node, state, 0)?;
-    steps.push(Step {
-        answer: Told::Happened(answer),
-        state: met,
-    })?;
+    let step = Shared::new(
+        alloc,
+        Step {
+            answer: Told::Happened(answer),
+            state: met,
+        },
+    )?;
+    steps.push(step)?;
     Ok(())
 }
 
@@ -47,7 +51,7 @@ pub(crate) fn seen_at<M: Answering>(
     alloc: Global,
     nodes: &[Node<M>],
     runner: &mut M::Runner,
-) -> Result<Vec<Step<Met<M>, Told<M::Answer>>>, AllocError>
+) -> Result<Vec<Shared<Step<Met<M>, Told<M::Answer>>>>, AllocError>
     ensures { IfOk result (λ steps. AreSeen M.sees nodes.now steps.items) }
 {
     let mut steps = Vec::new(alloc);

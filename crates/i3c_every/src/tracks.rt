@@ -2,7 +2,7 @@ ghost use Rattle.std.specs.Prelude.{◌≡◌, ◌<◌, ◌⊎◌, [], Err, IfEr
 ghost use Rattle.i3c_explore.specs.declared.node.Node.{Node as NodeValue};
 ghost use Rattle.i3c_explore.specs.declared.stop.Stop.{Stop as StopValue};
 ghost use Rattle.i3c_explore.specs.Reached.{AreTaken, Reaches};
-ghost use Rattle.i3c_every.specs.Meeting.{AreSeenBehind, AreTold, FailsAt, IsBegunAt, IsMarkTold, IsNothingLeft};
+ghost use Rattle.i3c_every.specs.Meeting.{AreMet, AreSeenBehind, AreTold, Fails, FailsAt, IsBegunAt, IsMarkTold, IsNothingLeft};
 
 use crate::answered::answers_at;
 use crate::answering::Answering;
@@ -11,7 +11,7 @@ use crate::seen::seen_at;
 use crate::sent::Sent;
 use crate::told::Told;
 use i3c_explore::{Limits, Node, Stop, reach};
-use i3c_orders::{Responder, Step};
+use i3c_orders::{Shared, Step};
 use std::alloc::{AllocError, Global};
 
 /// Tracks of lines that run while a program talks with a machine.
@@ -25,61 +25,36 @@ pub struct Tracks<M: Answering> {
     pub limits: Limits,
 }
 
-impl<M: Answering> Responder for Tracks<M> {
-    ghost use Rattle.i3c_every.specs.Meeting.{AreMet, Fails, HasSameState};
-
-    type State = Met<M>;
-
-    type Line = Sent<M::ProgramLine>;
-
-    type Answer = Told<M::Answer>;
-
-    type Fault = Stop;
-
-    type Room = M::Runner;
-
-    ghost alike = { HasSameState };
-
-    ghost gives = { λ tracks. AreMet M.steps (M.answers tracks.rules) M.sees tracks.lines.items };
-
-    ghost fails = { λ tracks. Fails M.steps M.last M.breaks tracks.lines.items tracks.limits };
-
-    fn steps(
-        &self,
-        alloc: Global,
-        runner: &mut M::Runner,
-        met: &Met<M>,
-        sent: &Sent<M::ProgramLine>,
-    ) -> Result<Vec<Step<Met<M>, Told<M::Answer>>>, Stop> {
-        let line = match sent {
-            Sent::Meets(line) => {
-                return meeting(
-                    alloc,
-                    &self.lines,
-                    self.limits,
-                    met,
-                    &self.rules,
-                    line,
-                    runner,
-                );
-            }
-            Sent::Waits => return waiting(alloc, &self.lines, self.limits, met, runner),
-            Sent::Marks(_) => return marking(alloc, met, runner),
-            Sent::Alone(line) => line,
-        };
-        let steps = alone(alloc, &self.lines, met, &self.rules, line, runner)?;
-        Ok(steps)
-    }
-
-    fn is_same(one: &Sent<M::ProgramLine>, other: &Sent<M::ProgramLine>) -> bool {
-        match (one, other) {
-            (Sent::Meets(one), Sent::Meets(other)) => M::is_same_line(one, other),
-            (Sent::Alone(one), Sent::Alone(other)) => M::is_same_line(one, other),
-            (Sent::Waits, Sent::Waits) => true,
-            (Sent::Marks(one), Sent::Marks(other)) => one.is_same(other),
-            _ => false,
+/// What a program is told of what it sends where a run is, on a runner that may be in any state.
+pub(crate) fn told<M: Answering>(
+    alloc: Global,
+    tracks: &Tracks<M>,
+    met: &Met<M>,
+    sent: &Sent<M::ProgramLine>,
+    runner: &mut M::Runner,
+) -> Result<Vec<Shared<Step<Met<M>, Told<M::Answer>>>>, Stop>
+    ensures told { IfOk result (λ steps. AreMet M.steps (M.answers tracks.now.rules) M.sees tracks.now.lines.items met.now sent.now steps.items) }
+    ensures some { IfOk result (λ steps. 0 < length steps.items) }
+    ensures failed { IfErr result (Fails M.steps M.last M.breaks tracks.now.lines.items tracks.now.limits met.now sent.now) }
+{
+    let line = match sent {
+        Sent::Meets(line) => {
+            return meeting(
+                alloc,
+                &tracks.lines,
+                tracks.limits,
+                met,
+                &tracks.rules,
+                line,
+                runner,
+            );
         }
-    }
+        Sent::Waits => return waiting(alloc, &tracks.lines, tracks.limits, met, runner),
+        Sent::Marks(_) => return marking(alloc, met, runner),
+        Sent::Alone(line) => line,
+    };
+    let steps = alone(alloc, &tracks.lines, met, &tracks.rules, line, runner)?;
+    Ok(steps)
 }
 
 /// A copy of a state, by a runner that comes to it.
@@ -121,7 +96,7 @@ pub(crate) fn alone<M: Answering>(
     rules: &M::Rules,
     line: &M::ProgramLine,
     runner: &mut M::Runner,
-) -> Result<Vec<Step<Met<M>, Told<M::Answer>>>, AllocError>
+) -> Result<Vec<Shared<Step<Met<M>, Told<M::Answer>>>>, AllocError>
     ensures told { IfOk result (λ steps. AreTold M.steps (M.answers rules.now) tracks.now met.now (λ order. order ≡ []) line.now steps.items) }
     ensures some { IfOk result (λ steps. 0 < length steps.items) }
 {
@@ -157,7 +132,7 @@ pub(crate) fn meeting<M: Answering>(
     rules: &M::Rules,
     line: &M::ProgramLine,
     runner: &mut M::Runner,
-) -> Result<Vec<Step<Met<M>, Told<M::Answer>>>, Stop>
+) -> Result<Vec<Shared<Step<Met<M>, Told<M::Answer>>>>, Stop>
     ensures told { IfOk result (λ steps. AreTold M.steps (M.answers rules.now) tracks.now met.now (AreTaken tracks.now met.now.places.items) line.now steps.items) }
     ensures some { IfOk result (λ steps. 0 < length steps.items) }
     ensures failed { IfErr result (FailsAt M.steps M.last M.breaks tracks.now limits met.now) }
@@ -178,7 +153,7 @@ pub(crate) fn waiting<M: Answering>(
     limits: Limits,
     met: &Met<M>,
     runner: &mut M::Runner,
-) -> Result<Vec<Step<Met<M>, Told<M::Answer>>>, Stop>
+) -> Result<Vec<Shared<Step<Met<M>, Told<M::Answer>>>>, Stop>
     ensures told { IfOk result (λ steps. AreSeenBehind M.steps M.sees tracks.now met.now steps.items) }
     ensures some { IfOk result (λ steps. 0 < length steps.items) }
     ensures failed { IfErr result (FailsAt M.steps M.last M.breaks tracks.now limits met.now) }
@@ -196,7 +171,7 @@ pub(crate) fn waiting<M: Answering>(
 }
 
 /// Whether there is a step.
-fn has_some<S, A>(steps: &Vec<Step<S, A>>) -> bool
+fn has_some<S: Drop, A: Drop>(steps: &Vec<Shared<Step<S, A>>>) -> bool
     ensures some { result ≡ true → 0 < length steps.now.items }
     ensures none { result ≡ false → length steps.now.items ≡ 0 }
 {
@@ -229,16 +204,20 @@ fn nothing_left<M: Answering>(
     alloc: Global,
     met: &Met<M>,
     runner: &mut M::Runner,
-) -> Result<Vec<Step<Met<M>, Told<M::Answer>>>, AllocError>
+) -> Result<Vec<Shared<Step<Met<M>, Told<M::Answer>>>>, AllocError>
     ensures { IfOk result (λ steps. IsNothingLeft M.sees met.now steps.items) }
 {
     let state = stayed(alloc, met, runner)?;
     let answer = met.state.look(alloc, runner)?;
     let mut steps = Vec::new(alloc);
-    steps.push(Step {
-        answer: Told::NothingLeft(answer),
-        state,
-    })?;
+    let step = Shared::new(
+        alloc,
+        Step {
+            answer: Told::NothingLeft(answer),
+            state,
+        },
+    )?;
+    steps.push(step)?;
     Ok(steps)
 }
 
@@ -247,7 +226,7 @@ pub(crate) fn marking<M: Answering>(
     alloc: Global,
     met: &Met<M>,
     runner: &mut M::Runner,
-) -> Result<Vec<Step<Met<M>, Told<M::Answer>>>, Stop>
+) -> Result<Vec<Shared<Step<Met<M>, Told<M::Answer>>>>, Stop>
     ensures told { IfOk result (λ steps. IsMarkTold M.sees met.now steps.items) }
     ensures some { IfOk result (λ steps. 0 < length steps.items) }
     ensures failed { IfErr result (λ stop. stop ≡ StopValue.Memory) }
@@ -261,15 +240,19 @@ fn marked<M: Answering>(
     alloc: Global,
     met: &Met<M>,
     runner: &mut M::Runner,
-) -> Result<Vec<Step<Met<M>, Told<M::Answer>>>, AllocError>
+) -> Result<Vec<Shared<Step<Met<M>, Told<M::Answer>>>>, AllocError>
     ensures { IfOk result (λ steps. IsMarkTold M.sees met.now steps.items) }
 {
     let state = stayed(alloc, met, runner)?;
     let answer = met.state.look(alloc, runner)?;
     let mut steps = Vec::new(alloc);
-    steps.push(Step {
-        answer: Told::Marked(answer),
-        state,
-    })?;
+    let step = Shared::new(
+        alloc,
+        Step {
+            answer: Told::Marked(answer),
+            state,
+        },
+    )?;
+    steps.push(step)?;
     Ok(steps)
 }

@@ -1,3 +1,5 @@
+use crate::shared::Shared;
+
 /// An answer to a line, and the state that it leads to.
 #[derive(Drop)]
 pub struct Step<S, A> {
@@ -13,7 +15,7 @@ pub struct Choice<L, S, A> {
     /// The line.
     pub line: L,
     /// The answer of this run.
-    pub taken: Step<S, A>,
+    pub taken: Shared<Step<S, A>>,
     /// The answers that no run took yet.
-    pub left: Vec<Step<S, A>>,
+    pub left: Vec<Shared<Step<S, A>>>,
 }

@@ -24,6 +24,7 @@ mod orders;
 mod portion;
 mod responder;
 mod share;
+mod shared;
 mod which;
 
 pub use choice::{Choice, Step};
@@ -36,4 +37,5 @@ pub use orders::{Orders, SendFault, Unfinished, send};
 pub use portion::Portion;
 pub use responder::Responder;
 pub use share::Share;
+pub use shared::Shared;
 pub use which::Which;

@@ -3,6 +3,7 @@ ghost use Rattle.i3c_orders.specs.Paths.{Answers, IsChosen, IsOther, IsUnsent, S
 
 use crate::choice::{Choice, Step};
 use crate::responder::Responder;
+use crate::shared::Shared;
 use std::alloc::{AllocError, Global};
 use std::marker::Model;
 
@@ -84,7 +85,7 @@ impl<L: Drop, S: Drop, A: Drop> Orders<L, S, A> {
     {
         let last = self.at.checked_sub(1)?;
         match self.path.get(last) {
-            Some(choice) => Some(&choice.taken),
+            Some(choice) => Some(choice.taken.get()),
             None => None,
         }
     }
@@ -190,12 +191,13 @@ fn other<L: Drop, S: Drop, A: Drop>(choice: Choice<L, S, A>) -> Option<Choice<L,
 /// answers. Then nothing has changed.
 pub fn send<M: Responder>(
     alloc: Global,
-    machine: &M,
+    machine: &mut M,
     room: &mut M::Room,
     orders: &mut Orders<M::Line, M::State, M::Answer>,
     line: M::Line,
 ) -> Result<(), SendFault<M::Fault>>
-    ensures { Answers (M.gives machine.now) (M.fails machine.now) orders.old line result orders.new }
+    ensures same { machine.new ≡ machine.old }
+    ensures answered { Answers (M.gives machine.old) (M.fails machine.old) orders.old line result orders.new }
 {
     if orders.at < orders.path.len() {
         if !M::is_same(&orders.path[orders.at].line, &line) {
@@ -216,14 +218,15 @@ pub fn send<M: Responder>(
 /// A line is answered by the machine, at the end of a path.
 fn extend<M: Responder>(
     alloc: Global,
-    machine: &M,
+    machine: &mut M,
     room: &mut M::Room,
     start: &M::State,
     path: &mut Vec<Choice<M::Line, M::State, M::Answer>>,
     line: M::Line,
 ) -> Result<(), SendFault<M::Fault>>
-    ensures sends { OnOk result (Sends (M.gives machine.now) start.now path.old.items line path.new.items) }
-    ensures unsent { IfErr result (IsUnsent (M.fails machine.now) (state_behind start.now path.old.items) line) }
+    ensures same { machine.new ≡ machine.old }
+    ensures sends { OnOk result (Sends (M.gives machine.old) start.now path.old.items line path.new.items) }
+    ensures unsent { IfErr result (IsUnsent (M.fails machine.old) (state_behind start.now path.old.items) line) }
     ensures kept { OnErr result (path.new.items ≡ path.old.items) }
 {
     let mut left = match steps_behind(alloc, machine, room, start, path, &line) {
@@ -255,25 +258,26 @@ fn keep<L: Drop, S: Drop, A: Drop>(
 /// The answers that a line is given behind a path.
 fn steps_behind<M: Responder>(
     alloc: Global,
-    machine: &M,
+    machine: &mut M,
     room: &mut M::Room,
     start: &M::State,
     path: &Vec<Choice<M::Line, M::State, M::Answer>>,
     line: &M::Line,
-) -> Result<Vec<Step<M::State, M::Answer>>, M::Fault>
-    ensures given { IfOk result (λ steps. M.gives machine.now (state_behind start.now path.now.items) line.now steps.items) }
+) -> Result<Vec<Shared<Step<M::State, M::Answer>>>, M::Fault>
+    ensures same { machine.new ≡ machine.old }
+    ensures given { IfOk result (λ steps. M.gives machine.old (state_behind start.now path.now.items) line.now steps.items) }
     ensures some { IfOk result (λ steps. 0 < length steps.items) }
-    ensures failed { IfErr result (M.fails machine.now (state_behind start.now path.now.items) line.now) }
+    ensures failed { IfErr result (M.fails machine.old (state_behind start.now path.now.items) line.now) }
 {
     machine.steps(alloc, room, last_state(start, path), line)
 }
 
 /// The state behind a path.
-fn last_state<'a, L, S, A>(start: &'a S, path: &'a [Choice<L, S, A>]) -> &'a S
+fn last_state<'a, L, S: Drop, A: Drop>(start: &'a S, path: &'a [Choice<L, S, A>]) -> &'a S
     ensures { result.now ≡ state_behind start.now path.now }
 {
     match path.last() {
-        Some(choice) => &choice.taken.state,
+        Some(choice) => &choice.taken.get().state,
         None => start,
     }
 }

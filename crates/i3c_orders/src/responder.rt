@@ -2,6 +2,7 @@ ghost use Rattle.std.specs.Prelude.{◌≡◌, ◌<◌, ◌↔◌, IfErr, IfOk, 
 ghost use Rattle.i3c_orders.specs.declared.choice.Step.{Step as StepValue};
 
 use crate::choice::Step;
+use crate::shared::Shared;
 use std::alloc::Global;
 
 /// A machine that answers a program's lines. It is the same in each run, and a run has a state of it.
@@ -31,17 +32,18 @@ pub trait Responder: Sized {
     ghost fails: { Self → Self.State → Self.Line → Self.Fault → Type 0 };
 
     /// The answers that a line is given in a state, each with where it leads. There is an answer to each line, unless the
-    /// machine has a fault.
+    /// machine has a fault. The machine may keep them, and stays the same.
     fn steps(
-        &self,
+        &mut self,
         alloc: Global,
         room: &mut Self::Room,
         state: &Self::State,
         line: &Self::Line,
-    ) -> Result<Vec<Step<Self::State, Self::Answer>>, Self::Fault>
-        ensures given { IfOk result (λ steps. gives self.now state.now line.now steps.items) }
+    ) -> Result<Vec<Shared<Step<Self::State, Self::Answer>>>, Self::Fault>
+        ensures same { self.new ≡ self.old }
+        ensures given { IfOk result (λ steps. gives self.old state.now line.now steps.items) }
         ensures some { IfOk result (λ steps. 0 < length steps.items) }
-        ensures failed { IfErr result (fails self.now state.now line.now) };
+        ensures failed { IfErr result (fails self.old state.now line.now) };
 
     /// Whether two lines are the same.
     fn is_same(one: &Self::Line, other: &Self::Line) -> bool

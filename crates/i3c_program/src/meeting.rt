@@ -20,8 +20,8 @@ pub enum MeetFault {
     Lines(ScriptFault),
 }
 
-/// Lets a program meet the orders of a scene's events on these terms: answers each of its lines before the next one is read,
-/// until they end.
+/// Lets a program meet the orders of a scene's events on these terms: answers its lines one after another, until they end. The
+/// writer is flushed before more of them are read.
 ///
 /// # Errors
 ///

@@ -33,7 +33,7 @@ pub(crate) fn turns_in(alloc: Global, choices: &[Spoken]) -> Result<Vec<Turn>, A
 {
     let mut turns = Vec::new(alloc);
     for index in 0..choices.len() {
-        turns.extend_from_slice(choices[index].taken.state.turns.as_slice())?;
+        turns.extend_from_slice(choices[index].taken.get().state.turns.as_slice())?;
     }
     Ok(turns)
 }
@@ -49,7 +49,7 @@ pub(crate) fn course_of<'a>(
 {
     let mut order = past.clone()?;
     order.extend_from_slice(behind)?;
-    let block = scenario.tracks.lines.as_slice();
+    let block = scenario.tracks.tracks().lines.as_slice();
     let (own, later) = turns_of(block, &order);
     let mut tracks = Vec::new(alloc);
     add_block(alloc, block, true, own, &mut tracks)?;
@@ -137,7 +137,7 @@ fn push_run(
 {
     let past = turns_in(alloc, choices)?;
     let course = course_of(alloc, scenario, &past, turns_behind(standing))?;
-    let risk = &scenario.tracks.rules.risk;
+    let risk = &scenario.tracks.tracks().rules.risk;
     push_woven(&scenario.lines, risk, &course.tracks, choices, text)?;
     push_runs(&scenario.lines, &course.rest, text)
 }
@@ -181,9 +181,9 @@ fn push_spoken(
     ensures text { OnOk result (text.new ≡ text.old ++ (runs_text lines.now (take (length choice.now.taken.state.turns.items) runs.now) ++ sent_text risk.now choice.now.line choice.now.taken.state.way)) }
     ensures count { IfOk result (λ count. count ≡ min (length choice.now.taken.state.turns.items) (length runs.now)) }
 {
-    let count = choice.taken.state.turns.len().min(runs.len());
+    let count = choice.taken.get().state.turns.len().min(runs.len());
     push_runs(lines, &runs[..count], text)?;
-    push_sent(risk, &choice.line, choice.taken.state.way, text)?;
+    push_sent(risk, &choice.line, choice.taken.get().state.way, text)?;
     Ok(count)
 }
 

@@ -2,7 +2,7 @@ ghost use Rattle.std.specs.Prelude.{◌≡◌, ◌∷◌, [], IfOk, IfSome, Matc
 ghost use Rattle.i3c_tracks.specs.Planning.{IsPlan};
 ghost use Rattle.i3c_program.specs.Scenarios.{AreNone, ArePartedAt, HasNoScenario, HasNotOne, IsBehind, IsFirst, IsNotBehind, IsOnly, IsScenario};
 
-use i3c_every::Tracks;
+use i3c_every::{Recalling, Tracks};
 use i3c_explore::{Limits, Node, Stop, Turn, explore};
 use i3c_scene::{Line, Rules, Scene};
 use i3c_tracks::{Plan, PlanFault, Refusal, read_plan};
@@ -22,7 +22,7 @@ pub struct Scenario {
     /// The bus where the block begins.
     pub start: Scene,
     /// The tracks of the block, and what holds of each line of the program.
-    pub tracks: Tracks<Scene>,
+    pub tracks: Recalling<Scene>,
     /// The blocks behind it.
     pub rest: Vec<Vec<Vec<Line>>>,
 }
@@ -96,11 +96,14 @@ fn scenario_of(
             front,
             course: end.order,
             start: end.state,
-            tracks: Tracks {
-                lines: block,
-                rules,
-                limits,
-            },
+            tracks: Recalling::new(
+                alloc,
+                Tracks {
+                    lines: block,
+                    rules,
+                    limits,
+                },
+            ),
             rest,
         }),
         Err(why) => Err(why),

@@ -146,7 +146,7 @@ impl Trial {
         let is_new = self.is_new();
         match send(
             self.alloc,
-            &self.scenario.tracks,
+            &mut self.scenario.tracks,
             &mut self.runner,
             &mut self.orders,
             sent,
@@ -265,7 +265,7 @@ impl Trial {
         }
         match close(
             self.alloc,
-            &self.scenario.tracks,
+            self.scenario.tracks.tracks(),
             &self.scenario.rest,
             self.orders.state(),
             &mut self.runner,
@@ -316,7 +316,7 @@ fn start_of(alloc: Global, scenario: &Scenario) -> Result<Met<Scene>, AllocError
     ensures { IfOk result (IsStart scenario.now) }
 {
     let state = scenario.start.copied(alloc)?;
-    let places = vec![in alloc; 0usize; scenario.tracks.lines.len()]?;
+    let places = vec![in alloc; 0usize; scenario.tracks.tracks().lines.len()]?;
     Ok(Met {
         state,
         places,

@@ -51,6 +51,14 @@ impl Answering for Scene {
         one.is_same(other)
     }
 
+    fn hash_line(line: &ProgramLine) -> u64 {
+        line.hash()
+    }
+
+    fn copied_line(alloc: Global, line: &ProgramLine) -> Result<ProgramLine, AllocError> {
+        line.copied(alloc)
+    }
+
     fn is_same_line(one: &ProgramLine, other: &ProgramLine) -> bool {
         one.text() == other.text()
     }

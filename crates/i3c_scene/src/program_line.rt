@@ -3,6 +3,7 @@ use i3c_every::Sent;
 use i3c_lines::Command;
 use i3c_text::Text;
 use std::alloc::{AllocError, Global};
+use std::hash::{FoldHasher, Hash, Hasher};
 use std::marker::Model;
 
 /// How many bytes a line may have.
@@ -61,6 +62,23 @@ impl ProgramLine {
             text: copy,
             command,
         }))
+    }
+
+    /// A hash of its text.
+    pub(crate) fn hash(&self) -> u64 {
+        let mut hasher = FoldHasher::default();
+        self.text().hash(&mut hasher);
+        hasher.finish()
+    }
+
+    /// The same line once more.
+    pub(crate) fn copied(&self, alloc: Global) -> Result<ProgramLine, AllocError>
+        ensures { IfOk result (λ copy. copy ≡ self.now) }
+    {
+        match ProgramLine::read(alloc, self.text.as_bytes())? {
+            Some(line) => Ok(line),
+            None => unreachable!(),
+        }
     }
 
     /// Its text.

@@ -1,10 +1,11 @@
-use i3c_cli::{Fault, Output, owned_text, reading_fault};
+use i3c_cli::{Fault, gathered_output, owned_text, reading_fault};
 use i3c_program::{Ending, MeetFault, NoScenario, Terms, meet_every};
 use i3c_streams::ScriptFault;
 use i3c_task::Meeting;
 use i3c_text::Text;
 use i3c_tracks::Refusal;
 use std::alloc::Global;
+use std::io::Write as _;
 use std::rt::Files;
 use std::{fs, io};
 
@@ -29,7 +30,7 @@ where
         Ok(file) => file,
         Err(error) => return Err(unread(rt.alloc(), &error)),
     };
-    let mut printed = Output::new(rt)?;
+    let mut printed = gathered_output(rt)?;
     let Meeting {
         form,
         limits,
@@ -45,8 +46,11 @@ where
         states,
     };
     let outcome = meet_every(rt.alloc(), terms, &mut file, &mut rt.reader(), &mut printed);
+    // before a fault all answers go out
+    let flushed = printed.flush().is_ok();
     match outcome {
-        Ok(ending) => Ok(ending),
+        Ok(ending) if flushed => Ok(ending),
+        Ok(_) => Err(ScriptFault::Write.into()),
         Err(fault) => Err(fault_of(rt.alloc(), fault)),
     }
 }

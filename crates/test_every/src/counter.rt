@@ -191,6 +191,17 @@ impl Answering for Counter {
         }
     }
 
+    fn hash_line(line: &Ask) -> u64 {
+        match line {
+            Ask::Read => 0,
+            Ask::Clear => 1,
+        }
+    }
+
+    fn copied_line(_alloc: Global, line: &Ask) -> Result<Ask, AllocError> {
+        Ok(*line)
+    }
+
     fn is_same_line(one: &Ask, other: &Ask) -> bool {
         match (one, other) {
             (Ask::Read, Ask::Read) | (Ask::Clear, Ask::Clear) => true,

@@ -1,7 +1,9 @@
 use crate::counter::{Ask, Counter, Line, Reply, Rules};
-use i3c_every::{Mark, Marks, Met, Sent, Taking, Told, Tracks, programs_meet_every_order};
+use i3c_every::{
+    Mark, Marks, Met, Recalling, Sent, Taking, Told, Tracks, programs_meet_every_order,
+};
 use i3c_explore::{Limits, Stop};
-use i3c_orders::{Orders, Responder, SendFault, Step, send};
+use i3c_orders::{Orders, Responder, SendFault, Shared, Step, send};
 use std::alloc::{AllocError, Global};
 use std::test::Fail;
 
@@ -74,7 +76,7 @@ fn tracks(
     lines: &[&[Line]],
     limits: Limits,
     risky: bool,
-) -> Result<Tracks<Counter>, AllocError> {
+) -> Result<Recalling<Counter>, AllocError> {
     let mut made = Vec::new(alloc);
     for track in lines {
         let mut copy = Vec::new(alloc);
@@ -83,11 +85,14 @@ fn tracks(
         }
         made.push(copy)?;
     }
-    Ok(Tracks {
-        rules: Rules { risky },
-        lines: made,
-        limits,
-    })
+    Ok(Recalling::new(
+        alloc,
+        Tracks {
+            rules: Rules { risky },
+            lines: made,
+            limits,
+        },
+    ))
 }
 
 /// A counter at these places in the tracks.
@@ -111,9 +116,9 @@ fn is_step(step: &Step<Met<Counter>, Told<Reply>>, expected: Expected) -> bool {
 }
 
 /// Whether there are as many steps as expected, and each expected one is there.
-fn are(steps: &[Step<Met<Counter>, Told<Reply>>], expected: &[Expected]) -> bool {
+fn are(steps: &[Shared<Step<Met<Counter>, Told<Reply>>>], expected: &[Expected]) -> bool {
     for one in expected {
-        if !steps.iter().any(|step| is_step(step, *one)) {
+        if !steps.iter().any(|step| is_step(step.get(), *one)) {
             return false;
         }
     }
@@ -121,20 +126,23 @@ fn are(steps: &[Step<Met<Counter>, Told<Reply>>], expected: &[Expected]) -> bool
 }
 
 /// Whether a step that tells this, and leads there, is one of a line that went this way.
-fn is_way(steps: &[Step<Met<Counter>, Told<Reply>>], expected: Expected, way: usize) -> bool {
-    steps
-        .iter()
-        .any(|step| is_step(step, expected) && step.state.way == way)
+fn is_way(
+    steps: &[Shared<Step<Met<Counter>, Told<Reply>>>],
+    expected: Expected,
+    way: usize,
+) -> bool {
+    steps.iter().any(|step| is_step(step.get(), expected) && step.get().state.way == way)
 }
 
 /// Whether a step to this count has turns of these tracks.
 fn leads_by(
-    steps: &[Step<Met<Counter>, Told<Reply>>],
+    steps: &[Shared<Step<Met<Counter>, Told<Reply>>>],
     count: u64,
     places: &[usize],
     turns: &[usize],
 ) -> bool {
     for step in steps {
+        let step = step.get();
         if step.state.state.count == count && step.state.places.as_slice() == places {
             return step
                 .state
@@ -151,7 +159,7 @@ fn leads_by(
 #[test]
 fn a_line_meets_each_order_of_two_tracks(rt: HostRuntime) -> Result<(), Fail> {
     let alloc = rt.alloc();
-    let tracks = tracks(alloc, &TWO, WIDE, false)?;
+    let mut tracks = tracks(alloc, &TWO, WIDE, false)?;
     let steps = tracks.steps(
         alloc,
         &mut runner(),
@@ -180,7 +188,7 @@ fn a_line_meets_each_order_of_two_tracks(rt: HostRuntime) -> Result<(), Fail> {
 #[test]
 fn equal_answers_states_and_places_are_one_step(rt: HostRuntime) -> Result<(), Fail> {
     let alloc = rt.alloc();
-    let tracks = tracks(alloc, &TWO, WIDE, false)?;
+    let mut tracks = tracks(alloc, &TWO, WIDE, false)?;
     let steps = tracks.steps(
         alloc,
         &mut runner(),
@@ -204,7 +212,7 @@ fn equal_answers_states_and_places_are_one_step(rt: HostRuntime) -> Result<(), F
 #[test]
 fn a_line_alone_meets_no_line(rt: HostRuntime) -> Result<(), Fail> {
     let alloc = rt.alloc();
-    let tracks = tracks(alloc, &TWO, WIDE, false)?;
+    let mut tracks = tracks(alloc, &TWO, WIDE, false)?;
     let steps = tracks.steps(
         alloc,
         &mut runner(),
@@ -219,7 +227,7 @@ fn a_line_alone_meets_no_line(rt: HostRuntime) -> Result<(), Fail> {
 #[test]
 fn a_line_goes_each_of_its_ways(rt: HostRuntime) -> Result<(), Fail> {
     let alloc = rt.alloc();
-    let tracks = tracks(alloc, &TWO, WIDE, true)?;
+    let mut tracks = tracks(alloc, &TWO, WIDE, true)?;
     let steps = tracks.steps(
         alloc,
         &mut runner(),
@@ -244,7 +252,7 @@ fn a_line_goes_each_of_its_ways(rt: HostRuntime) -> Result<(), Fail> {
 #[test]
 fn a_line_goes_each_way_behind_each_order(rt: HostRuntime) -> Result<(), Fail> {
     let alloc = rt.alloc();
-    let tracks = tracks(alloc, &TWO, WIDE, true)?;
+    let mut tracks = tracks(alloc, &TWO, WIDE, true)?;
     let steps = tracks.steps(
         alloc,
         &mut runner(),
@@ -275,7 +283,7 @@ fn a_line_goes_each_way_behind_each_order(rt: HostRuntime) -> Result<(), Fail> {
 #[test]
 fn in_a_wait_a_line_runs_at_least(rt: HostRuntime) -> Result<(), Fail> {
     let alloc = rt.alloc();
-    let tracks = tracks(alloc, &TWO, WIDE, false)?;
+    let mut tracks = tracks(alloc, &TWO, WIDE, false)?;
     let steps = tracks.steps(alloc, &mut runner(), &met(alloc, 1, &[0, 0])?, &Sent::Waits)?;
     assert!(rt;
         are(
@@ -296,10 +304,10 @@ fn in_a_wait_a_line_runs_at_least(rt: HostRuntime) -> Result<(), Fail> {
 #[test]
 fn a_wait_says_that_nothing_is_left_only_where_nothing_is(rt: HostRuntime) -> Result<(), Fail> {
     let alloc = rt.alloc();
-    let some = tracks(alloc, &TWO, WIDE, false)?;
+    let mut some = tracks(alloc, &TWO, WIDE, false)?;
     let steps = some.steps(alloc, &mut runner(), &met(alloc, 4, &[1, 1])?, &Sent::Waits)?;
     assert!(rt; are(&steps, &[(nothing_left(4), 4, &[1, 1])]));
-    let none = tracks(alloc, &[], WIDE, false)?;
+    let mut none = tracks(alloc, &[], WIDE, false)?;
     let steps = none.steps(alloc, &mut runner(), &met(alloc, 5, &[])?, &Sent::Waits)?;
     assert!(rt; are(&steps, &[(nothing_left(5), 5, &[])]));
     Ok(())
@@ -311,7 +319,7 @@ fn a_limit_is_exceeded(rt: HostRuntime) -> Result<(), Fail> {
     let alloc = rt.alloc();
     let start = met(alloc, 1, &[0, 0])?;
     for (steps, states, enough) in [(4, 2, true), (3, 2, false), (4, 1, false)] {
-        let tracks = tracks(alloc, &TWO, Limits { steps, states }, false)?;
+        let mut tracks = tracks(alloc, &TWO, Limits { steps, states }, false)?;
         let found = tracks.steps(alloc, &mut runner(), &start, &Sent::Meets(Ask::Read));
         assert!(rt; found.is_ok() == enough);
         assert!(rt; enough || matches!(found, Err(Stop::Most)));
@@ -328,7 +336,10 @@ fn a_limit_is_exceeded(rt: HostRuntime) -> Result<(), Fail> {
 }
 
 /// Whether a line has no answers, since an order of these tracks breaks an expectation.
-fn breaks_by(found: &Result<Vec<Step<Met<Counter>, Told<Reply>>>, Stop>, tracks: &[usize]) -> bool {
+fn breaks_by(
+    found: &Result<Vec<Shared<Step<Met<Counter>, Told<Reply>>>>, Stop>,
+    tracks: &[usize],
+) -> bool {
     match found {
         Err(Stop::Breaks(order)) => order
             .iter()
@@ -342,7 +353,7 @@ fn breaks_by(found: &Result<Vec<Step<Met<Counter>, Told<Reply>>>, Stop>, tracks:
 #[test]
 fn an_order_that_breaks_an_expectation_is_told(rt: HostRuntime) -> Result<(), Fail> {
     let alloc = rt.alloc();
-    let tracks = tracks(alloc, &TWO, WIDE, false)?;
+    let mut tracks = tracks(alloc, &TWO, WIDE, false)?;
     let start = met(alloc, 500, &[0, 0])?;
     let found = tracks.steps(alloc, &mut runner(), &start, &Sent::Meets(Ask::Read));
     assert!(rt; breaks_by(&found, &[1]));
@@ -365,7 +376,7 @@ const ADDS: usize = 100;
 
 /// Tracks of which one adds 1 again and again, and the other doubles the counter. From a counter at 1 they come to 202 at
 /// most.
-fn adding(alloc: Global, risky: bool) -> Result<Tracks<Counter>, AllocError> {
+fn adding(alloc: Global, risky: bool) -> Result<Recalling<Counter>, AllocError> {
     let lines = [Line::Add(1); ADDS];
     let limits = Limits {
         steps: 100_000,
@@ -413,9 +424,35 @@ fn many_alike_steps_are_one(rt: HostRuntime) -> Result<(), Fail> {
 #[test]
 fn places_in_other_tracks_are_refused(rt: HostRuntime) -> Result<(), Fail> {
     let alloc = rt.alloc();
-    let tracks = tracks(alloc, &TWO, WIDE, false)?;
+    let mut tracks = tracks(alloc, &TWO, WIDE, false)?;
     let found = tracks.steps(alloc, &mut runner(), &met(alloc, 1, &[0])?, &Sent::Waits);
     assert!(rt; matches!(found, Err(Stop::Memory)));
+    Ok(())
+}
+
+/// More counts than are kept of, where each is read and cleared.
+const MANY: u64 = 3000;
+
+/// Whether a counter is read and cleared as it should be, where there are no tracks.
+fn is_read_and_cleared(
+    alloc: Global,
+    tracks: &mut Recalling<Counter>,
+    count: u64,
+) -> Result<bool, Fail> {
+    let start = met(alloc, count, &[])?;
+    let read = tracks.steps(alloc, &mut runner(), &start, &Sent::Alone(Ask::Read))?;
+    let cleared = tracks.steps(alloc, &mut runner(), &start, &Sent::Alone(Ask::Clear))?;
+    Ok(are(&read, &[(answered(count), count, &[])]) && are(&cleared, &[(answered(0), 0, &[])]))
+}
+
+// also the second time, when some of it is kept: what was told of one count, or of one line, is told of no other
+#[test]
+fn what_is_kept_is_told_where_it_was_told(rt: HostRuntime) -> Result<(), Fail> {
+    let alloc = rt.alloc();
+    let mut tracks = tracks(alloc, &[], WIDE, false)?;
+    for number in 0..2 * MANY {
+        assert!(rt; is_read_and_cleared(alloc, &mut tracks, number % MANY)?);
+    }
     Ok(())
 }
 
@@ -427,7 +464,7 @@ fn runner() -> Counter {
 /// What a program is told of what it sends, if it is.
 fn told(
     alloc: Global,
-    tracks: &Tracks<Counter>,
+    tracks: &mut Recalling<Counter>,
     orders: &mut Orders<Sent<Ask>, Met<Counter>, Told<Reply>>,
     sent: Sent<Ask>,
 ) -> Option<Heard> {
@@ -444,7 +481,7 @@ fn told(
 /// the digits of a number, or 0 if it was told otherwise.
 fn counts(
     alloc: Global,
-    tracks: &Tracks<Counter>,
+    tracks: &mut Recalling<Counter>,
     orders: &mut Orders<Sent<Ask>, Met<Counter>, Told<Reply>>,
 ) -> u64 {
     let Some(Heard::Answered(Reply::Count(first))) = told(
@@ -474,12 +511,12 @@ fn counts(
 #[test]
 fn a_program_that_reads_and_waits_has_eight_runs(rt: HostRuntime) -> Result<(), Fail> {
     let alloc = rt.alloc();
-    let tracks = tracks(alloc, &TWO, WIDE, false)?;
+    let mut tracks = tracks(alloc, &TWO, WIDE, false)?;
     let mut orders = Orders::new(alloc, met(alloc, 1, &[0, 0])?);
     let expected: [u64; 8] = [124, 123, 14, 13, 24, 23, 4, 3];
     let mut seen = Vec::new(alloc);
     for more in [true, true, true, true, true, true, true, false] {
-        let run = counts(alloc, &tracks, &mut orders);
+        let run = counts(alloc, &mut tracks, &mut orders);
         assert!(rt; expected.iter().any(|one| *one == run));
         assert!(rt; !seen.iter().any(|one| *one == run));
         seen.push(run)?;
@@ -492,7 +529,7 @@ fn a_program_that_reads_and_waits_has_eight_runs(rt: HostRuntime) -> Result<(), 
 #[test]
 fn at_a_mark_the_run_stays_where_it_is(rt: HostRuntime) -> Result<(), Fail> {
     let alloc = rt.alloc();
-    let tracks = tracks(alloc, &TWO, WIDE, false)?;
+    let mut tracks = tracks(alloc, &TWO, WIDE, false)?;
     let steps = tracks.steps(
         alloc,
         &mut runner(),
@@ -506,16 +543,16 @@ fn at_a_mark_the_run_stays_where_it_is(rt: HostRuntime) -> Result<(), Fail> {
 #[test]
 fn another_mark_is_another_line(rt: HostRuntime) -> Result<(), Fail> {
     let alloc = rt.alloc();
-    let tracks = tracks(alloc, &TWO, WIDE, false)?;
+    let mut tracks = tracks(alloc, &TWO, WIDE, false)?;
     let mut orders = Orders::new(alloc, met(alloc, 1, &[0, 0])?);
-    assert!(rt; told(alloc, &tracks, &mut orders, mark(alloc, b"idle")?) == Some(marked(1)));
-    assert!(rt; told(alloc, &tracks, &mut orders, Sent::Meets(Ask::Read)).is_some());
+    assert!(rt; told(alloc, &mut tracks, &mut orders, mark(alloc, b"idle")?) == Some(marked(1)));
+    assert!(rt; told(alloc, &mut tracks, &mut orders, Sent::Meets(Ask::Read)).is_some());
     assert!(rt; orders.again() == Ok(true));
     assert!(rt;
         matches!(
             send(
                 alloc,
-                &tracks,
+                &mut tracks,
                 &mut runner(),
                 &mut orders,
                 mark(alloc, b"busy")?
@@ -523,7 +560,7 @@ fn another_mark_is_another_line(rt: HostRuntime) -> Result<(), Fail> {
             Err(SendFault::Differs)
         )
     );
-    assert!(rt; told(alloc, &tracks, &mut orders, mark(alloc, b"idle")?) == Some(marked(1)));
+    assert!(rt; told(alloc, &mut tracks, &mut orders, mark(alloc, b"idle")?) == Some(marked(1)));
     Ok(())
 }
 
@@ -565,19 +602,19 @@ fn a_mark_is_known_in_the_same_state_at_the_same_places(rt: HostRuntime) -> Resu
 #[test]
 fn a_program_that_is_not_determined_is_found(rt: HostRuntime) -> Result<(), Fail> {
     let alloc = rt.alloc();
-    let tracks = tracks(alloc, &TWO, WIDE, false)?;
+    let mut tracks = tracks(alloc, &TWO, WIDE, false)?;
     let mut orders = Orders::new(alloc, met(alloc, 1, &[0, 0])?);
-    assert!(rt; told(alloc, &tracks, &mut orders, Sent::Meets(Ask::Read)).is_some());
+    assert!(rt; told(alloc, &mut tracks, &mut orders, Sent::Meets(Ask::Read)).is_some());
     assert!(rt; orders.again() == Ok(true));
     for other in [Sent::Alone(Ask::Read), Sent::Meets(Ask::Clear), Sent::Waits] {
         assert!(rt;
             matches!(
-                send(alloc, &tracks, &mut runner(), &mut orders, other),
+                send(alloc, &mut tracks, &mut runner(), &mut orders, other),
                 Err(SendFault::Differs)
             )
         );
     }
-    assert!(rt; told(alloc, &tracks, &mut orders, Sent::Meets(Ask::Read)).is_some());
+    assert!(rt; told(alloc, &mut tracks, &mut orders, Sent::Meets(Ask::Read)).is_some());
     Ok(())
 }
 
@@ -588,14 +625,14 @@ fn a_limit_that_is_exceeded_is_a_fault_of_the_line(rt: HostRuntime) -> Result<()
         steps: 3,
         states: 100,
     };
-    let tracks = tracks(alloc, &TWO, short, false)?;
+    let mut tracks = tracks(alloc, &TWO, short, false)?;
     let mut orders = Orders::new(alloc, met(alloc, 1, &[0, 0])?);
     assert!(rt;
         matches!(
-            send(alloc, &tracks, &mut runner(), &mut orders, Sent::Waits),
+            send(alloc, &mut tracks, &mut runner(), &mut orders, Sent::Waits),
             Err(SendFault::Failed(Stop::Most))
         )
     );
-    assert!(rt; told(alloc, &tracks, &mut orders, Sent::Alone(Ask::Read)) == Some(answered(1)));
+    assert!(rt; told(alloc, &mut tracks, &mut orders, Sent::Alone(Ask::Read)) == Some(answered(1)));
     Ok(())
 }

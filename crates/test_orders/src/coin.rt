@@ -1,9 +1,8 @@
 ghost use Rattle.std.specs.Prelude.{◌≡◌, ◌<◌, IfOk, length};
 ghost use Rattle.i3c_orders.specs.Runs.{AreAll};
-ghost use Rattle.i3c_orders.specs.Runs.{AreAll};
 ghost use Rattle.test_orders.specs.Coins.{Falls};
 
-use i3c_orders::{Responder, Step};
+use i3c_orders::{Responder, Shared, Step};
 use std::alloc::{AllocError, Global};
 
 /// A coin that lies on one of its sides.
@@ -46,19 +45,19 @@ impl Responder for Table {
     ghost fails = { λ table coin line fault. ⊤ };
 
     fn steps(
-        &self,
+        &mut self,
         alloc: Global,
         _room: &mut (),
         coin: &Coin,
         line: &Line,
-    ) -> Result<Vec<Step<Coin, bool>>, AllocError> {
+    ) -> Result<Vec<Shared<Step<Coin, bool>>>, AllocError> {
         let mut steps = Vec::new(alloc);
         match line {
             Line::Toss => {
-                steps.push(fallen(false))?;
-                steps.push(fallen(true))?;
+                steps.push(fallen(alloc, false)?)?;
+                steps.push(fallen(alloc, true)?)?;
             }
-            Line::Look => steps.push(fallen(coin.head))?,
+            Line::Look => steps.push(fallen(alloc, coin.head)?)?,
         }
         Ok(steps)
     }
@@ -72,12 +71,15 @@ impl Responder for Table {
 }
 
 /// The coin has fallen on a side.
-fn fallen(head: bool) -> Step<Coin, bool>
-    ensures answer { result.answer ≡ head }
-    ensures state { result.state.head ≡ head }
+fn fallen(alloc: Global, head: bool) -> Result<Shared<Step<Coin, bool>>, AllocError>
+    ensures answer { IfOk result (λ step. step.answer ≡ head) }
+    ensures state { IfOk result (λ step. step.state.head ≡ head) }
 {
-    Step {
-        answer: head,
-        state: Coin { head },
-    }
+    Shared::new(
+        alloc,
+        Step {
+            answer: head,
+            state: Coin { head },
+        },
+    )
 }

@@ -10,7 +10,7 @@ fn runs(alloc: Global) -> Orders<Line, Coin, bool> {
 
 /// What a line that is sent is answered, if it is.
 fn answer(alloc: Global, orders: &mut Orders<Line, Coin, bool>, line: Line) -> Option<bool> {
-    if send(alloc, &Table, &mut (), orders, line).is_err() {
+    if send(alloc, &mut Table, &mut (), orders, line).is_err() {
         return None;
     }
     match orders.newest() {
@@ -81,7 +81,7 @@ fn another_line_than_in_the_run_before_is_found(rt: HostRuntime) -> Result<(), F
     assert!(rt; orders.again() == Ok(true));
     assert!(rt;
         matches!(
-            send(alloc, &Table, &mut (), &mut orders, Line::Look),
+            send(alloc, &mut Table, &mut (), &mut orders, Line::Look),
             Err(SendFault::Differs)
         )
     );

@@ -1,4 +1,4 @@
-use i3c_every::{Met, Sent, Told, Tracks, close};
+use i3c_every::{Met, Recalling, Sent, Told, Tracks, close};
 use i3c_explore::{Limits, Machine as _, Stop};
 use i3c_orders::{Orders, SendFault, Step, send};
 use i3c_scene::{Line, ProgramLine, Reply, Runner, Scene};
@@ -21,7 +21,7 @@ pub(crate) struct Scenario {
     // the bus on which lines run
     runner: Runner,
     // the tracks of the block, and the blocks behind it
-    tracks: Tracks<Scene>,
+    tracks: Recalling<Scene>,
     rest: Vec<Vec<Vec<Line>>>,
     // the runs of the program
     orders: Orders<Sent<ProgramLine>, Met<Scene>, Told<Reply>>,
@@ -150,11 +150,14 @@ pub(crate) fn read_scenario(alloc: Global, file: &[&str]) -> Result<Option<Scena
     Ok(Some(Scenario {
         alloc,
         runner,
-        tracks: Tracks {
-            lines: block,
-            rules,
-            limits: LIMITS,
-        },
+        tracks: Recalling::new(
+            alloc,
+            Tracks {
+                lines: block,
+                rules,
+                limits: LIMITS,
+            },
+        ),
         rest,
         orders: Orders::new(alloc, met),
     }))
@@ -177,7 +180,7 @@ impl Scenario {
     fn send(&mut self, sent: Sent<ProgramLine>) -> Result<(), SendFault<Stop>> {
         send(
             self.alloc,
-            &self.tracks,
+            &mut self.tracks,
             &mut self.runner,
             &mut self.orders,
             sent,
@@ -205,7 +208,13 @@ impl Scenario {
     /// Runs what is left in the scene: how many lines of it lead to a broken expectation, or none if all leads on.
     pub(crate) fn closes(&mut self) -> Option<usize> {
         let met = self.orders.state();
-        match close(self.alloc, &self.tracks, &self.rest, met, &mut self.runner) {
+        match close(
+            self.alloc,
+            self.tracks.tracks(),
+            &self.rest,
+            met,
+            &mut self.runner,
+        ) {
             Ok(()) => None,
             Err(Stop::Breaks(order)) => Some(order.len()),
             Err(_) => Some(99),

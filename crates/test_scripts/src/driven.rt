@@ -25,22 +25,52 @@ impl Write for CountedFlushes {
     }
 }
 
-// A caller whose writer keeps bytes back sees each answer before it sends the next line.
+/// Drives a bus by lines that come from two readers, one behind the other. Answers how often the writer was flushed, if all
+/// that it was given went out.
+fn flushes_of(rt: &HostRuntime, form: Form, first: &[u8], second: &[u8]) -> Option<u64> {
+    let mut reader = first.chain(second);
+    let mut writer = CountedFlushes {
+        flushes: 0,
+        unflushed: 0,
+    };
+    let outcome = run_driven(rt.alloc(), form, &mut reader, &mut writer);
+    let tally = Tally {
+        refused: 1,
+        unmet: 0,
+    };
+    same(rt, outcome, Ok(tally));
+    if writer.unflushed == 0 {
+        Some(writer.flushes)
+    } else {
+        None
+    }
+}
+
+// A caller whose writer keeps bytes back sees the answers to all lines that were read, before more is read: once where they
+// come together, and once more for those that come later. Half a line waits for its end.
 #[test]
-fn each_answer_is_flushed(rt: HostRuntime) {
+fn all_answers_are_flushed_before_more_is_read(rt: HostRuntime) {
     for form in [Form::Lines, Form::Json] {
-        let mut reader = b"main hub 020400000001 46 C0\n# a comment\nbad\nserve\n".as_slice();
-        let mut writer = CountedFlushes {
-            flushes: 0,
-            unflushed: 0,
-        };
-        let outcome = run_driven(rt.alloc(), form, &mut reader, &mut writer);
-        let tally = Tally {
-            refused: 1,
-            unmet: 0,
-        };
-        same(&rt, outcome, Ok(tally));
-        same(&rt, writer.flushes, 4);
-        same(&rt, writer.unflushed, 0);
+        let together = flushes_of(
+            &rt,
+            form,
+            b"main hub 020400000001 46 C0\n# a comment\nbad\nserve\n",
+            b"",
+        );
+        same(&rt, together, Some(1));
+        let apart = flushes_of(
+            &rt,
+            form,
+            b"main hub 020400000001 46 C0\n# a comment\n",
+            b"bad\nserve\n",
+        );
+        same(&rt, apart, Some(2));
+        let within = flushes_of(
+            &rt,
+            form,
+            b"main hub 020400000001 46 C0\n# a com",
+            b"ment\nbad\nserve",
+        );
+        same(&rt, within, Some(3));
     }
 }

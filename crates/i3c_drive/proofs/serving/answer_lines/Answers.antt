@@ -46,7 +46,7 @@ returns-in-Last-clause-served g c =
     let result = c.answer_line.result in
     let (line, hand, some, takes, none, end) = subst (Gives now next input further) c.in-Last.is c.in-Ok-advance.ensures.given in
     last_serves answers (g.R.Read.remaining c.args.reader.now) (g.W.Write.contents c.args.writer.now) c.args.answerer.now now next mid after input further from to number line result c.loop-number.invariant hand some takes none end
-    (subst (λ l. ServesLine answers number l mid after from to result) c.line.ensures c.answer_line.ensures)
+    c.answer_line.ensures
 
 pub returns-in-Err-answer_line-clause-served : goal.returns-in-Err-answer_line-clause-served
 returns-in-Err-answer_line-clause-served g c =
@@ -63,7 +63,7 @@ returns-in-Err-answer_line-clause-served g c =
     let fault = c.in-Err-answer_line.fault in
     let (line, hand, takes) = subst (Gives now next input further) c.in-Line.is c.in-Ok-advance.ensures.given in
     fed_fails answers (g.R.Read.remaining c.args.reader.now) (g.W.Write.contents c.args.writer.now) c.args.answerer.now fault now next mid after input further from to number line c.loop-number.invariant hand takes
-    (subst (λ l. ServesLine answers number l mid after from to (Err fault)) c.line-in-Line.ensures c.in-Err-answer_line.ensures)
+    c.in-Err-answer_line.ensures
 
 pub loop-number-preserved : goal.loop-number-preserved
 loop-number-preserved g c =
@@ -79,4 +79,4 @@ loop-number-preserved g c =
     let number = c.loop-number.number in
     let (line, hand, takes) = subst (Gives now next input further) c.in-Line.is c.in-Ok-advance.ensures.given in
     one_served answers (g.R.Read.remaining c.args.reader.now) (g.W.Write.contents c.args.writer.now) c.args.answerer.now now next mid after input further from to number line c.loop-number.invariant hand takes
-    (subst (λ l. IsTold answers number l from to (Appends mid after)) c.line-in-Line.ensures c.in-Ok-answer_line.ensures)
+    c.in-Ok-answer_line.ensures

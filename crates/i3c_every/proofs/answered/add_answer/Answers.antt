@@ -1,4 +1,4 @@
-use Rattle.std.proofs.Common.{◌∙◌, List, subst, ℕ}
+use Rattle.std.proofs.Common.{◌≡◌, ◌∙◌, ◌++◌, ◌∷◌, [], List, OnOk, subst, ℕ}
 use Rattle.std.specs.List.{Contains}
 use Rattle.i3c_orders.specs.declared.choice.Step.{Step}
 use Rattle.i3c_every.specs.Answered.{Tells}
@@ -16,4 +16,5 @@ returns-then-has_alike g c =
 pub returns : goal.returns
 returns g c =
     let met = c.in_ok-met.ensures in
-    on_ok c.push.result (is_new (g.M.Answering.answers c.args.rules.now) c.args.line.now c.args.node.now c.args.way c.in_ok-answer.answer (g.M.Machine.shown c.answer.new.runner) c.in_ok-met.met c.args.steps.now.values.items c.push.new.self.values.items c.in_ok-answer.ensures (met.state ∙ c.in_ok-state.ensures) met.places met.turns met.way) c.push.ensures
+    on_ok c.push.result (is_new (g.M.Answering.answers c.args.rules.now) c.args.line.now c.args.node.now c.args.way c.in_ok-answer.answer (g.M.Machine.shown c.answer.new.runner) c.in_ok-met.met c.args.steps.now.values.items c.push.new.self.values.items c.in_ok-answer.ensures (met.state ∙ c.in_ok-state.ensures) met.places met.turns met.way)
+    (subst (λ (s : Step (Met g.row.M.Denot) (Told g.row.M-Answer.Denot)). OnOk c.push.result (c.push.new.self.values.items ≡ c.args.steps.now.values.items ++ s ∷ [])) c.in_ok-step.ensures c.push.ensures.added)

@@ -1,4 +1,4 @@
-use Rattle.std.proofs.Common.{◌∙◌, refl}
+use Rattle.std.proofs.Common.{◌∙◌, ◌++◌, ◌∷◌, [], ap, refl}
 use Rattle.i3c_orders.specs.declared.choice.Step.{Step}
 use Rattle.i3c_every.specs.declared.met.Met.{Met}
 use Rattle.i3c_every.specs.declared.told.Told.{Told}
@@ -16,7 +16,7 @@ returns g c =
       state = c.in_ok-met.ensures.state ∙ c.in_ok-state.ensures ∙ c.in_ok-come.ensures;
       places = c.in_ok-met.ensures.places;
       ran = c.has_turns.ensures.some c.if-not-has_turns.false;
-    }) c.in_ok-met.ensures.turns c.in_ok-push.ensures.items
+    }) c.in_ok-met.ensures.turns (c.in_ok-push.ensures.items ∙ ap (λ (s : Step (Met g.row.M.Denot) (Told g.row.M-Answer.Denot)). c.args.steps.now.items ++ s ∷ []) c.in_ok-step.ensures)
 
 pub returns-then-not-has_turns : goal.returns-then-not-has_turns
 returns-then-not-has_turns g c = not_added g.M.Answering.sees c.args.node.now c.args.steps.now.items (c.has_turns.ensures.none c.if-not-has_turns.true)

@@ -9,7 +9,7 @@ returns g c =
     let answer = c.in_ok-answer.answer in
     let step : Step (Met g.row.M.Denot) (Told g.row.M-Answer.Denot) = record { answer = Told.Marked answer; state = c.in_ok-state.state } in (
       step,
-      c.in_ok-push.ensures.items ∙ ap (λ (l : List (Step (Met g.row.M.Denot) (Told g.row.M-Answer.Denot))). l ++ step ∷ []) c.new-steps.ensures.items,
+      c.in_ok-push.ensures.items ∙ ap (λ (l : List (Step (Met g.row.M.Denot) (Told g.row.M-Answer.Denot))). l ++ c.in_ok-step.step ∷ []) c.new-steps.ensures.items ∙ ap (λ (s : Step (Met g.row.M.Denot) (Told g.row.M-Answer.Denot)). s ∷ []) c.in_ok-step.ensures,
       (answer, refl, subst (λ (s : g.row.M.Denot). g.M.Answering.sees s answer) (sym c.in_ok-state.ensures.state) c.in_ok-answer.ensures, (c.in_ok-state.ensures.state, c.in_ok-state.ensures.places)),
       c.in_ok-state.ensures.turns,
     )

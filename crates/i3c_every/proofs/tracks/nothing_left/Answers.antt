@@ -10,7 +10,7 @@ returns g c =
     let step : Step (Met g.row.M.Denot) (Told g.row.M-Answer.Denot) = record { answer = Told.NothingLeft answer; state = c.in_ok-state.state } in (
       step,
       answer,
-      c.in_ok-push.ensures.items ∙ ap (λ (l : List (Step (Met g.row.M.Denot) (Told g.row.M-Answer.Denot))). l ++ step ∷ []) c.new-steps.ensures.items,
+      c.in_ok-push.ensures.items ∙ ap (λ (l : List (Step (Met g.row.M.Denot) (Told g.row.M-Answer.Denot))). l ++ c.in_ok-step.step ∷ []) c.new-steps.ensures.items ∙ ap (λ (s : Step (Met g.row.M.Denot) (Told g.row.M-Answer.Denot)). s ∷ []) c.in_ok-step.ensures,
       refl,
       c.in_ok-answer.ensures,
       c.in_ok-state.ensures.state,

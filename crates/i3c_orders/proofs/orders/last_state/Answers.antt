@@ -1,4 +1,4 @@
-use Rattle.std.proofs.Common.{Some, ◌≡◌, ◌-◌, length, sym}
+use Rattle.std.proofs.Common.{Some, ◌≡◌, ◌-◌, ap, length, sym, ◌∙◌}
 use Rattle.std.specs.List.{slice_get}
 use Rattle.i3c_orders.proofs.Ending.{end_is}
 use Rattle.i3c_orders.proofs.orders.last_state.Goals as goal
@@ -8,4 +8,4 @@ returns-in-Some g c =
     let path = c.args.path.now in
     let choice = c.in-Some.choice.now in
     let last : slice_get path (length path - 1) ≡ Some choice = sym c.in-Some.ensures.value in
-    sym (end_is c.args.start.now path choice last)
+    ap (λ step. step.state) c.get.ensures ∙ sym (end_is c.args.start.now path choice last)

@@ -1,6 +1,6 @@
 -- The parts of the plan.
-use Rattle.std.proofs.Common.{refl, subst}
-use Rattle.i3c_program.specs.Scenarios.{HasNotOne, IsBehind, IsNotBehind}
+use Rattle.std.proofs.Common.{◌∙◌, ◌∷◌, [], ap, refl, subst, sym}
+use Rattle.i3c_program.specs.Scenarios.{AreParted, HasNotOne, IsBehind, IsNotBehind}
 use Rattle.i3c_program.proofs.Parting.{are_parted, not_behind}
 use Rattle.i3c_program.proofs.scenario.scenario_of.Goals as goal
 
@@ -13,10 +13,10 @@ returns-in-Ok c = record {
   is = c.requires;
   lines = refl;
   before = refl;
-  parted = are_parted c.args.plan c.in-Some-Ok.parts c.deref.result.now c.in-Some.at c.deref.ensures.value c.in-Some.ensures c.in-Some-Ok.ensures';
+  parted = subst (λ tracks. AreParted c.args.plan c.in-Some-Ok.parts.front.items tracks.lines c.in-Some-Ok.parts.rest.items) (sym c.new.ensures) (are_parted c.args.plan c.in-Some-Ok.parts c.deref.result.now c.in-Some.at c.deref.ensures.value c.in-Some.ensures c.in-Some-Ok.ensures');
   led = subst (λ front. IsBehind front c.args.plan.start c.in-Ok.end.order.items c.in-Ok.end.state) c.deref-2.ensures.value c.in-Ok.ensures;
-  rules = c.in-Some-Ok.ensures;
-  limits_are = refl;
+  rules = c.in-Some-Ok.ensures ∙ ap (λ tracks. tracks.rules ∷ []) (sym c.new.ensures);
+  limits_are = ap (λ tracks. tracks.limits) c.new.ensures;
 }
 
 pub returns-in-Err : goal.returns-in-Err

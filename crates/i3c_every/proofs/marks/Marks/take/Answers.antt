@@ -9,4 +9,4 @@ returns-then-has_taken g c =
 pub returns : goal.returns
 returns g c =
     is_new c.args.most c.args.mark.now c.args.met.now c.args.self.now c.args.met.now.places.items (g.M.Machine.shown c.come.new.runner) refl c.in_ok-come.ensures c.self.inside.taken.values.items c.push.new.self.values.items c.in_ok-taken.taken c.self.view_is
-    (omega (arith, c.if-len-most.false, c.len.ensures)) c.in_ok-taken.ensures c.in_ok-push.ensures
+    (omega (arith, c.if-len-most.false, c.len.ensures)) c.in_ok-taken.ensures c.in_ok-push.ensures.added
