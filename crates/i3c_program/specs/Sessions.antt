@@ -128,7 +128,7 @@ pub record Hears (old : Trial) (changed : Bool) (new : Trial) : Type 0 where
 
 abbrev pub IsHeard : Trial → Came → Trial → Type 0
 IsHeard old (Came.Told changed) new = Hears old changed new × (new.orders ≡ old.orders)
-IsHeard old came new = ⊥
+IsHeard old _ new = ⊥
 
 -- the answer that is chosen is heard, unless there is none of the number that is named
 abbrev pub IsTaken : Bool → Trial → Came → Trial → Type 0
@@ -163,7 +163,7 @@ pub record IsBroken (old : Trial) (behind : Vec Turn) (new : Trial) : Type 0 whe
 
 -- what it comes to that lines of the tracks, or behind them, don't lead on
 abbrev pub EndsBy : Trial → Stop → Came → Trial → Type 0
-EndsBy old Stop.Memory came new = ⊥
+EndsBy old Stop.Memory _ new = ⊥
 EndsBy old Stop.Most came new = (came ≡ Came.Refused Reason.Most) × IsStopped old new
 EndsBy old (Stop.Breaks order) came new = (came ≡ Came.Breaks) × IsBroken old order new
 
@@ -322,7 +322,7 @@ Answers Form.Json number came trial old new = (value : Data) × HasObject number
 abbrev pub is_wrong : Came → Bool
 is_wrong (Came.Refused reason) = true
 is_wrong Came.Differs = true
-is_wrong came = false
+is_wrong _ = false
 
 -- a line of a program is answered, which leaves the session so
 pub record IsAnswered (old : Session) (number : ℕ) (line text : List ℕ) (new : Session) : Type 0 where

@@ -2,8 +2,8 @@ ghost use Rattle.std.specs.Prelude.{◌≡◌, IfOk, length};
 
 use crate::counter::{Counter, Line};
 use i3c_explore::{
-    Explored, Limits, Node, Part, Progress, Stop, Turn, Watch, explore, explore_on, explore_part,
-    reach,
+    Explored, Limits, Machine as _, Node, Part, Progress, Stop, Turn, Watch, explore, explore_on,
+    explore_part, reach,
 };
 use std::alloc::{AllocError, Global};
 use std::cell::Cell;
