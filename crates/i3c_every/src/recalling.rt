@@ -16,7 +16,7 @@ use std::hash::{FoldHasher, Hasher};
 use std::marker::Model;
 
 /// How much is kept at most. Then all of it is forgotten.
-const KEPT: usize = 4096;
+const KEPT: usize = 1024;
 
 /// What a program may be told of what it sent where a run was.
 #[derive(Drop)]
